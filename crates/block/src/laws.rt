@@ -1,0 +1,14 @@
+ghost use Rattle.std.specs.Prelude.{◌≡◌, ℕ, List};
+ghost use Rattle.block.specs.declared.block.Block.{Block};
+ghost use Rattle.block.specs.declared.fault.BlockFault.{BlockFault};
+ghost use Rattle.block.specs.Grammar.{Spells};
+ghost use Rattle.block.specs.Faults.{HasFault};
+
+/// Laws of the block grammar, and no work: no two blocks share a spelling, no block has two, no bytes
+/// have two faults, and none have a fault and a block.
+pub fn one_reading()
+    ensures one_block { (bytes : List ℕ) (a b : Block) → Spells bytes a → Spells bytes b → a ≡ b }
+    ensures one_spelling { (x y : List ℕ) (b : Block) → Spells x b → Spells y b → x ≡ y }
+    ensures one_fault { (bytes : List ℕ) (f g : BlockFault) → HasFault bytes f → HasFault bytes g → f ≡ g }
+    ensures block_or_fault { (bytes : List ℕ) (b : Block) (f : BlockFault) → Spells bytes b → HasFault bytes f → ⊥ }
+{}

@@ -1,0 +1,4 @@
+pub mod Defined
+pub mod LineForms
+pub mod Soundness
+mod Worked

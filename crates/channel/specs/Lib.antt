@@ -1,0 +1,4 @@
+pub mod Configuration
+pub mod Lines
+pub mod Sound
+pub mod Text

@@ -1,0 +1,35 @@
+//! Why a channel text was not read.
+
+ghost use Rattle.std.specs.Prelude.{◌≡◌};
+ghost use Rattle.channel.specs.declared.fault.ChannelFault.TheVariants.{Memory};
+
+use std::alloc::AllocError;
+use thiserror::Error;
+
+/// The first line of a channel text that has a fault and, where a line has several, the one that
+/// stands first here; or that no line has one and the channel has no name; or that memory ran out
+/// on the way. Lines count from 1.
+#[derive(Clone, Copy, Debug, PartialEq, Eq, Error)]
+pub enum ChannelFault {
+    /// The line says something, and is neither `channel NAME` nor `chaincode NAME POLICY`.
+    #[error("line {0}: neither `channel NAME` nor `chaincode NAME POLICY`")]
+    Line(u64),
+    /// An earlier line named the channel, or defined the same chaincode.
+    #[error("line {0}: repeats an earlier line's channel or chaincode")]
+    Repeated(u64),
+    /// 256 chaincodes are defined already.
+    #[error("line {0}: more than 256 chaincodes")]
+    TooMany(u64),
+    #[error("no line names the channel")]
+    NoChannel,
+    #[error("out of memory")]
+    Memory,
+}
+
+impl From<AllocError> for ChannelFault {
+    ghost from_gives = { λ _ fault. fault ≡ Memory };
+
+    fn from(_: AllocError) -> ChannelFault {
+        ChannelFault::Memory
+    }
+}

@@ -1,0 +1,5 @@
+pub mod IntegerOctets
+pub mod Pushed
+pub mod MinimalIntegers
+pub mod Worked
+pub mod OneInteger

@@ -1,0 +1,4 @@
+pub mod DataHash
+pub mod Der
+pub mod Hashes
+pub mod Minimal

@@ -1,0 +1,12 @@
+-- An entry of a key book.
+use Rattle.std.specs.Prelude.{ℕ, ◌&&◌, nat_le, Bool, List, length}
+use Rattle.block.specs.declared.identity.Identity.{Identity}
+
+-- an identity and the key it signs with
+pub record Entry : Type 0 where
+  pub identity : Identity
+  pub key : List ℕ
+
+-- 1 to 64 bytes
+abbrev pub is_key : List ℕ → Bool
+is_key key = nat_le 1 (length key) && nat_le (length key) 64

@@ -1,0 +1,4 @@
+pub mod Book
+pub mod BookText
+pub mod Entry
+pub mod Hmac

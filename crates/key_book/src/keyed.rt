@@ -1,0 +1,77 @@
+ghost use Rattle.std.specs.Prelude.{◌≡◌, ◌≤◌, length, IfOk};
+ghost use Rattle.key_book.specs.BookText.{key_of_digits};
+
+use crate::identity_text::read_identity;
+use block::Identity;
+use hex::FromHexError;
+use std::alloc::{AllocError, Global};
+use std::marker::Model;
+use text_lines::first_part;
+use values::Bytes;
+
+// A key has 1 to 64 bytes, of two digits each.
+const MIN_DIGITS: usize = 2;
+
+const MAX_DIGITS: usize = 128;
+
+fn read_key(alloc: Global, digits: &[u8]) -> Result<Option<Bytes>, AllocError>
+    ensures { IfOk result (λ key. key ≡ key_of_digits digits.now) }
+{
+    if digits.len() < MIN_DIGITS || digits.len() > MAX_DIGITS {
+        return Ok(None);
+    }
+    match hex::decode(alloc, digits) {
+        Ok(key) => Ok(Some(Bytes::from_vec(key))),
+        Err(FromHexError::OutOfMemory) => Err(AllocError),
+        Err(_) => Ok(None),
+    }
+}
+
+/// An identity, and the key of 1 to 64 bytes that it signs with.
+#[derive(Debug, Drop)]
+pub struct Keyed {
+    identity: Identity,
+    key: Bytes,
+}
+
+impl Model for Keyed {
+    ghost use Rattle.std.specs.Prelude.{IsTrue};
+    ghost use Rattle.key_book.specs.Entry.{Entry, is_key};
+
+    ghost Value = { Entry };
+
+    ghost view = { λ k. record { identity = k.identity; key = k.key } };
+
+    ghost invariant = { λ k. IsTrue (is_key k.key) };
+}
+
+impl Keyed {
+    ghost use Rattle.key_book.specs.BookText.{entry_of};
+
+    /// The entry that a line `IDENTITY HEXKEY` gives, or `None` where the line has another form.
+    pub fn read(alloc: Global, line: &[u8]) -> Result<Option<Keyed>, AllocError>
+        ensures { IfOk result (λ entry. entry ≡ entry_of line.now) }
+    {
+        let (identity, digits) = first_part(line);
+        let Some(identity) = read_identity(alloc, identity)? else {
+            return Ok(None);
+        };
+        let Some(key) = read_key(alloc, digits)? else {
+            return Ok(None);
+        };
+        Ok(Some(Keyed { identity, key }))
+    }
+
+    pub fn identity(&self) -> &Identity
+        ensures { result.now ≡ self.now.identity }
+    {
+        &self.identity
+    }
+
+    pub fn key(&self) -> &[u8]
+        ensures value { result.now ≡ self.now.key }
+        ensures most { length result.now ≤ 64 }
+    {
+        self.key.as_slice()
+    }
+}

@@ -1,0 +1,80 @@
+-- A world and a string of bytes have one answer, but for want of memory.
+use Rattle.std.proofs.Common.{◌≡◌, ◌≢◌, ℕ, List, Result, Ok, Err, refl, sym, ap, subst, ◌∙◌}
+use Rattle.block.specs.declared.block.Block.{Block}
+use Rattle.block.specs.declared.fault.BlockFault.{BlockFault}
+use Rattle.block.specs.Grammar.{Spells}
+use Rattle.block.specs.Faults.{HasFault}
+use Rattle.channel.specs.Configuration.{Configuration}
+use Rattle.policy_eval.specs.Accepts.{Accepts}
+use Rattle.rules.specs.declared.answer.Accepted.{Accepted}
+use Rattle.rules.specs.declared.answer.Refused.{Refused}
+use Rattle.rules.specs.declared.answer.Refused.TheVariants.{Malformed, WrongNumber, WrongPrevious, WrongDataHash, Memory}
+use Rattle.rules.specs.World.{World}
+use Rattle.rules.specs.Linked.{HasNumber, HasPrevious, HasDataHash, IsLinked, IsRefused}
+use Rattle.rules.specs.Step.{accepted_of, world_after, Step}
+
+-- what the block grammar's laws say
+pub record ReadsOnce : Type 0 where
+  pub one_block : (bytes : List ℕ) (a b : Block) → Spells bytes a → Spells bytes b → a ≡ b
+  pub one_fault : (bytes : List ℕ) (f g : BlockFault) → HasFault bytes f → HasFault bytes g → f ≡ g
+  pub block_or_fault : (bytes : List ℕ) (b : Block) (f : BlockFault) → Spells bytes b → HasFault bytes f → ⊥
+
+module _ (laws : ReadsOnce) (w : World) (bytes : List ℕ) where
+  number_of_both : (a b : Block) → Spells bytes a → Spells bytes b → HasNumber w b → HasNumber w a
+  number_of_both a b s t h = subst (λ (x : Block). HasNumber w x) (laws.one_block bytes b a t s) h
+
+  previous_of_both : (a b : Block) → Spells bytes a → Spells bytes b → HasPrevious w b → HasPrevious w a
+  previous_of_both a b s t h = subst (λ (x : Block). HasPrevious w x) (laws.one_block bytes b a t s) h
+
+  data_hash_of_both : (a b : Block) → Spells bytes a → Spells bytes b → HasDataHash b → HasDataHash a
+  data_hash_of_both a b s t h = subst (λ (x : Block). HasDataHash x) (laws.one_block bytes b a t s) h
+
+  one_refusal : (r s : Refused) → IsRefused w bytes r → IsRefused w bytes s → r ≢ Memory → s ≢ Memory → r ≡ s
+  one_refusal (Malformed f) (Malformed g) x y p q = ap Malformed (laws.one_fault bytes f g x y)
+  one_refusal (Malformed f) (WrongNumber want got) x y p q = absurd (laws.block_or_fault bytes y.0 f y.1 x)
+  one_refusal (Malformed f) WrongPrevious x y p q = absurd (laws.block_or_fault bytes y.0 f y.1 x)
+  one_refusal (Malformed f) WrongDataHash x y p q = absurd (laws.block_or_fault bytes y.0 f y.1 x)
+  one_refusal (WrongNumber want got) (Malformed f) x y p q = absurd (laws.block_or_fault bytes x.0 f x.1 y)
+  one_refusal (WrongNumber want got) (WrongNumber want' got') x y p q =
+      ap (λ (n : ℕ). WrongNumber n got) (x.2.1 ∙ sym y.2.1) ∙ ap (λ (n : ℕ). WrongNumber want' n) (x.2.2 ∙ ap (λ (b : Block). b.header.number) (laws.one_block bytes x.0 y.0 x.1 y.1) ∙ sym y.2.2)
+  one_refusal (WrongNumber want got) WrongPrevious x y p q = absurd (x.2.0 (number_of_both x.0 y.0 x.1 y.1 y.2.0))
+  one_refusal (WrongNumber want got) WrongDataHash x y p q = absurd (x.2.0 (number_of_both x.0 y.0 x.1 y.1 y.2.0))
+  one_refusal WrongPrevious (Malformed f) x y p q = absurd (laws.block_or_fault bytes x.0 f x.1 y)
+  one_refusal WrongPrevious (WrongNumber want got) x y p q = absurd (y.2.0 (number_of_both y.0 x.0 y.1 x.1 x.2.0))
+  one_refusal WrongPrevious WrongPrevious x y p q = refl
+  one_refusal WrongPrevious WrongDataHash x y p q = absurd (x.2.1 (previous_of_both x.0 y.0 x.1 y.1 y.2.1))
+  one_refusal WrongDataHash (Malformed f) x y p q = absurd (laws.block_or_fault bytes x.0 f x.1 y)
+  one_refusal WrongDataHash (WrongNumber want got) x y p q = absurd (y.2.0 (number_of_both y.0 x.0 y.1 x.1 x.2.0))
+  one_refusal WrongDataHash WrongPrevious x y p q = absurd (y.2.1 (previous_of_both y.0 x.0 y.1 x.1 x.2.1))
+  one_refusal WrongDataHash WrongDataHash x y p q = refl
+  one_refusal Memory s x y p q = absurd (p refl)
+  one_refusal (Malformed f) Memory x y p q = absurd (q refl)
+  one_refusal (WrongNumber want got) Memory x y p q = absurd (q refl)
+  one_refusal WrongPrevious Memory x y p q = absurd (q refl)
+  one_refusal WrongDataHash Memory x y p q = absurd (q refl)
+
+  accepted_or_refused : (b : Block) (r : Refused) → Spells bytes b → IsLinked w b → IsRefused w bytes r → r ≢ Memory → ⊥
+  accepted_or_refused b (Malformed f) s l x p = laws.block_or_fault bytes b f s x
+  accepted_or_refused b (WrongNumber want got) s l x p = x.2.0 (number_of_both x.0 b x.1 s l.number)
+  accepted_or_refused b WrongPrevious s l x p = x.2.1 (previous_of_both x.0 b x.1 s l.previous)
+  accepted_or_refused b WrongDataHash s l x p = x.2.2 (data_hash_of_both x.0 b x.1 s l.data_hash)
+  accepted_or_refused b Memory s l x p = p refl
+
+abbrev refused_answer : Refused → Result Accepted Refused
+refused_answer r = Err r
+
+abbrev accepted_answer : Accepted → Result Accepted Refused
+accepted_answer a = Ok a
+
+not_memory : (r : Refused) → refused_answer r ≢ Err Memory → r ≢ Memory
+not_memory r h e = h (ap refused_answer e)
+
+pub one_step_by : ReadsOnce → (channel : Configuration) (accepts : Accepts) (old a b : World) (bytes : List ℕ) (x y : Result Accepted Refused)
+    → Step channel accepts old bytes x a → Step channel accepts old bytes y b → x ≢ Err Memory → y ≢ Err Memory → (x ≡ y) × (a ≡ b)
+one_step_by laws channel accepts old a b bytes (Ok x) (Ok y) s t p q =
+    let same : s.0 ≡ t.0 = laws.one_block bytes s.0 t.0 s.1 t.1 in
+    (ap accepted_answer (s.3 ∙ ap (accepted_of channel accepts old) same ∙ sym t.3), s.4 ∙ ap (world_after channel accepts old bytes) same ∙ sym t.4)
+one_step_by laws channel accepts old a b bytes (Ok x) (Err r) s t p q = absurd (accepted_or_refused laws old bytes s.0 r s.1 s.2 t.0 (not_memory r q))
+one_step_by laws channel accepts old a b bytes (Err r) (Ok y) s t p q = absurd (accepted_or_refused laws old bytes t.0 r t.1 t.2 s.0 (not_memory r p))
+one_step_by laws channel accepts old a b bytes (Err r) (Err r') s t p q =
+    (ap refused_answer (one_refusal laws old bytes r r' s.0 t.0 (not_memory r p) (not_memory r' q)), s.1 ∙ sym t.1)

@@ -1,0 +1,62 @@
+-- Worked rows of the step: blocks 0 and 1 of a chain, and what isn't the next block.
+use Rattle.std.proofs.Common.{◌≡◌, ℕ, List, [], ◌∷◌, ◌++◌, ◌≤◌, length, Ok, Err, refl, arith}
+use Rattle.block.specs.declared.block.Block.{Block}
+use Rattle.block.specs.declared.block.Header.{Header}
+use Rattle.block.specs.declared.block.Previous.{Previous}
+use Rattle.block.specs.declared.block.Previous.TheVariants.{Empty, Hash}
+use Rattle.block.specs.Grammar.{header_bytes, txs_bytes, Spells}
+use Rattle.channel.specs.Configuration.{Configuration}
+use Rattle.header_hash.specs.Hashes.{header_hash_of, data_hash_of}
+use Rattle.policy_eval.specs.Accepts.{Accepts}
+use Rattle.rules.specs.declared.answer.Refused.TheVariants.{WrongNumber, WrongPrevious}
+use Rattle.rules.specs.declared.flag.Flag.TheVariants.{BadPayload}
+use Rattle.rules.specs.World.{World, empty_world}
+use Rattle.rules.specs.Step.{Step}
+
+-- block 0 with the transactions `a` and none, and blocks without any
+abbrev txs_0 : List (List ℕ)
+txs_0 = (97 ∷ []) ∷ [] ∷ []
+
+abbrev block_0 : Block
+block_0 = record { header = record { number = 0; previous = Empty; data_hash = data_hash_of txs_0 }; txs = txs_0 }
+
+abbrev hash_0 : List ℕ
+hash_0 = header_hash_of block_0.header
+
+abbrev empty_block : ℕ → Previous → Block
+empty_block n previous = record { header = record { number = n; previous = previous; data_hash = data_hash_of [] }; txs = [] }
+
+abbrev bytes_of : Block → List ℕ
+bytes_of b = header_bytes b.header ++ txs_bytes (length b.txs) b.txs
+
+-- the world after block 0
+abbrev world_1 : World
+world_1 = record { blocks = record { bytes = bytes_of block_0; header_hash = hash_0; flags = BadPayload ∷ BadPayload ∷ [] } ∷ [] }
+
+-- given that hashes have 32 bytes
+module _ (channel : Configuration) (accepts : Accepts) (data_hash_len : (txs : List (List ℕ)) → length (data_hash_of txs) ≡ 32) (header_hash_len : (h : Header) → length (header_hash_of h) ≡ 32) where
+  spelled_0 : Spells (bytes_of block_0) block_0
+  spelled_0 = record { header = record { number = omega arith; previous = tt; data_hash = data_hash_len txs_0 }; count = omega arith; each = (omega arith, (omega arith, tt)); fields = refl }
+
+  spelled_after_0 : (n : ℕ) → n ≤ 3 → Spells (bytes_of (empty_block n (Hash hash_0))) (empty_block n (Hash hash_0))
+  spelled_after_0 n small = record { header = record { number = omega arith; previous = header_hash_len block_0.header; data_hash = data_hash_len [] }; count = omega arith; each = tt; fields = refl }
+
+  -- accepted, with a flag for each transaction
+  block_0_first : Step channel accepts empty_world (bytes_of block_0) (Ok (record { number = 0; header_hash = hash_0; flags = BadPayload ∷ BadPayload ∷ [] })) world_1
+  block_0_first = (block_0, spelled_0, record { number = refl; previous = refl; data_hash = refl }, refl, refl)
+
+  block_0_again : Step channel accepts world_1 (bytes_of block_0) (Err (WrongNumber 1 0)) world_1
+  block_0_again = ((block_0, spelled_0, ((λ e. absurd (omega arith)), refl, refl)), refl)
+
+  -- the number goes before the previous hash
+  block_2_too_early : Step channel accepts world_1 (bytes_of (empty_block 2 (Hash hash_0))) (Err (WrongNumber 1 2)) world_1
+  block_2_too_early = ((empty_block 2 (Hash hash_0), spelled_after_0 2 (omega arith), ((λ e. absurd (omega arith)), refl, refl)), refl)
+
+  block_1_next : Step channel accepts world_1 (bytes_of (empty_block 1 (Hash hash_0)))
+      (Ok (record { number = 1; header_hash = header_hash_of (empty_block 1 (Hash hash_0)).header; flags = [] }))
+      (record { blocks = world_1.blocks ++ record { bytes = bytes_of (empty_block 1 (Hash hash_0)); header_hash = header_hash_of (empty_block 1 (Hash hash_0)).header; flags = [] } ∷ [] })
+  block_1_next = (empty_block 1 (Hash hash_0), spelled_after_0 1 (omega arith), record { number = refl; previous = refl; data_hash = refl }, refl, refl)
+
+  -- block 0 with a previous hash
+  block_0_with_previous : Step channel accepts empty_world (bytes_of (empty_block 0 (Hash hash_0))) (Err WrongPrevious) empty_world
+  block_0_with_previous = ((empty_block 0 (Hash hash_0), spelled_after_0 0 (omega arith), (refl, (λ e. absurd cc))), refl)

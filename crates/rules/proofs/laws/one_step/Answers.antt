@@ -1,0 +1,8 @@
+use Rattle.rules.proofs.Determined.{ReadsOnce, one_step_by}
+use Rattle.rules.proofs.laws.one_step.Goals as goal
+
+pub returns : goal.returns
+returns c =
+    let read = c.one_reading.ensures in
+    let laws : ReadsOnce = record { one_block = read.one_block; one_fault = read.one_fault; block_or_fault = read.block_or_fault } in
+    one_step_by laws

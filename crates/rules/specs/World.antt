@@ -1,0 +1,29 @@
+-- What a ledger holds.
+use Rattle.std.specs.Prelude.{ℕ, ◌-◌, List, [], length, Option, Some, None, option_map, slice_get}
+use Rattle.block.specs.declared.block.Previous.{Previous}
+use Rattle.block.specs.declared.block.Previous.TheVariants.{Empty, Hash}
+use Rattle.rules.specs.declared.committed.CommittedBlock.{CommittedBlock}
+
+pub record World : Type 0 where
+  -- the accepted blocks in order
+  pub blocks : List CommittedBlock
+
+abbrev pub empty_world : World
+empty_world = record { blocks = [] }
+
+-- the number of accepted blocks
+abbrev pub height_of : World → ℕ
+height_of w = length w.blocks
+
+-- the header hash of the last block, or none at height 0
+abbrev pub last_header_hash : World → Option (List ℕ)
+last_header_hash w = option_map (λ b. b.header_hash) (slice_get w.blocks (length w.blocks - 1))
+
+-- what the next block has as its previous hash
+abbrev pub previous_from : Option (List ℕ) → Previous
+previous_from None = Empty
+previous_from (Some hash) = Hash hash
+
+-- the block of a number
+abbrev pub block_of_number : World → ℕ → Option CommittedBlock
+block_of_number w n = slice_get w.blocks n

@@ -1,0 +1,48 @@
+ghost use Rattle.std.specs.Prelude.{◌≡◌};
+ghost use Rattle.rules.specs.declared.answer.Refused.TheVariants.{Memory};
+
+use crate::flag::Flag;
+use block::BlockFault;
+use std::alloc::AllocError;
+use thiserror::Error;
+use values::Items;
+
+/// What is answered to a block that is accepted.
+#[derive(Debug, Drop)]
+pub struct Accepted {
+    /// The block's number: the height before it.
+    pub number: u64,
+    /// SHA-256 of the header's DER bytes.
+    pub header_hash: [u8; 32],
+    /// One for each transaction, in order.
+    pub flags: Items<Flag>,
+}
+
+/// Why a string of bytes isn't accepted as the next block. The first one in this order is answered,
+/// but want of memory may come in the place of any.
+#[derive(Clone, Copy, Debug, PartialEq, Eq, Error)]
+pub enum Refused {
+    /// The bytes are no block.
+    #[error("no block: {0}")]
+    Malformed(BlockFault),
+    /// The block's number isn't the height.
+    #[error("block {got} where block {want} is next")]
+    WrongNumber { want: u64, got: u64 },
+    /// The previous hash isn't the last header hash, or at block 0 isn't empty.
+    #[error("not the header hash of the block before")]
+    WrongPrevious,
+    /// The data hash isn't that of the transactions.
+    #[error("not the data hash of the transactions")]
+    WrongDataHash,
+    /// A growth was refused before anything changed.
+    #[error("out of memory")]
+    Memory,
+}
+
+impl From<AllocError> for Refused {
+    ghost from_gives = { λ _ e. e ≡ Memory };
+
+    fn from(_e: AllocError) -> Refused {
+        Refused::Memory
+    }
+}

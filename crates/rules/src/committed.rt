@@ -1,0 +1,13 @@
+use crate::flag::Flag;
+use values::{Bytes, Items};
+
+/// An accepted block as a ledger keeps it.
+#[derive(Debug, Drop)]
+pub struct CommittedBlock {
+    /// The bytes that were handed in.
+    pub bytes: Bytes,
+    /// SHA-256 of the header's DER bytes.
+    pub header_hash: [u8; 32],
+    /// One for each transaction, in order.
+    pub flags: Items<Flag>,
+}

@@ -1,0 +1,5 @@
+pub mod Ends
+pub mod HexPairs
+pub mod LineSteps
+pub mod WordSteps
+mod Worked

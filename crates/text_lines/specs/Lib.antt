@@ -1,0 +1,5 @@
+pub mod Lines
+pub mod Spelling
+pub mod Statements
+pub mod Utf8
+pub mod Words
