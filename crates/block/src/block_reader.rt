@@ -144,7 +144,10 @@ fn block_of(alloc: Global, bytes: &[u8]) -> Result<Block, BlockFault>
     Ok(Block { header, txs })
 }
 
-/// The block that the bytes spell. One pass; each transaction is copied once.
+/// The block that the bytes spell, or the fault of the first field from the left that can't be read.
+/// One pass over the bytes. Each transaction is copied once, and nothing else is: the memory is that
+/// of the bytes of the transactions, and a handle for each beside it. No count is believed before
+/// the bytes are there.
 pub fn decode_block(alloc: Global, bytes: &[u8]) -> Result<Block, BlockFault>
     // The bytes spell what is answered, no other block has this spelling, and the block has no other.
     ensures found { IfOk result (λ b. Spells bytes.now b) }

@@ -89,7 +89,8 @@ fn are_within_limits(txs: &[Bytes]) -> bool
     txs.len() <= MAX_TXS && are_short(txs)
 }
 
-/// The bytes that spell the block. Each transaction is copied once.
+/// The bytes that spell the block. Linear in them, in time and memory: a block within its limits has
+/// at most 4,294,983,761 bytes.
 pub fn encode_block(alloc: Global, block: &Block) -> Result<Bytes, EncodeFault>
     ensures spelled { IfOk result (λ bytes. Spells bytes block.now) }
     // A block that has a spelling gets it.

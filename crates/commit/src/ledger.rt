@@ -45,14 +45,18 @@ impl Ledger {
         }
     }
 
+    /// What the ledger holds, in constant time.
     pub fn view(&self) -> &World
         ensures { result.now ≡ self.now.world }
     {
         &self.world
     }
 
-    /// Takes the bytes of the next block: accepts them, or refuses them and changes nothing. Linear
-    /// in the bytes, in time and in the memory that the ledger keeps.
+    /// Takes the bytes of the next block: accepts them, or refuses them and changes nothing.
+    ///
+    /// Linear in the bytes, whatever the height: they are read once, hashed once, and copied twice,
+    /// into the decoded block, which is let go, and into the ledger, which keeps them with a hash and
+    /// a flag for each transaction.
     pub fn submit_one<V: Verify>(&mut self, bytes: &[u8], verifier: &V) -> Result<Accepted, Refused>
         ensures step { Step self.old.channel (V.accepts verifier.now) self.old.world bytes.now result self.new.world }
         ensures channel { self.new.channel ≡ self.old.channel }

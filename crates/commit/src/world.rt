@@ -7,7 +7,8 @@ use std::alloc::{AllocError, Global};
 use std::marker::Model;
 use values::Items;
 
-/// What a ledger holds: its accepted blocks. A contract sees the record of the definitions.
+/// What a ledger holds: its accepted blocks. A contract sees the record of the definitions. Each call
+/// takes constant time.
 #[derive(Debug, Drop)]
 pub struct World {
     blocks: Items<CommittedBlock>,

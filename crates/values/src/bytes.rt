@@ -17,7 +17,7 @@ impl Model for Bytes {
 }
 
 impl Bytes {
-    /// Copies the bytes once.
+    /// Copies the bytes once: linear in their number, in time and memory.
     pub fn from_slice(alloc: Global, bytes: &[u8]) -> Result<Bytes, AllocError>
         ensures { IfOk result (λ b. b ≡ bytes.now) }
     {
@@ -26,7 +26,7 @@ impl Bytes {
         })
     }
 
-    /// Takes the vector over, without memory.
+    /// Takes the vector over.
     pub fn from_vec(bytes: Vec<u8>) -> Bytes
         ensures { result ≡ bytes.items }
     {
@@ -51,7 +51,7 @@ impl Bytes {
         self.bytes.is_empty()
     }
 
-    /// Whether both have the same bytes.
+    /// Whether both have the same bytes. Linear in their number.
     pub fn is_same(&self, other: &Bytes) -> bool
         ensures { result ≡ bytes_eq self.now other.now }
     {

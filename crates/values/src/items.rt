@@ -17,7 +17,7 @@ impl<T> Model for Items<T> {
 }
 
 impl<T> Items<T> {
-    /// No values. Takes no memory.
+    /// No values.
     pub fn new(alloc: Global) -> Items<T>
         ensures { result ≡ [] }
     {
@@ -26,7 +26,7 @@ impl<T> Items<T> {
         }
     }
 
-    /// Takes the vector over, without memory.
+    /// Takes the vector over.
     pub fn from_vec(items: Vec<T>) -> Items<T>
         ensures { result ≡ items.items }
     {
@@ -63,7 +63,8 @@ impl<T> Items<T> {
         self.items.last()
     }
 
-    /// Adds a value at the end. An `Err` changes nothing.
+    /// Adds a value at the end. An `Err` changes nothing. Constant time but for growth, which moves the
+    /// values seldom enough that all pushes together are linear.
     pub fn push(&mut self, value: T) -> Result<(), AllocError>
     where
         T: Drop,
@@ -76,7 +77,7 @@ impl<T> Items<T> {
 }
 
 impl<T: Copy> Items<T> {
-    /// Copies the values once.
+    /// Copies the values once: linear in their number, in time and memory.
     pub fn copy(&self, alloc: Global) -> Result<Items<T>, AllocError>
         ensures { IfOk result (λ copied. copied ≡ self.now) }
     {

@@ -1,4 +1,6 @@
 //! Owned bytes, lists and names, which contracts see as plain lists.
+//!
+//! A call takes constant time and no memory where it says nothing else.
 #![tactic(auto)]
 
 mod bytes;

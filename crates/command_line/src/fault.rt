@@ -1,0 +1,83 @@
+use crate::files::FileFault;
+use crate::status::{FILE_FAULT, MEMORY};
+use channel::ChannelFault;
+use key_book::KeyBookFault;
+use std::alloc::{AllocError, AllocFailed};
+use std::io;
+use thiserror::Error;
+
+/// What ends the program before its work is done. Its text is the line for standard error.
+#[derive(Clone, Copy, Debug, Error)]
+pub enum Fault<'a> {
+    /// The file of this path can't be read.
+    #[error("cannot read {0}")]
+    Unreadable(&'a str),
+    /// This line, from 1, of the text in the file of this path has a fault.
+    #[error("{0} line {1}")]
+    Line(&'a str, u64),
+    /// The channel text in the file of this path names no channel.
+    #[error("{0} no channel")]
+    NoChannel(&'a str),
+    #[error("cannot write standard output")]
+    Output,
+    #[error("out of memory")]
+    Memory,
+}
+
+impl<'a> Fault<'a> {
+    /// What the process ends with.
+    pub fn status(&self) -> u8 {
+        match self {
+            Fault::Memory => MEMORY,
+            _ => FILE_FAULT,
+        }
+    }
+
+    /// The fault of reading the file of this path.
+    pub(crate) fn of_file(path: &'a str, fault: FileFault) -> Fault<'a> {
+        match fault {
+            FileFault::Inaccessible => Fault::Unreadable(path),
+            FileFault::Memory => Fault::Memory,
+        }
+    }
+
+    /// The fault of the channel text in the file of this path.
+    pub(crate) fn of_channel(path: &'a str, fault: ChannelFault) -> Fault<'a> {
+        match fault {
+            ChannelFault::Line(line) | ChannelFault::Repeated(line) | ChannelFault::TooMany(line) =>
+                Fault::Line(path, line),
+            ChannelFault::NoChannel => Fault::NoChannel(path),
+            ChannelFault::Memory => Fault::Memory,
+        }
+    }
+
+    /// The fault of the key book in the file of this path.
+    pub(crate) fn of_key_book(path: &'a str, fault: KeyBookFault) -> Fault<'a> {
+        match fault {
+            KeyBookFault::Line(line) => Fault::Line(path, line),
+            KeyBookFault::Memory => Fault::Memory,
+        }
+    }
+}
+
+/// Of all that is read and written, standard output alone gives its error as it is.
+impl From<io::Error> for Fault<'_> {
+    fn from(error: io::Error) -> Self {
+        match error.kind() {
+            io::ErrorKind::OutOfMemory => Fault::Memory,
+            _ => Fault::Output,
+        }
+    }
+}
+
+impl From<AllocError> for Fault<'_> {
+    fn from(_error: AllocError) -> Self {
+        Fault::Memory
+    }
+}
+
+impl<T: Drop> From<AllocFailed<T>> for Fault<'_> {
+    fn from(_error: AllocFailed<T>) -> Self {
+        Fault::Memory
+    }
+}

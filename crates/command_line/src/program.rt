@@ -1,0 +1,83 @@
+use crate::command::{Run, not_text};
+use crate::fault::Fault;
+use crate::files::Files;
+use crate::intake::run;
+use crate::status::{ACCEPTED, USAGE};
+use clap::error::ErrorKind;
+use std::alloc::Global;
+use std::convert::AsStr;
+use std::io;
+use std::io::Write;
+
+// Help goes to standard output, and what is wrong with the words to standard error.
+fn tell<'a, O: Write, E: Write>(
+    error: &clap::Error,
+    out: &mut O,
+    err: &mut E,
+) -> Result<u8, Fault<'a>> {
+    if error.kind() == ErrorKind::OutOfMemory {
+        return Err(Fault::Memory);
+    }
+    if error.use_stderr() {
+        let _ = write!(err, "{error}");
+        return Ok(USAGE);
+    }
+    write!(out, "{error}")?;
+    out.flush()?;
+    Ok(ACCEPTED)
+}
+
+// A fault gets its line. Nothing is left to tell a failed write of that to.
+fn status_of<E: Write>(ended: Result<u8, Fault<'_>>, err: &mut E) -> u8 {
+    match ended {
+        Ok(status) => status,
+        Err(fault) => {
+            let _ = writeln!(err, "{fault}");
+            fault.status()
+        }
+    }
+}
+
+/// The program `fabcommit` on these words, of which the first is its own name. Returns what the
+/// process is to end with: 0 where every block was accepted and for help, 1 where one was refused,
+/// 2 where the words are no command, 3 where a file or `out` is at fault, and 4 where memory ran
+/// out.
+///
+/// The words are read first, then all files, and then the blocks are handed in one by one. Lines
+/// and help go to `out`, and a fault's line to `err`, where a write that fails changes nothing. The
+/// memory is the files' bytes, what the ledger keeps and what one block takes.
+pub fn program<R: AllocGlobal, S: AsStr, F: Files, O: Write, E: Write>(
+    rt: &R,
+    words: &[S],
+    files: &F,
+    out: &mut O,
+    err: &mut E,
+) -> u8 {
+    let ended = match Run::from_words(rt.alloc(), words) {
+        Ok(asked) => run(rt.alloc(), files, &asked, out),
+        Err(error) => tell(&error, out, err),
+    };
+    status_of(ended, err)
+}
+
+fn tell_not_text<'a, O: Write, E: Write>(
+    alloc: Global,
+    error: &io::Error,
+    out: &mut O,
+    err: &mut E,
+) -> Result<u8, Fault<'a>> {
+    if error.kind() == io::ErrorKind::OutOfMemory {
+        return Err(Fault::Memory);
+    }
+    tell(&not_text(alloc)?, out, err)
+}
+
+/// The program where the process's words can't be had: they aren't all UTF-8, or memory ran out.
+pub(crate) fn without_words<R: AllocGlobal, O: Write, E: Write>(
+    rt: &R,
+    error: &io::Error,
+    out: &mut O,
+    err: &mut E,
+) -> u8 {
+    status_of(tell_not_text(rt.alloc(), error, out, err), err)
+}

@@ -1,0 +1,16 @@
+//! What the process ends with.
+
+/// Every block was accepted, or help was asked for.
+pub(crate) const ACCEPTED: u8 = 0;
+
+/// A block was refused.
+pub(crate) const REFUSED: u8 = 1;
+
+/// The words are no command.
+pub(crate) const USAGE: u8 = 2;
+
+/// A file or standard output is at fault.
+pub(crate) const FILE_FAULT: u8 = 3;
+
+/// Memory ran out.
+pub(crate) const MEMORY: u8 = 4;

@@ -1,0 +1,125 @@
+// The words of the command.
+use super::fixture::{CHANNEL, HASH_0, KEYS, empty_block, ended, expect};
+use crate::program::without_words;
+use std::io;
+use std::io::ErrorKind;
+use std::str::from_utf8;
+use std::test::Fail;
+
+const COMMAND: &str = "Usage: fabcommit <COMMAND>\n";
+
+const RUN: &str = "Usage: fabcommit run --channel <FILE> --keys <FILE> <BLOCK>...\n";
+
+// Words behind the program's name, and two texts that what is said of them has.
+type Row = (&'static [&'static str], &'static str, &'static str);
+
+const MISTAKES: [Row; 8] = [
+    (
+        &[],
+        "'fabcommit' requires a subcommand but one was not provided",
+        COMMAND,
+    ),
+    (&["walk"], "unrecognized subcommand 'walk'", COMMAND),
+    (
+        &["run"],
+        "the following required arguments were not provided:",
+        RUN,
+    ),
+    (&["run", "--keys", "k", "b"], "\n  --channel <FILE>\n", RUN),
+    (&["run", "--channel", "c", "b"], "\n  --keys <FILE>\n", RUN),
+    (
+        &["run", "--channel", "c", "--keys", "k"],
+        "\n  <BLOCK>...\n",
+        RUN,
+    ),
+    (
+        &["run", "--channel", "c", "--keys", "k", "-w", "b"],
+        "unexpected argument '-w' found",
+        RUN,
+    ),
+    (
+        &["run", "--keys", "k", "--keys", "k"],
+        "'--keys <FILE>' cannot be used multiple times",
+        RUN,
+    ),
+];
+
+const HELP: [Row; 4] = [
+    (&["--help"], "\nCommands:\n  run ", COMMAND),
+    (&["help"], "\nCommands:\n  run ", COMMAND),
+    (
+        &["run", "--help"],
+        "\nOptions:\n      --channel <FILE>",
+        RUN,
+    ),
+    (
+        &["run", "--channel", "no such", "-h"],
+        "\n  <BLOCK>...",
+        RUN,
+    ),
+];
+
+#[test]
+fn mistakes(rt: HostRuntime) -> Result<(), Fail> {
+    for (words, text, usage) in &MISTAKES {
+        let (status, out, err) = ended(&rt, &[], words)?;
+        assert!(rt; err.as_str().starts_with("error: "), "for {words:?}: {err}");
+        assert!(rt; err.as_str().contains(*text), "for {words:?}: {err}");
+        assert!(rt; err.as_str().contains(*usage), "for {words:?}: {err}");
+        assert_eq!(rt; (status, out.as_str()), (2, ""), "for {words:?}");
+    }
+    Ok(())
+}
+
+#[test]
+fn help(rt: HostRuntime) -> Result<(), Fail> {
+    for (words, text, usage) in &HELP {
+        let (status, out, err) = ended(&rt, &[], words)?;
+        assert!(rt; out.as_str().contains(*text), "for {words:?}: {out}");
+        assert!(rt; out.as_str().contains(*usage), "for {words:?}: {out}");
+        assert_eq!(rt; (status, err.as_str()), (0, ""), "for {words:?}");
+    }
+    Ok(())
+}
+
+#[test]
+fn options_between_and_behind_blocks(rt: HostRuntime) -> Result<(), Fail> {
+    let block = empty_block(rt.alloc(), 0, b"")?;
+    let files = [
+        ("c", CHANNEL),
+        ("k", KEYS),
+        ("b", block.as_slice()),
+        ("-x", b"".as_slice()),
+    ];
+    let lines = format!(in rt.alloc(); "accepted 0 {HASH_0}\nrefused 2 C1 B1\n")?;
+    let rows: [&[&str]; 3] = [
+        &["run", "b", "--channel", "c", "--keys=k", "--", "-x"],
+        &["run", "--keys", "k", "--channel=c", "--", "b", "-x"],
+        &["run", "b", "--keys", "k", "c", "--channel", "c"],
+    ];
+    for words in rows {
+        expect(&rt, &files, words, 1, lines.as_str(), "")?;
+    }
+    Ok(())
+}
+
+#[test]
+fn no_words(rt: HostRuntime) -> Result<(), Fail> {
+    let rows = [
+        (
+            ErrorKind::InvalidData,
+            2,
+            "error: invalid UTF-8 was detected in one or more arguments\n",
+        ),
+        (ErrorKind::OutOfMemory, 4, "out of memory\n"),
+    ];
+    for (kind, want, text) in rows {
+        let (mut out, mut err) = (Vec::new(rt.alloc()), Vec::new(rt.alloc()));
+        let error = io::Error::from(kind);
+        let status = without_words(&rt, &error, &mut out, &mut err);
+        let err = from_utf8(&err)?;
+        assert!(rt; err.starts_with(text), "{err}");
+        assert_eq!(rt; (status, out.len()), (want, 0));
+    }
+    Ok(())
+}
