@@ -17,7 +17,7 @@ import time
 TOP = pathlib.Path(__file__).resolve().parent.parent
 RUNS = 5
 
-# Reads the files that it is given, and prints the milliseconds that hashing them once takes.
+# Reads the files that it is given, and prints the microseconds that hashing them once takes.
 HASHER = r"""
 #![tactic(auto)]
 
@@ -26,16 +26,16 @@ use std::time::Instant;
 use std::{env, fs};
 
 fn main(rt: HostRuntime) -> anyhow::Result<()> {
-    let mut millis = 0u128;
+    let mut micros = 0u128;
     for path in env::args(&rt)?.skip(1) {
         let bytes = fs::read(&rt, path.as_str())?;
         let start = Instant::now(&rt)?;
         let digest = Sha256::digest(bytes.as_slice());
-        millis = millis.wrapping_add(start.elapsed(&rt)?.as_millis());
+        micros = micros.wrapping_add(start.elapsed(&rt)?.as_micros());
         let first = digest[0];
         eprintln!(rt; "{first}")?;
     }
-    println!(rt; "{millis}")?;
+    println!(rt; "{micros}")?;
     Ok(())
 }
 """
@@ -116,7 +116,7 @@ def main():
             blocks.mkdir()
             paths = make_blocks(blocks, sizes)
             total = sum(os.path.getsize(path) for path in paths) / 1e6
-            hashing = min(int(timed([hasher] + paths)[1].stdout) for _ in range(RUNS))
+            hashing = min(int(timed([hasher] + paths)[1].stdout) for _ in range(RUNS)) / 1000
             walls = []
             for _ in range(RUNS):
                 wall, done = timed(fabcommit + paths)
@@ -124,7 +124,7 @@ def main():
                     sys.exit(f"the run failed: {done.stdout[:300]}{done.stderr[:300]}")
                 walls.append(wall)
             peak = peak_of(fabcommit + paths)
-            print(f"{title}: {total:.0f} MB, hashing {hashing} ms, fabcommit {min(walls) * 1000:.0f} ms, "
+            print(f"{title}: {total:.0f} MB, hashing {hashing:.0f} ms, fabcommit {min(walls) * 1000:.0f} ms, "
                   f"ratio {min(walls) * 1000 / hashing:.2f}, peak {peak:.0f} MB")
             for path in paths:
                 os.remove(path)

@@ -6,11 +6,11 @@ use Rattle.block.specs.declared.block.Block.{Block}
 use Rattle.block.specs.Grammar.{header_bytes, txs_bytes, IsHeader, IsTx, Spells}
 use Rattle.block.specs.Limits.{is_short, are_within_limits}
 
-and_left : (a b : Bool) → (a && b) ≡ true → a ≡ true
+pub and_left : (a b : Bool) → (a && b) ≡ true → a ≡ true
 and_left true b h = refl
 and_left false b h = h
 
-and_right : (a b : Bool) → (a && b) ≡ true → b ≡ true
+pub and_right : (a b : Bool) → (a && b) ≡ true → b ≡ true
 and_right true b h = h
 and_right false b h = absurd cc
 

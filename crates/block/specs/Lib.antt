@@ -1,4 +1,9 @@
+pub mod BodyFields
+pub mod Combined
 pub mod Grammar
 pub mod Faults
 pub mod Limits
+pub mod Putting
 pub mod Reading
+pub mod TxGrammar
+pub mod TxReading

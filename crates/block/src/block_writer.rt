@@ -1,6 +1,5 @@
 ghost use Rattle.std.specs.Prelude.{◌≡◌, ℕ, ◌^◌, ◌<◌, List, ◌++◌, length, IfOk, OnOk, Ok, Err, true};
 ghost use Rattle.std.specs.List.{list_all};
-ghost use Rattle.byteorder.specs.Endian.{big_bytes};
 ghost use Rattle.values.specs.Memory.{GivesUnless};
 ghost use Rattle.block.specs.declared.fault.EncodeFault.TheVariants.{TooLarge, Memory};
 ghost use Rattle.block.specs.Grammar.{previous_bytes, header_bytes, tx_bytes, txs_bytes, IsPrevious, IsHeader, Spells};
@@ -8,25 +7,9 @@ ghost use Rattle.block.specs.Limits.{is_short, are_within_limits};
 
 use crate::block::{Block, HASH_BYTES, Header, MAGIC, MAX_TX_BYTES, MAX_TXS, Previous};
 use crate::fault::EncodeFault;
-use byteorder::{BigEndian, ByteOrder};
+use crate::put::{put_u32, put_u64};
 use std::alloc::{AllocError, Global};
 use values::Bytes;
-
-fn put_u32(out: &mut Vec<u8>, n: u32) -> Result<(), AllocError>
-    ensures { OnOk result (out.new.items ≡ out.old.items ++ big_bytes 4 n) }
-{
-    let mut bytes = [0; 4];
-    BigEndian::write_u32(&mut bytes, n);
-    out.extend_from_slice(&bytes)
-}
-
-fn put_u64(out: &mut Vec<u8>, n: u64) -> Result<(), AllocError>
-    ensures { OnOk result (out.new.items ≡ out.old.items ++ big_bytes 8 n) }
-{
-    let mut bytes = [0; 8];
-    BigEndian::write_u64(&mut bytes, n);
-    out.extend_from_slice(&bytes)
-}
 
 fn put_previous(out: &mut Vec<u8>, previous: &Previous) -> Result<(), AllocError>
     ensures bytes { OnOk result (out.new.items ≡ out.old.items ++ previous_bytes previous.now) }

@@ -1,2 +1,3 @@
+pub mod Key
 pub mod Memory
 pub mod Name

@@ -5,8 +5,10 @@
 
 mod bytes;
 mod items;
+mod key;
 mod name;
 
 pub use bytes::Bytes;
 pub use items::Items;
+pub use key::{Bound, Key, MAX_KEY, is_bound, is_key};
 pub use name::{Name, is_name};

@@ -1,0 +1,22 @@
+ghost use Rattle.std.specs.Prelude.{◌≡◌};
+ghost use Rattle.block.specs.declared.tx_fault.TxFault.TheVariants.{Memory};
+
+use std::alloc::AllocError;
+use thiserror::Error;
+
+/// Why bytes are no transaction or no identity.
+#[derive(Clone, Copy, Debug, PartialEq, Eq, Error)]
+pub enum TxFault {
+    #[error("the bytes have another form")]
+    Form,
+    #[error("out of memory")]
+    Memory,
+}
+
+impl From<AllocError> for TxFault {
+    ghost from_gives = { λ _ e. e ≡ Memory };
+
+    fn from(_e: AllocError) -> TxFault {
+        TxFault::Memory
+    }
+}

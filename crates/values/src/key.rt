@@ -1,0 +1,90 @@
+ghost use Rattle.std.specs.Prelude.{◌≡◌, List, ℕ, IsTrue, IfOk};
+ghost use Rattle.values.specs.Key.{is_key, is_bound};
+
+use std::alloc::{AllocError, Global};
+use std::marker::Model;
+
+/// The most bytes that a key has, and a bound of a range.
+pub const MAX_KEY: usize = 1024;
+
+/// Whether the bytes are a key: 1 to 1,024 of any value.
+pub fn is_key(bytes: &[u8]) -> bool
+    ensures { result ≡ is_key bytes.now }
+{
+    let len = bytes.len();
+    1 <= len && len <= MAX_KEY
+}
+
+/// Whether the bytes are a bound: up to 1,024 of any value.
+pub fn is_bound(bytes: &[u8]) -> bool
+    ensures { result ≡ is_bound bytes.now }
+{
+    bytes.len() <= MAX_KEY
+}
+
+/// The key of a row in its namespace. A contract sees the list of its bytes.
+#[derive(Debug, Drop)]
+pub struct Key {
+    bytes: Vec<u8>,
+}
+
+impl Model for Key {
+    ghost Value = { List ℕ };
+
+    ghost view = { λ k. k.bytes.items };
+
+    ghost invariant = { λ k. IsTrue (is_key k.bytes.items) };
+}
+
+impl Key {
+    /// Copies the bytes once.
+    pub fn from_slice(alloc: Global, bytes: &[u8]) -> Result<Key, AllocError>
+        requires { IsTrue (is_key bytes.now) }
+        ensures { IfOk result (λ key. key ≡ bytes.now) }
+    {
+        Ok(Key {
+            bytes: Vec::from_slice(alloc, bytes)?,
+        })
+    }
+
+    pub fn as_slice(&self) -> &[u8]
+        ensures value { result.now ≡ self.now }
+        ensures key { IsTrue (is_key result.now) }
+    {
+        self.bytes.as_slice()
+    }
+}
+
+/// Where a range of keys begins or ends; empty where it is unbounded. A contract sees the list of its
+/// bytes.
+#[derive(Debug, Drop)]
+pub struct Bound {
+    bytes: Vec<u8>,
+}
+
+impl Model for Bound {
+    ghost Value = { List ℕ };
+
+    ghost view = { λ b. b.bytes.items };
+
+    ghost invariant = { λ b. IsTrue (is_bound b.bytes.items) };
+}
+
+impl Bound {
+    /// Copies the bytes once.
+    pub fn from_slice(alloc: Global, bytes: &[u8]) -> Result<Bound, AllocError>
+        requires { IsTrue (is_bound bytes.now) }
+        ensures { IfOk result (λ bound. bound ≡ bytes.now) }
+    {
+        Ok(Bound {
+            bytes: Vec::from_slice(alloc, bytes)?,
+        })
+    }
+
+    pub fn as_slice(&self) -> &[u8]
+        ensures value { result.now ≡ self.now }
+        ensures bound { IsTrue (is_bound result.now) }
+    {
+        self.bytes.as_slice()
+    }
+}
