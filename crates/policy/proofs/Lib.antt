@@ -1,0 +1,14 @@
+pub mod Ascii
+pub mod Runs
+pub mod Words
+pub mod Quotes
+pub mod Tokens
+pub mod Spaces
+pub mod Loop
+pub mod Complete
+pub mod Sound
+pub mod Faults
+pub mod Readings
+pub mod Writing
+pub mod Canon
+pub mod Names

@@ -1,0 +1,14 @@
+pub mod Tree
+pub mod View
+pub mod Falls
+pub mod Token
+pub mod Grammar
+pub mod Fault
+pub mod Kind
+pub mod Text
+pub mod Spelled
+pub mod Lexing
+pub mod Reading
+pub mod Outcome
+pub mod Written
+pub mod Policies
