@@ -14,8 +14,7 @@ import sys
 import tempfile
 import time
 
-TOP = pathlib.Path(__file__).resolve().parent.parent
-RUNS = 5
+from scratch import RUNS, TOP, build
 
 # Reads the files that it is given, and prints the microseconds that hashing them once takes.
 HASHER = r"""
@@ -65,22 +64,6 @@ def make_blocks(folder, sizes):
     return paths
 
 
-def build_hasher(folder):
-    """The baseline, as a crate of a scratch repository."""
-    source = folder / "crates" / "hasher" / "src"
-    source.mkdir(parents=True)
-    (source / "main.rt").write_text(HASHER.lstrip())
-    for name in ("specs", "proofs"):
-        (source.parent / name).mkdir()
-        (source.parent / name / "Lib.antt").write_text("")
-    (folder / "crates.txt").write_text("hasher: sha2 anyhow\n")
-    built = subprocess.run(["rt", "run"], cwd=source.parent, capture_output=True, text=True, check=False)
-    program = source.parent / "out" / "hasher"
-    if not program.exists():
-        sys.exit(f"the baseline did not build:\n{built.stdout}{built.stderr}")
-    return str(program)
-
-
 def timed(words):
     start = time.monotonic()
     done = subprocess.run(words, capture_output=True, text=True, check=False)
@@ -103,7 +86,7 @@ def main():
     with tempfile.TemporaryDirectory() as name:
         folder = pathlib.Path(name)
         os.environ["PEAK_FILE"] = str(folder / "peak")
-        hasher = build_hasher(folder / "hasher")
+        hasher = build(folder / "hasher", "hasher", HASHER, own=[], kit=["sha2", "anyhow"])
         sample = TOP / "sample"
         fabcommit = [str(TOP / "fabcommit"), "run", "--channel", str(sample / "channel.txt"), "--keys", str(sample / "keys.txt")]
         subprocess.run(fabcommit + [str(sample / "block0.blk")], capture_output=True, check=True)

@@ -1,11 +1,9 @@
 -- The signed part is the front of a transaction's bytes, all but the creator's signature.
-use Rattle.std.proofs.Common.{◌≡◌, ℕ, ◌+◌, ◌-◌, ◌≤◌, List, ◌++◌, length, take, sym, ap, ◌∙◌, arith}
-use Rattle.std.proofs.lemmas.List.{take_at, length-append, length-take}
+use Rattle.std.proofs.Common.{◌≡◌, ℕ, ◌+◌, ◌-◌, List, ◌++◌, length, take, ap, ◌∙◌, arith}
+use Rattle.std.proofs.lemmas.List.{take_at, length-append}
 use Rattle.byteorder.specs.Endian.{big_bytes}
-use Rattle.byteorder.specs.Numbers.{length-bytes_high_first}
-use Rattle.block.specs.declared.block.TheConstants.{MAX_TX_BYTES}
 use Rattle.block.specs.declared.transaction.Tx.{Tx}
-use Rattle.block.specs.TxGrammar.{counted, signed_bytes, whole_bytes, SpellsTx, SpellsSigned}
+use Rattle.block.specs.TxGrammar.{counted, signed_bytes, SpellsTx, SpellsSigned}
 
 whole_length : (front signature : List ℕ) → length (front ++ counted 2 signature) ≡ length front + (2 + length signature)
 whole_length front signature =

@@ -1,26 +1,17 @@
 -- What is read of an identity or a transaction is what was spelled, and what was spelled is read again.
-use Rattle.std.proofs.Common.{◌≡◌, ℕ, ◌+◌, ◌*◌, ◌^◌, ◌<◌, ◌≤◌, Bool, true, false, cond, eqb, leb, List, [], ◌∷◌, ◌++◌, length, Option, Some, None, refl, sym, ap, subst, ◌∙◌, append_assoc, arith, inl, inr}
+use Rattle.std.proofs.Common.{◌≡◌, ℕ, ◌^◌, ◌<◌, ◌≤◌, Bool, true, false, cond, eqb, List, [], ◌++◌, length, Option, Some, None, refl, sym, subst, append_assoc, arith}
 use Rattle.std.specs.Prelude.{IfSome, IsTrue, nat_le, ◌&&◌}
-use Rattle.std.specs.List.{flat_map, AllByRecursion, list_all}
-use Rattle.std.proofs.lemmas.Bool.{leb-true, le-leb, eqb-true}
-use Rattle.byteorder.specs.Endian.{big_bytes}
+use Rattle.std.specs.List.{AllByRecursion, list_all}
+use Rattle.std.proofs.lemmas.Bool.{leb-true, eqb-true}
 use Rattle.values.specs.Name.{is_name, is_name_byte}
 use Rattle.values.specs.Key.{is_key, is_bound}
-use Rattle.block.specs.declared.identity.Identity.{Identity}
 use Rattle.block.specs.declared.identity.Role.{Role}
 use Rattle.block.specs.declared.identity.Role.TheVariants.{Admin, Client, Peer, Orderer}
-use Rattle.block.specs.declared.transaction.Version.{Version}
-use Rattle.block.specs.declared.transaction.Read.{Read as ReadOfKey}
-use Rattle.block.specs.declared.transaction.KeyVersion.{KeyVersion}
-use Rattle.block.specs.declared.transaction.Range.{Range}
-use Rattle.block.specs.declared.transaction.Write.{Write}
-use Rattle.block.specs.declared.transaction.PolicyWrite.{PolicyWrite}
-use Rattle.block.specs.declared.transaction.NsSet.{NsSet}
 use Rattle.block.specs.declared.transaction.Endorsement.{Endorsement}
 use Rattle.block.specs.declared.transaction.Tx.{Tx}
 use Rattle.block.specs.declared.transaction.TheConstants.{ID_BYTES, MAX_ENDORSEMENTS}
-use Rattle.block.specs.Combined.{Reader, bytes_at, number_at, counted_at, tested_at, pair_at, mapped_at, byte_at, optional_at, listed_at, few_at}
-use Rattle.block.specs.TxGrammar.{counted, listed, optional, flag_byte, role_byte, identity_bytes, version_bytes, read_bytes, result_bytes, range_bytes, write_bytes, policy_write_bytes, namespace_bytes, endorsement_bytes, body_bytes, signed_bytes, whole_bytes, IsIdentity, IsVersion, IsRead, IsResult, AreItems, IsRange, IsWrite, IsPolicyWrite, IsNsSet, IsEndorsement, IsBody, IsSigned, IsWhole}
+use Rattle.block.specs.Combined.{Reader, counted_at, tested_at, pair_at, mapped_at, optional_at, listed_at, few_at}
+use Rattle.block.specs.TxGrammar.{counted, listed, optional, flag_byte, role_byte, identity_bytes, version_bytes, read_bytes, result_bytes, range_bytes, write_bytes, policy_write_bytes, namespace_bytes, endorsement_bytes, body_bytes, whole_bytes, IsIdentity, IsVersion, IsRead, IsResult, AreItems, IsRange, IsWrite, IsPolicyWrite, IsNsSet, IsEndorsement, IsBody, IsWhole}
 use Rattle.block.specs.TxReading.{flag_of, role_of, name_at, key_at, bound_at, identity_at, version_at, read_at, result_at, range_at, write_at, policy_write_at, namespace_at, endorsement_at, Body, body_at, tx_from, tx_at}
 use Rattle.block.proofs.Fields.{wide4, wide8}
 use Rattle.block.proofs.FieldLaws.{IsField, wide1, wide2, bytes_field, number_field, counted_field, tested_field, mapped_field, optional_field, listed_field, few_field, pair_field, byte_field, said_field, respelled_field}

@@ -1,9 +1,9 @@
 -- Worked rows of the grammar of identities and transactions.
-use Rattle.std.proofs.Common.{◌≡◌, ℕ, List, [], ◌∷◌, ◌++◌, length, replicate, true, Some, None, refl, arith}
+use Rattle.std.proofs.Common.{◌≡◌, ℕ, List, [], ◌∷◌, ◌++◌, length, replicate, Some, refl, arith}
 use Rattle.block.specs.declared.identity.Identity.{Identity}
 use Rattle.block.specs.declared.identity.Role.TheVariants.{Client, Peer}
 use Rattle.block.specs.declared.transaction.Tx.{Tx}
-use Rattle.block.specs.TxGrammar.{body_bytes, signed_bytes, whole_bytes, SpellsIdentity, SpellsBody, SpellsSigned, SpellsTx}
+use Rattle.block.specs.TxGrammar.{body_bytes, signed_bytes, whole_bytes, SpellsIdentity}
 
 -- `Org1:peer:p0`
 abbrev peer_0 : Identity

@@ -1,5 +1,5 @@
 -- Reading identities and transactions from left to right. No public contract cites this.
-use Rattle.std.specs.Prelude.{◌≡◌, ℕ, ◌^◌, ◌==◌, nat_le, Bool, true, false, List, [], length, if◌then◌else◌, Option, Some, None, option_map, Result, Ok, Err}
+use Rattle.std.specs.Prelude.{◌≡◌, ℕ, ◌==◌, nat_le, Bool, true, false, List, length, if◌then◌else◌, Option, Some, None, Result, Ok, Err}
 use Rattle.values.specs.Name.{is_name}
 use Rattle.values.specs.Key.{is_key, is_bound}
 use Rattle.block.specs.declared.block.TheConstants.{MAX_TX_BYTES}

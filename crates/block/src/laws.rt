@@ -1,8 +1,11 @@
-ghost use Rattle.std.specs.Prelude.{◌≡◌, ℕ, List};
+ghost use Rattle.std.specs.Prelude.{◌≡◌, ◌<◌, ◌↔◌, ℕ, List, Some, slice_index};
 ghost use Rattle.block.specs.declared.block.Block.{Block};
 ghost use Rattle.block.specs.declared.fault.BlockFault.{BlockFault};
 ghost use Rattle.block.specs.Grammar.{Spells};
 ghost use Rattle.block.specs.Faults.{HasFault};
+ghost use Rattle.block.specs.declared.transaction.Tx.{Tx};
+ghost use Rattle.block.specs.TxGrammar.{SpellsTx};
+ghost use Rattle.block.specs.Decoded.{tx_of};
 
 /// Laws of the block grammar, and no work: no two blocks share a spelling, no block has two, no bytes
 /// have two faults, and none have a fault and a block.
@@ -11,4 +14,10 @@ pub fn one_reading()
     ensures one_spelling { (x y : List ℕ) (b : Block) → Spells x b → Spells y b → x ≡ y }
     ensures one_fault { (bytes : List ℕ) (f g : BlockFault) → HasFault bytes f → HasFault bytes g → f ≡ g }
     ensures block_or_fault { (bytes : List ℕ) (b : Block) (f : BlockFault) → Spells bytes b → HasFault bytes f → ⊥ }
+{}
+
+/// A law of the transaction grammar, and no work: what `tx_of` gives for bytes is the transaction that they
+/// spell, and none where they spell none.
+pub fn transaction_reading()
+    ensures { (bytes : List ℕ) (tx : Tx) → ((i : ℕ) → slice_index bytes i < 256) → (tx_of bytes ≡ Some tx) ↔ SpellsTx bytes tx }
 {}

@@ -20,7 +20,7 @@ pub use block_reader::decode_block;
 pub use block_writer::encode_block;
 pub use fault::{BlockFault, EncodeFault};
 pub use identity::{Identity, Role};
-pub use laws::one_reading;
+pub use laws::{one_reading, transaction_reading};
 pub use signed_part::creator_message;
 pub use transaction::{
     Endorsement, ID_BYTES, KeyVersion, MAX_ENDORSEMENTS, NsSet, PolicyWrite, Range, Read, Tx,
@@ -28,7 +28,7 @@ pub use transaction::{
 };
 pub use tx_fault::TxFault;
 pub use tx_reader::{decode_identity, decode_tx};
-pub use tx_writer::{encode_body, encode_identity, encode_signed, encode_tx};
+pub use tx_writer::{append_identity, encode_body, encode_identity, encode_signed, encode_tx};
 
 #[cfg(test)]
 mod tests;

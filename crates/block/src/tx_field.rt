@@ -1,11 +1,11 @@
-ghost use Rattle.std.specs.Prelude.{◌≡◌, ℕ, List, Option, length};
+ghost use Rattle.std.specs.Prelude.{◌≡◌, ℕ, List, [], Option, IfOk, length};
 ghost use Rattle.values.specs.Name.{is_name};
 ghost use Rattle.block.specs.Combined.{bytes_at, number_at, counted_at, fields_at, listed_at};
 ghost use Rattle.block.specs.TxReading.{Gives, name_at, key_at, bound_at};
 
 use crate::tx_fault::TxFault;
 use byteorder::{BigEndian, ByteOrder};
-use std::alloc::Global;
+use std::alloc::{AllocError, Global};
 use values::{Bound, Bytes, Items, Key, Name, is_bound, is_key, is_name};
 
 pub(crate) fn bytes_of(n: usize, bytes: &[u8]) -> Result<(&[u8], &[u8]), TxFault>
@@ -130,10 +130,22 @@ pub(crate) fn bound_of(alloc: Global, bytes: &[u8]) -> Result<(Bound, &[u8]), Tx
 
 /// A field that lists are made of.
 pub(crate) trait Field: Drop {
+    /// The bytes of the shortest.
+    const LEAST_BYTES: usize;
+
     ghost read_at: { List ℕ → Option (Self × List ℕ) };
 
     fn read(alloc: Global, bytes: &[u8]) -> Result<(Self, &[u8]), TxFault>
         ensures { Gives (λ x. (x.0, x.1.now)) result (read_at bytes.now) };
+}
+
+// No items yet, and room for so many, but for no more than the bytes can spell.
+fn room_for<T: Field>(alloc: Global, count: u16, bytes: &[u8]) -> Result<Items<T>, AllocError>
+    ensures { IfOk result (λ items. items ≡ []) }
+{
+    let most = bytes.len() / T::LEAST_BYTES.max(1);
+    let room = Vec::with_capacity(alloc, most.min(count as usize))?;
+    Ok(Items::from_vec(room))
 }
 
 pub(crate) fn fields_of<T: Field>(
@@ -143,7 +155,7 @@ pub(crate) fn fields_of<T: Field>(
 ) -> Result<(Items<T>, &[u8]), TxFault>
     ensures { Gives (λ x. (x.0, x.1.now)) result (fields_at T.read_at count bytes.now) }
 {
-    let mut items = Items::new(alloc);
+    let mut items = room_for(alloc, count, bytes)?;
     let mut rest = bytes;
     for _ in 0..count {
         let (item, after) = T::read(alloc, rest)?;

@@ -1,10 +1,11 @@
-ghost use Rattle.std.specs.Prelude.{◌≡◌, ℕ, List, Option, IfOk, Ok, Err};
+ghost use Rattle.std.specs.Prelude.{◌≡◌, ℕ, List, Option, Some, None, IfOk, Ok, Err};
 ghost use Rattle.values.specs.Memory.{GivesUnless};
 ghost use Rattle.block.specs.declared.identity.Identity.{Identity};
 ghost use Rattle.block.specs.declared.transaction.Tx.{Tx};
 ghost use Rattle.block.specs.declared.tx_fault.TxFault.TheVariants.{Form, Memory};
 ghost use Rattle.block.specs.TxGrammar.{SpellsIdentity, SpellsTx};
 ghost use Rattle.block.specs.BodyFields.{body_fields};
+ghost use Rattle.block.specs.Decoded.{tx_of};
 ghost use Rattle.block.specs.Combined.{bytes_at, byte_at, optional_at, counted_at, few_at};
 ghost use Rattle.block.specs.TxReading.{Gives, role_of, flag_of, identity_at, version_at, read_at, result_at, range_at, write_at, policy_write_at, namespace_at, endorsement_at, body_at, tx_at, all_at, whole_tx_at};
 
@@ -103,6 +104,8 @@ fn optional_bytes16_of(alloc: Global, bytes: &[u8]) -> Result<(Option<Bytes>, &[
 }
 
 impl Field for Read {
+    const LEAST_BYTES: usize = 4;
+
     ghost read_at = { λ bytes. read_at bytes };
 
     #[tactic(auto, unfolding(crate::specs::TxReading::read_at))]
@@ -114,6 +117,8 @@ impl Field for Read {
 }
 
 impl Field for KeyVersion {
+    const LEAST_BYTES: usize = 15;
+
     ghost read_at = { λ bytes. result_at bytes };
 
     #[tactic(auto, unfolding(crate::specs::TxReading::result_at))]
@@ -125,6 +130,8 @@ impl Field for KeyVersion {
 }
 
 impl Field for Range {
+    const LEAST_BYTES: usize = 7;
+
     ghost read_at = { λ bytes. range_at bytes };
 
     #[tactic(auto, unfolding(crate::specs::TxReading::range_at))]
@@ -144,6 +151,8 @@ impl Field for Range {
 }
 
 impl Field for Write {
+    const LEAST_BYTES: usize = 4;
+
     ghost read_at = { λ bytes. write_at bytes };
 
     #[tactic(auto, unfolding(crate::specs::TxReading::write_at))]
@@ -155,6 +164,8 @@ impl Field for Write {
 }
 
 impl Field for PolicyWrite {
+    const LEAST_BYTES: usize = 4;
+
     ghost read_at = { λ bytes. policy_write_at bytes };
 
     #[tactic(auto, unfolding(crate::specs::TxReading::policy_write_at))]
@@ -166,6 +177,8 @@ impl Field for PolicyWrite {
 }
 
 impl Field for NsSet {
+    const LEAST_BYTES: usize = 10;
+
     ghost read_at = { λ bytes. namespace_at bytes };
 
     #[tactic(auto, unfolding(crate::specs::TxReading::namespace_at))]
@@ -187,6 +200,8 @@ impl Field for NsSet {
 }
 
 impl Field for Endorsement {
+    const LEAST_BYTES: usize = 6;
+
     ghost read_at = { λ bytes. endorsement_at bytes };
 
     #[tactic(auto, unfolding(crate::specs::TxReading::endorsement_at))]
@@ -322,6 +337,11 @@ pub fn decode_identity(alloc: Global, bytes: &[u8]) -> Result<Identity, TxFault>
 
 /// The transaction that the bytes spell, all of the bytes. One pass; each field is copied once, and
 /// no count or length is believed before the bytes are there.
+///
+/// Allocations hold at most 15 bytes for each byte of a transaction, and at most 27 for each byte of
+/// what is refused, beside what the heap adds to each. A list gets its room once, for no more items
+/// than the bytes behind its count can spell: 14 bytes for one of writes (56 for an item of 4), where
+/// its keys are copied beside it, and 12 for one of namespaces, which may promise more than is there.
 pub fn decode_tx(alloc: Global, bytes: &[u8]) -> Result<Tx, TxFault>
     // The bytes spell what is answered, no other transaction has this spelling, and it has no other.
     ensures found { IfOk result (λ tx. SpellsTx bytes.now tx) }
@@ -330,6 +350,9 @@ pub fn decode_tx(alloc: Global, bytes: &[u8]) -> Result<Tx, TxFault>
     // A transaction that is spelled is answered, and Form only where none is.
     ensures spelled { (tx : Tx) → SpellsTx bytes.now tx → GivesUnless Memory result (Ok tx) }
     ensures form { result ≡ Err Form → (tx : Tx) → ¬ SpellsTx bytes.now tx }
+    // The same, said of the function that the rules of validation name.
+    ensures reading { IfOk result (λ tx. tx_of bytes.now ≡ Some tx) }
+    ensures no_reading { result ≡ Err Form → tx_of bytes.now ≡ None }
 {
     whole_tx_of(alloc, bytes)
 }

@@ -263,8 +263,16 @@ pub fn encode_identity(alloc: Global, identity: &Identity) -> Result<Bytes, Enco
     Ok(Bytes::from_vec(bytes))
 }
 
+/// Writes the identity's bytes at the end; an `Err` may leave some of them there.
+pub fn append_identity(out: &mut Vec<u8>, identity: &Identity) -> Result<(), EncodeFault>
+    ensures ok { OnOk result (out.new.items ≡ out.old.items ++ identity_bytes identity.now) }
+    ensures too_large { result ≡ Err TooLarge → ¬ IsIdentity identity.now }
+{
+    put_identity(out, identity)
+}
+
 /// The bytes of the transaction's body: what an endorser signs, followed by its identity's bytes.
-/// Linear in them, in time and memory.
+/// Linear in them, in time and memory, also where they are too many.
 pub fn encode_body(alloc: Global, tx: &Tx) -> Result<Bytes, EncodeFault>
     ensures spelled { IfOk result (λ bytes. SpellsBody bytes tx.now) }
     ensures encoded { (bytes : List ℕ) → SpellsBody bytes tx.now → GivesUnless Memory result (Ok bytes) }
@@ -276,7 +284,7 @@ pub fn encode_body(alloc: Global, tx: &Tx) -> Result<Bytes, EncodeFault>
 }
 
 /// The bytes of the transaction before the creator's signature, which the creator signs. Linear in
-/// them, in time and memory.
+/// them, in time and memory, also where they are too many.
 pub fn encode_signed(alloc: Global, tx: &Tx) -> Result<Bytes, EncodeFault>
     ensures spelled { IfOk result (λ bytes. SpellsSigned bytes tx.now) }
     ensures encoded { (bytes : List ℕ) → SpellsSigned bytes tx.now → GivesUnless Memory result (Ok bytes) }
@@ -287,7 +295,8 @@ pub fn encode_signed(alloc: Global, tx: &Tx) -> Result<Bytes, EncodeFault>
     within_limit(bytes)
 }
 
-/// The bytes that spell the transaction. Linear in them, in time and memory.
+/// The bytes that spell the transaction. Linear in them, in time and memory, also where they are too
+/// many.
 pub fn encode_tx(alloc: Global, tx: &Tx) -> Result<Bytes, EncodeFault>
     ensures spelled { IfOk result (λ bytes. SpellsTx bytes tx.now) }
     // A transaction that has a spelling gets it.

@@ -33,6 +33,20 @@ impl Bytes {
         Bytes { bytes }
     }
 
+    /// Gives the vector back.
+    pub fn into_vec(self) -> Vec<u8>
+        ensures { result.items ≡ self }
+    {
+        self.bytes
+    }
+
+    /// Linear in the number of bytes, in time and memory.
+    pub fn copy(&self, alloc: Global) -> Result<Bytes, AllocError>
+        ensures { IfOk result (λ copied. copied ≡ self.now) }
+    {
+        Bytes::from_slice(alloc, self.as_slice())
+    }
+
     pub fn as_slice(&self) -> &[u8]
         ensures { result.now ≡ self.now }
     {

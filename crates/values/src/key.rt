@@ -1,4 +1,5 @@
 ghost use Rattle.std.specs.Prelude.{◌≡◌, List, ℕ, IsTrue, IfOk};
+ghost use Rattle.std.specs.Str.{bytes_eq};
 ghost use Rattle.values.specs.Key.{is_key, is_bound};
 
 use std::alloc::{AllocError, Global};
@@ -52,6 +53,20 @@ impl Key {
         ensures key { IsTrue (is_key result.now) }
     {
         self.bytes.as_slice()
+    }
+
+    /// The same key, copied once.
+    pub fn copy(&self, alloc: Global) -> Result<Key, AllocError>
+        ensures { IfOk result (λ copied. copied ≡ self.now) }
+    {
+        Key::from_slice(alloc, self.as_slice())
+    }
+
+    /// Whether both have the same bytes. Linear in their number.
+    pub fn is_same(&self, other: &Key) -> bool
+        ensures { result ≡ bytes_eq self.now other.now }
+    {
+        self.bytes.as_slice() == other.bytes.as_slice()
     }
 }
 

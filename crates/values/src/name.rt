@@ -62,6 +62,13 @@ impl Name {
         self.bytes.as_slice()
     }
 
+    /// The same name, copied once.
+    pub fn copy(&self, alloc: Global) -> Result<Name, AllocError>
+        ensures { IfOk result (λ copied. copied ≡ self.now) }
+    {
+        Name::from_slice(alloc, self.as_slice())
+    }
+
     /// Whether both have the same bytes.
     pub fn is_same(&self, other: &Name) -> bool
         ensures { result ≡ bytes_eq self.now other.now }

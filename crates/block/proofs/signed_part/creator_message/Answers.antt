@@ -1,4 +1,4 @@
-use Rattle.std.proofs.Common.{ℕ, ◌-◌, List, length, take, ap}
+use Rattle.std.proofs.Common.{ℕ, ◌-◌, length, take, ap}
 use Rattle.block.proofs.SignedPart.{signed-from_whole}
 use Rattle.block.proofs.signed_part.creator_message.Goals as goal
 

@@ -1,0 +1,218 @@
+#!/usr/bin/env python3
+"""Times the decoding of transactions against hashing their bytes with the same sha2, and counts its memory.
+
+Run as `bench/decode.py` from anywhere, on a machine that has the kit and a C compiler; it needs 3 GB under TMPDIR, since
+what the crates' last check kept is copied. Run it behind `rt check` of the crate `block`: else it is proved first.
+It prints the least of five runs of both, and for the example and the dearest inputs the bytes of allocations for each
+byte of input. It fails where either is more than what is promised.
+"""
+
+import hashlib
+import os
+import pathlib
+import subprocess
+import sys
+import tempfile
+
+from scratch import RUNS, build
+
+BENCH = pathlib.Path(__file__).resolve().parent
+MAX_BYTES = 1 << 20
+MAX_COUNT = (1 << 16) - 1
+
+# What decode_tx says of itself, in bytes of allocations for a byte of input, and the times of hashing that decoding may take.
+HELD = {"good": 15, "refused": 27}
+RATIO = 3
+
+# Prints the least nanoseconds of hashing the file that it is given, of decoding its transactions of 200 bytes, and
+# how many of these are good.
+TIMER = r"""
+#![tactic(auto)]
+
+use block::decode_tx;
+use sha2::{Digest, Sha256};
+use std::alloc::Global;
+use std::time::Instant;
+use std::{env, fs};
+
+fn good(alloc: Global, bytes: &[u8]) -> usize {
+    let mut count = 0usize;
+    for tx in bytes.chunks_exact(200) {
+        if decode_tx(alloc, tx).is_ok() {
+            count = count.wrapping_add(1);
+        }
+    }
+    count
+}
+
+fn main(rt: HostRuntime) -> anyhow::Result<()> {
+    let alloc = rt.alloc();
+    for path in env::args(&rt)?.skip(1) {
+        let bytes = fs::read(&rt, path.as_str())?;
+        let (mut hashing, mut decoding, mut count) = (u128::MAX, u128::MAX, 0);
+        for _ in 0..RUNSu8 {
+            let start = Instant::now(&rt)?;
+            let digest = Sha256::digest(bytes.as_slice());
+            hashing = hashing.min(start.elapsed(&rt)?.as_nanos());
+            let first = digest[0];
+            eprintln!(rt; "{first}")?;
+            let start = Instant::now(&rt)?;
+            count = good(alloc, bytes.as_slice());
+            decoding = decoding.min(start.elapsed(&rt)?.as_nanos());
+        }
+        println!(rt; "{hashing} {decoding} {count}")?;
+    }
+    Ok(())
+}
+"""
+
+# Decodes each file that it is given, between the markers of count_allocations.c.
+ONCE = r"""
+#![tactic(auto)]
+
+use block::decode_tx;
+use std::alloc::{AllocError, Global};
+use std::{env, fs};
+
+fn mark(alloc: Global, size: usize) -> Result<(), AllocError> {
+    let _block = Vec::<u8>::with_capacity(alloc, size)?;
+    Ok(())
+}
+
+fn main(rt: HostRuntime) -> anyhow::Result<()> {
+    let alloc = rt.alloc();
+    for path in env::args(&rt)?.skip(1) {
+        let bytes = fs::read(&rt, path.as_str())?;
+        mark(alloc, 0x5eed01)?;
+        let good = decode_tx(alloc, bytes.as_slice()).is_ok();
+        mark(alloc, 0x5eed02)?;
+        println!(rt; "{good}")?;
+    }
+    Ok(())
+}
+"""
+
+
+def counted(size, field):
+    return len(field).to_bytes(size, "big") + field
+
+
+def listed(size, items, claimed=None):
+    return (len(items) if claimed is None else claimed).to_bytes(size, "big") + b"".join(items)
+
+
+def example(number):
+    """The transaction of docs/format.md with another id, nonce and signatures for each number."""
+    seed = hashlib.sha512(number.to_bytes(8, "big")).digest()
+    read = counted(2, b"k1") + b"\1" + bytes(12)
+    write = counted(2, b"k3") + b"\1" + counted(4, b"v")
+    namespace = counted(1, b"cc") + listed(2, [read]) + listed(2, []) + listed(2, [write]) + listed(2, [])
+    body = counted(1, b"ch") + seed + counted(1, b"Org1") + b"\1" + counted(1, b"c0") + counted(1, seed[:2])
+    body += counted(1, b"cc") + listed(2, [namespace])
+    endorsement = counted(1, b"Org1") + b"\2" + counted(1, b"p0") + counted(2, seed[:32])
+    return body + listed(1, [endorsement]) + counted(2, seed[32:])
+
+
+# The shortest of each kind.
+KEY = counted(2, b"k")
+READ = WRITE = POLICY_WRITE = KEY + b"\0"
+RESULT = KEY + bytes(12)
+RANGE = bytes(7)
+ENDORSEMENT = counted(1, b"O") + bytes(4)
+
+
+def namespace(reads=b"\0\0", ranges=b"\0\0", writes=b"\0\0", policy_writes=b"\0\0"):
+    return counted(1, b"c") + reads + ranges + writes + policy_writes
+
+
+def transaction(namespaces, endorsements=b"\0"):
+    head = counted(1, b"c") + bytes(64) + counted(1, b"O") + bytes(2) + bytes(1) + counted(1, b"c")
+    return head + namespaces + endorsements + bytes(2)
+
+
+def as_many(item):
+    """So many of the item as a transaction has room for beside 100 other bytes, or one past a power of two."""
+    room = min(MAX_COUNT, (MAX_BYTES - 100) // len(item))
+    return [room, (1 << (room.bit_length() - 1)) + 1]
+
+
+def heavy():
+    """Names and bytes of the transactions that take the most memory for their length."""
+    one = {
+        "reads": listed(2, [READ]), "ranges": listed(2, [RANGE]),
+        "writes": listed(2, [WRITE]), "policy_writes": listed(2, [POLICY_WRITE]),
+    }
+    for kind, item in (("reads", READ), ("ranges", RANGE), ("writes", WRITE), ("policy_writes", POLICY_WRITE)):
+        for count in as_many(item):
+            yield f"{count} {kind}", transaction(listed(2, [namespace(**{kind: listed(2, [item] * count)})]))
+    for count in as_many(RESULT):
+        ranges = listed(2, [bytes(5) + listed(2, [RESULT] * count)])
+        yield f"{count} results", transaction(listed(2, [namespace(ranges=ranges)]))
+    for choice in range(16):
+        kinds = [kind for place, kind in enumerate(one) if choice >> place & 1]
+        item = namespace(**{kind: one[kind] for kind in kinds})
+        for count in as_many(item):
+            yield f"{count} namespaces, one of {kinds}", transaction(listed(2, [item] * count))
+    yield "64 endorsements", transaction(listed(2, []), listed(1, [ENDORSEMENT] * 64))
+    yield "one of each", transaction(listed(2, [namespace(**one)]), listed(1, [ENDORSEMENT]))
+    yield "the example", example(0)
+    # Counts that promise more than is there.
+    full = listed(2, [POLICY_WRITE] * (MAX_COUNT - 1), MAX_COUNT)
+    yield "promised namespaces and policy writes", transaction(listed(2, [namespace(policy_writes=full)], MAX_COUNT))
+    for size in (400, MAX_BYTES):
+        for kind, item in (("reads", READ), ("ranges", RANGE), ("writes", WRITE), ("policy_writes", POLICY_WRITE)):
+            rest = (size - 100) // len(item)
+            promised = listed(2, [item] * min(rest, MAX_COUNT - 1), MAX_COUNT)
+            yield f"promised namespaces and {kind}, {size}", transaction(listed(2, [namespace(**{kind: promised})], MAX_COUNT))
+        results = bytes(5) + listed(2, [RESULT] * min((size - 120) // len(RESULT), MAX_COUNT - 1), MAX_COUNT)
+        ranges = listed(2, [results], MAX_COUNT)
+        yield f"promised namespaces, ranges and results, {size}", transaction(listed(2, [namespace(ranges=ranges)], MAX_COUNT))
+
+
+def time_of(folder):
+    timer = build(folder / "timer", "timer", TIMER.replace("RUNS", str(RUNS)), own=["values", "block"], kit=["sha2", "anyhow"])
+    count = 500_000
+    path = folder / "transactions"
+    path.write_bytes(b"".join(example(number) for number in range(count)))
+    size = path.stat().st_size
+    done = subprocess.run([timer, str(path)], capture_output=True, text=True, check=True)
+    hashing, decoding, good = map(int, done.stdout.split())
+    if size != 200 * count or good != count:
+        sys.exit(f"{good} of {count} transactions were decoded")
+    print(f"{count} transactions, {size} bytes: hashing {hashing / 1e9:.3f} s, decoding {decoding / 1e9:.3f} s, "
+          f"ratio {decoding / hashing:.2f}")
+    if RATIO * hashing < decoding:
+        sys.exit(f"decoding takes more than {RATIO} times as long as hashing")
+
+
+def memory_of(folder):
+    once = build(folder / "once", "once", ONCE, own=["values", "block"], kit=["anyhow"])
+    counter = folder / "count_allocations.so"
+    subprocess.run(["cc", "-O2", "-fPIC", "-shared", "-o", counter, BENCH / "count_allocations.c"], check=True)
+    path = folder / "transaction"
+    worst = {}
+    for name, tx in heavy():
+        path.write_bytes(tx)
+        done = subprocess.run([once, str(path)], capture_output=True, text=True, check=True,
+                              env=os.environ | {"LD_PRELOAD": str(counter)})
+        held, asked, chunks = (int(word) / len(tx) for word in done.stderr.split())
+        answer = {"true": "good", "false": "refused"}[done.stdout.strip()]
+        row = (held, f"{name}, {len(tx)} bytes, {answer}: for a byte of input {held:.2f} held at most, "
+                     f"{asked:.2f} asked for in all, {chunks:.2f} at most in chunks of the heap")
+        worst[answer] = max(worst.get(answer, row), row)
+        if name == "the example":
+            print(row[1])
+    for answer, most in HELD.items():
+        print(worst[answer][1])
+        if most < worst[answer][0]:
+            sys.exit(f"more than {most} bytes are held")
+
+
+def main():
+    with tempfile.TemporaryDirectory() as name:
+        folder = pathlib.Path(name)
+        time_of(folder)
+        memory_of(folder)
+
+
+main()
