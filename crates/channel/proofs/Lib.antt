@@ -1,4 +1,4 @@
-pub mod Defined
+pub mod Bound
 pub mod LineForms
-pub mod Soundness
+pub mod Refusals
 mod Worked

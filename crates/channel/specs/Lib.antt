@@ -1,4 +1,4 @@
 pub mod Configuration
+pub mod Fault
 pub mod Lines
-pub mod Sound
 pub mod Text

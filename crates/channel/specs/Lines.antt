@@ -6,5 +6,5 @@ use Rattle.channel.specs.Text.{Says, names_channel, defines, nothing_known}
 -- without where it lies in memory
 abbrev pub seen : declared.Saying → Says
 seen (NamesChannel name) = names_channel name.now
-seen (Defines chaincode policy) = defines (record { chaincode = chaincode.now; policy = policy.now })
+seen (Defines chaincode policy) = defines chaincode.now policy.now
 seen NothingKnown = nothing_known

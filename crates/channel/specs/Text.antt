@@ -1,26 +1,30 @@
 -- Channel texts: one line `channel NAME`, and up to 256 lines `chaincode NAME POLICY` whose names differ.
-use Rattle.std.specs.Prelude.{ℕ, ◌==◌, ◌&&◌, nat_lt, Bool, true, false, if◌then◌else◌, List, [], ◌∷◌, ◌++◌, length, codes, Option, Some, None, Result, Ok, Err}
+use Rattle.std.specs.Prelude.{ℕ, ◌&&◌, nat_lt, if◌then◌else◌, List, [], ◌∷◌, length, codes, Option, Some, None, Result, Ok, Err}
+use Rattle.std.specs.FinMap.{contains_key, empty, insert, len}
 use Rattle.std.specs.Str.{bytes_eq}
 use Rattle.values.specs.Name.{is_name}
+use Rattle.policy.specs.Tree.{Tree}
+use Rattle.policy.specs.Fault as policy
+use Rattle.policy.specs.Meaning.{policy_or_fault}
+use Rattle.policy.specs.Policies.{Policies}
 use Rattle.text_lines.specs.Lines.{Statement, statements, first_part, after_first_part}
-use Rattle.channel.specs.declared.fault.ChannelFault.{ChannelFault}
-use Rattle.channel.specs.declared.fault.ChannelFault.TheVariants.{Line, Repeated, TooMany, NoChannel}
-use Rattle.channel.specs.Configuration.{Definition, Configuration}
+use Rattle.channel.specs.Configuration.{Configuration}
+use Rattle.channel.specs.Fault.{Fault, no_form, repeated, no_policy, too_many, no_channel}
 
 -- what one line says, or that it has neither form
 pub data Says : Type 0 where
   names_channel : List ℕ → Says
-  defines : Definition → Says
+  -- a chaincode, and the text of its policy
+  defines : List ℕ → List ℕ → Says
   nothing_known : Says
 
 abbrev pub says_channel : List ℕ → Says
 says_channel name = if is_name name then names_channel name else nothing_known
 
--- the policy is the rest of the line, and not empty
+-- the policy's text is the rest of the line, and not empty
 abbrev pub says_chaincode : List ℕ → List ℕ → Says
-says_chaincode name policy =
-    if is_name name && nat_lt 0 (length policy) then defines (record { chaincode = name; policy = policy })
-    else nothing_known
+says_chaincode chaincode text =
+    if is_name chaincode && nat_lt 0 (length text) then defines chaincode text else nothing_known
 
 abbrev pub says : List ℕ → Says
 says line =
@@ -28,53 +32,64 @@ says line =
     else if bytes_eq (first_part line) (codes "chaincode") then says_chaincode (first_part (after_first_part line)) (after_first_part (after_first_part line))
     else nothing_known
 
--- What the lines so far say: the channel's name, and the definitions in order.
+-- What the lines so far say: the channel's name, and the policies of chaincodes.
 pub record SoFar : Type 0 where
   pub name : Option (List ℕ)
-  pub definitions : List Definition
+  pub definitions : Policies
 
 abbrev pub nothing_said : SoFar
-nothing_said = record { name = None; definitions = [] }
-
-abbrev pub is_defined : List ℕ → List Definition → Bool
-is_defined chaincode [] = false
-is_defined chaincode (d ∷ ds) = if bytes_eq chaincode d.chaincode then true else is_defined chaincode ds
+nothing_said = record { name = None; definitions = empty }
 
 -- the channel's name on line n, beside an earlier one or none
-abbrev pub said_name : ℕ → List Definition → List ℕ → Option (List ℕ) → Result SoFar ChannelFault
+abbrev pub said_name : ℕ → Policies → List ℕ → Option (List ℕ) → Result SoFar Fault
 said_name n definitions name None = Ok (record { name = Some name; definitions = definitions })
-said_name n definitions name (Some other) = Err (Repeated n)
+said_name n definitions name (Some other) = Err (repeated n)
+
+abbrev pub on_line : ℕ → Result Tree policy.Fault → Result Tree Fault
+on_line n (Ok tree) = Ok tree
+on_line n (Err f) = Err (no_policy n f)
+
+-- the policy on line n that the text spells
+abbrev pub policy_on : ℕ → List ℕ → Result Tree Fault
+policy_on n text = on_line n (policy_or_fault text)
+
+-- a chaincode on line n that isn't defined so far, with its policy
+abbrev pub said_policy : ℕ → SoFar → List ℕ → Result Tree Fault → Result SoFar Fault
+said_policy n so_far chaincode (Err fault) = Err fault
+said_policy n so_far chaincode (Ok tree) =
+    if nat_lt (len so_far.definitions) 256
+    then Ok (record { name = so_far.name; definitions = insert so_far.definitions chaincode tree })
+    else Err (too_many n)
 
 -- the lowest fault of line n after the lines so far, or what is said with it
-abbrev pub said_by : ℕ → SoFar → Says → Result SoFar ChannelFault
-said_by n so_far nothing_known = Err (Line n)
+abbrev pub said_by : ℕ → SoFar → Says → Result SoFar Fault
+said_by n so_far nothing_known = Err (no_form n)
 said_by n so_far (names_channel name) = said_name n so_far.definitions name so_far.name
-said_by n so_far (defines d) =
-    if is_defined d.chaincode so_far.definitions then Err (Repeated n)
-    else if length so_far.definitions == 256 then Err (TooMany n)
-    else Ok (record { name = so_far.name; definitions = so_far.definitions ++ d ∷ [] })
+said_by n so_far (defines chaincode text) =
+    if contains_key so_far.definitions chaincode then Err (repeated n)
+    else said_policy n so_far chaincode (policy_on n text)
 
-abbrev pub said_next : (SoFar → Result SoFar ChannelFault) → Result SoFar ChannelFault → Result SoFar ChannelFault
+abbrev pub said_next : (SoFar → Result SoFar Fault) → Result SoFar Fault → Result SoFar Fault
 said_next f (Ok so_far) = f so_far
 said_next f (Err fault) = Err fault
 
 -- line by line: the first fault, or what all lines say
-abbrev pub said_from : SoFar → List Statement → Result SoFar ChannelFault
+abbrev pub said_from : SoFar → List Statement → Result SoFar Fault
 said_from so_far [] = Ok so_far
 said_from so_far (s ∷ more) = said_next (λ next. said_from next more) (said_by s.line so_far (says s.bytes))
 
-abbrev pub named : List Definition → Option (List ℕ) → Result Configuration ChannelFault
-named definitions None = Err NoChannel
+abbrev pub named : Policies → Option (List ℕ) → Result Configuration Fault
+named definitions None = Err no_channel
 named definitions (Some name) = Ok (record { name = name; definitions = definitions })
 
 -- what all lines configure, where one of them names the channel
-abbrev pub whole : SoFar → Result Configuration ChannelFault
+abbrev pub whole : SoFar → Result Configuration Fault
 whole so_far = named so_far.definitions so_far.name
 
-abbrev pub ended : Result SoFar ChannelFault → Result Configuration ChannelFault
+abbrev pub ended : Result SoFar Fault → Result Configuration Fault
 ended (Ok so_far) = whole so_far
 ended (Err fault) = Err fault
 
 -- what a text configures, or the first line's fault, on one line the lowest, and last that no line names the channel
-abbrev pub configuration_of : List ℕ → Result Configuration ChannelFault
+abbrev pub configuration_of : List ℕ → Result Configuration Fault
 configuration_of text = ended (said_from nothing_said (statements text))

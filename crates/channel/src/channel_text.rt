@@ -1,15 +1,17 @@
 //! The lines of a channel text, one after the other.
-ghost use Rattle.std.specs.Prelude.{◌≡◌, ◌⊎◌, ◌<◌, length, IsTrue, IfOk, IfErr, OnOk};
+ghost use Rattle.std.specs.Prelude.{◌≡◌, IsTrue, Ok, IfOk, IfErr, OnOk};
 ghost use Rattle.values.specs.Name.{is_name};
 ghost use Rattle.text_lines.specs.Lines.{statements};
+ghost use Rattle.channel.specs.Fault.{Refuses};
 ghost use Rattle.channel.specs.Text as spec;
 ghost use Rattle.channel.specs.Lines.{seen};
 
-use crate::{ChaincodeDefinition, ChannelFault};
+use crate::ChannelFault;
+use policy::{Definitions, Policy};
 use std::alloc::Global;
 use std::marker::Model;
 use text_lines::{Statements, first_part};
-use values::{Items, Name, is_name};
+use values::{Name, is_name};
 
 /// The most chaincodes that a channel has.
 const MAX_CHAINCODES: usize = 256;
@@ -61,25 +63,34 @@ fn says(line: &[u8]) -> Saying<'_>
     }
 }
 
-fn is_defined(chaincode: &[u8], definitions: &[ChaincodeDefinition]) -> bool
-    ensures { result ≡ spec.is_defined chaincode.now definitions.now }
+fn policy_of_line(alloc: Global, line: u64, text: &[u8]) -> Result<Policy, ChannelFault>
+    ensures ok { IfOk result (λ policy. spec.policy_on line text.now ≡ Ok policy) }
+    ensures err { IfErr result (λ fault. Refuses fault (spec.policy_on line text.now)) }
 {
-    definitions.iter().any(|d| d.is_of(chaincode))
+    Policy::parse_bytes(alloc, text).map_err(|fault| ChannelFault::of_policy(line, fault))
 }
 
 // What the lines so far say.
 #[derive(Drop)]
 pub(crate) struct SoFar {
     pub(crate) name: Option<Name>,
-    pub(crate) definitions: Items<ChaincodeDefinition>,
+    pub(crate) definitions: Definitions,
 }
 
 impl Model for SoFar {
+    ghost use Rattle.std.specs.Coded.{codes};
+    ghost use Rattle.policy.specs.Policies.{policies_code};
     ghost use Rattle.channel.specs.Text as spec;
 
     ghost Value = { spec.SoFar };
 
+    ghost coded = { Prim.hlevel (codes, policies_code) };
+
+    ghost use Rattle.channel.specs.Configuration.{AreFew};
+
     ghost view = { λ s. record { name = s.name; definitions = s.definitions } };
+
+    ghost invariant = { λ s. AreFew s.definitions };
 }
 
 impl SoFar {
@@ -88,14 +99,14 @@ impl SoFar {
     {
         SoFar {
             name: None,
-            definitions: Items::new(alloc),
+            definitions: Definitions::new(alloc),
         }
     }
 
     fn name_channel(&mut self, alloc: Global, line: u64, name: &[u8]) -> Result<(), ChannelFault>
         requires { IsTrue (is_name name.now) }
         ensures ok { OnOk result (spec.said_by line self.old (spec.names_channel name.now) ≡ Ok self.new) }
-        ensures err { IfErr result (λ fault. (fault ≡ ChannelFault.Memory) ⊎ (spec.said_by line self.old (spec.names_channel name.now) ≡ Err fault)) }
+        ensures err { IfErr result (λ fault. Refuses fault (spec.said_by line self.old (spec.names_channel name.now))) }
     {
         if self.name.is_some() {
             return Err(ChannelFault::Repeated(line));
@@ -111,26 +122,26 @@ impl SoFar {
         chaincode: &[u8],
         policy_text: &[u8],
     ) -> Result<(), ChannelFault>
-        requires named { IsTrue (is_name chaincode.now) }
-        requires some_policy { 0 < length policy_text.now }
-        ensures ok { OnOk result (spec.said_by line self.old (spec.defines (record { chaincode = chaincode.now; policy = policy_text.now })) ≡ Ok self.new) }
-        ensures err { IfErr result (λ fault. (fault ≡ ChannelFault.Memory) ⊎ (spec.said_by line self.old (spec.defines (record { chaincode = chaincode.now; policy = policy_text.now })) ≡ Err fault)) }
+        requires { IsTrue (is_name chaincode.now) }
+        ensures ok { OnOk result (spec.said_by line self.old (spec.defines chaincode.now policy_text.now) ≡ Ok self.new) }
+        ensures err { IfErr result (λ fault. Refuses fault (spec.said_by line self.old (spec.defines chaincode.now policy_text.now))) }
     {
-        if is_defined(chaincode, self.definitions.as_slice()) {
+        let chaincode = Name::from_slice(alloc, chaincode)?;
+        if self.definitions.of(&chaincode).is_some() {
             return Err(ChannelFault::Repeated(line));
         }
-        if self.definitions.len() == MAX_CHAINCODES {
+        let policy = policy_of_line(alloc, line, policy_text)?;
+        if self.definitions.len() >= MAX_CHAINCODES {
             return Err(ChannelFault::TooMany(line));
         }
-        let definition = ChaincodeDefinition::new(alloc, chaincode, policy_text)?;
-        self.definitions.push(definition)?;
+        self.definitions.set(&chaincode, policy)?;
         Ok(())
     }
 
     // What is said with one more line.
     fn say(&mut self, alloc: Global, line: u64, bytes: &[u8]) -> Result<(), ChannelFault>
         ensures ok { OnOk result (spec.said_by line self.old (spec.says bytes.now) ≡ Ok self.new) }
-        ensures err { IfErr result (λ fault. (fault ≡ ChannelFault.Memory) ⊎ (spec.said_by line self.old (spec.says bytes.now) ≡ Err fault)) }
+        ensures err { IfErr result (λ fault. Refuses fault (spec.said_by line self.old (spec.says bytes.now))) }
     {
         match says(bytes) {
             Saying::NamesChannel(name) => self.name_channel(alloc, line, name),
@@ -145,7 +156,7 @@ impl SoFar {
 
 pub(crate) fn read_lines(alloc: Global, text: &str) -> Result<SoFar, ChannelFault>
     ensures ok { IfOk result (λ so_far. spec.said_from spec.nothing_said (statements text.now) ≡ Ok so_far) }
-    ensures err { IfErr result (λ fault. (fault ≡ ChannelFault.Memory) ⊎ (spec.said_from spec.nothing_said (statements text.now) ≡ Err fault)) }
+    ensures err { IfErr result (λ fault. Refuses fault (spec.said_from spec.nothing_said (statements text.now))) }
 {
     let mut so_far = SoFar::new(alloc);
     for statement in Statements::new(text) {

@@ -1,8 +1,11 @@
 //! Why a channel text was not read.
 
-ghost use Rattle.std.specs.Prelude.{◌≡◌};
+ghost use Rattle.std.specs.Prelude.{◌≡◌, MatchOption, Some};
+ghost use Rattle.policy.specs.Kind.{kind_of};
 ghost use Rattle.channel.specs.declared.fault.ChannelFault.TheVariants.{Memory};
+ghost use Rattle.channel.specs.Fault.{fault_of, no_policy};
 
+use policy::PolicyFault;
 use std::alloc::AllocError;
 use thiserror::Error;
 
@@ -17,6 +20,9 @@ pub enum ChannelFault {
     /// An earlier line named the channel, or defined the same chaincode.
     #[error("line {0}: repeats an earlier line's channel or chaincode")]
     Repeated(u64),
+    /// POLICY is no policy. Its places count bytes from where POLICY begins.
+    #[error("line {0}: {1}")]
+    Policy(u64, PolicyFault),
     /// 256 chaincodes are defined already.
     #[error("line {0}: more than 256 chaincodes")]
     TooMany(u64),
@@ -24,6 +30,18 @@ pub enum ChannelFault {
     NoChannel,
     #[error("out of memory")]
     Memory,
+}
+
+impl ChannelFault {
+    /// Of the policy on a line. Want of memory is none of the line's.
+    pub(crate) fn of_policy(line: u64, fault: PolicyFault) -> ChannelFault
+        ensures { MatchOption (kind_of fault) (result ≡ Memory) (λ f. fault_of result ≡ Some (no_policy line f)) }
+    {
+        match fault {
+            PolicyFault::Memory => ChannelFault::Memory,
+            _ => ChannelFault::Policy(line, fault),
+        }
+    }
 }
 
 impl From<AllocError> for ChannelFault {

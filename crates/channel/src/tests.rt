@@ -1,7 +1,10 @@
-// The expected values are worked out by hand from the rules of a channel text.
+// The expected values are worked out by hand from the rules of a channel text and of policies.
 use crate::{Channel, ChannelFault};
+use policy::PolicyFault;
+use std::alloc::{AllocError, Global};
 use std::process::Abort;
 use std::test::Fail;
+use values::{Name, is_name};
 
 fn expect_fault(rt: &(impl Abort + AllocGlobal), text: &str, fault: ChannelFault) {
     assert_eq!(rt;
@@ -11,23 +14,39 @@ fn expect_fault(rt: &(impl Abort + AllocGlobal), text: &str, fault: ChannelFault
     );
 }
 
+// Whether the chaincode is defined with a policy of this canonical text.
+fn is_defined(
+    rt: &(impl Abort + AllocGlobal),
+    channel: &Channel,
+    chaincode: &str,
+    canonical: &str,
+) -> Result<bool, AllocError> {
+    assert!(rt; is_name(chaincode.as_bytes()));
+    let name = Name::from_slice(rt.alloc(), chaincode.as_bytes())?;
+    match channel.definitions().of(&name) {
+        Some(policy) => Ok(policy.text(rt.alloc())?.as_str() == canonical),
+        None => Ok(false),
+    }
+}
+
 fn expect_channel(
     rt: &(impl Abort + AllocGlobal),
     text: &str,
     name: &str,
     definitions: &[(&str, &str)],
-) -> Result<(), ChannelFault> {
+) -> Result<(), Fail> {
     let channel = Channel::read(rt.alloc(), text)?;
     assert_eq!(rt; channel.name().as_slice(), name.as_bytes(), "in {text:?}");
-    let found = channel.definitions();
-    assert_eq!(rt; found.len(), definitions.len(), "in {text:?}");
-    for (definition, (chaincode, policy)) in found.iter().zip(definitions) {
-        assert_eq!(rt;
-            definition.chaincode().as_slice(),
-            chaincode.as_bytes(),
-            "in {text:?}"
+    assert_eq!(rt;
+        channel.definitions().len(),
+        definitions.len(),
+        "in {text:?}"
+    );
+    for (chaincode, canonical) in definitions {
+        assert!(rt;
+            is_defined(rt, &channel, chaincode, canonical)?,
+            "{chaincode} in {text:?}"
         );
-        assert_eq!(rt; definition.policy_text(), policy.as_bytes(), "in {text:?}");
     }
     Ok(())
 }
@@ -37,39 +56,38 @@ fn channels(rt: HostRuntime) -> Result<(), Fail> {
     expect_channel(&rt, "channel ch", "ch", &[])?;
     expect_channel(
         &rt,
-        "# of two organizations\n\n  channel   ch  \r\nchaincode  cc   OR('Org1.peer',  'Org2.peer') \n#chaincode dd X\nchaincode dd X",
+        "# of two organizations\n\n  channel   ch  \r\nchaincode  cc   OR('Org1.peer',  \"Org2.peer\") \n#chaincode dd X\nchaincode dd And( 'A.admin' , 'B.admin' )",
         "ch",
-        &[("cc", "OR('Org1.peer',  'Org2.peer')"), ("dd", "X")],
+        &[
+            ("cc", "OR('Org1.peer','Org2.peer')"),
+            ("dd", "AND('A.admin','B.admin')"),
+        ],
     )?;
     // The channel's line may be the last, and may share a chaincode's name.
-    expect_channel(&rt, "chaincode ch p\nchannel ch\n", "ch", &[("ch", "p")])?;
-    // Nobody has read the policy yet.
     expect_channel(
         &rt,
-        "channel a\nchaincode b # \t\r\r\n",
-        "a",
-        &[("b", "# \t\r")],
+        "chaincode ch 'A.peer'\nchannel ch\n",
+        "ch",
+        &[("ch", "'A.peer'")],
     )?;
+    // Names differ by their case, and one may begin another.
+    expect_channel(
+        &rt,
+        "channel a\nchaincode cc 'A.peer'\nchaincode c 'B.peer'\nchaincode CC 'C.peer'\n",
+        "a",
+        &[("c", "'B.peer'"), ("cc", "'A.peer'"), ("CC", "'C.peer'")],
+    )?;
+    let channel = Channel::read(rt.alloc(), "channel ch\nchaincode cc 'A.peer'\n")?;
+    assert!(rt; !is_defined(&rt, &channel, "ch", "'A.peer'")?);
     Ok(())
 }
 
 #[test]
-fn policies(rt: HostRuntime) -> Result<(), Fail> {
-    let channel = Channel::read(rt.alloc(), "channel ch\nchaincode cc p q\nchaincode c r\n")?;
-    let policy = channel.policy_text(b"cc").ok_or("cc is defined")?;
-    assert_eq!(rt; policy, b"p q".as_slice());
-    let policy = channel.policy_text(b"c").ok_or("c is defined")?;
-    assert_eq!(rt; policy, b"r".as_slice());
-    assert!(rt; channel.policy_text(b"ch").is_none());
-    Ok(())
-}
-
-#[test]
-fn faults(rt: HostRuntime) {
+fn faults_of_form(rt: HostRuntime) {
     let cases = [
         ("", ChannelFault::NoChannel),
         ("\n# channel ch\n", ChannelFault::NoChannel),
-        ("chaincode cc p\n", ChannelFault::NoChannel),
+        ("chaincode cc 'A.peer'\n", ChannelFault::NoChannel),
         ("channel\n", ChannelFault::Line(1)),
         ("channel a b\n", ChannelFault::Line(1)),
         ("Channel a\n", ChannelFault::Line(1)),
@@ -85,13 +103,16 @@ fn faults(rt: HostRuntime) {
         ("channel ch\nchaincode\n", ChannelFault::Line(2)),
         ("channel ch\nchaincode cc\n", ChannelFault::Line(2)),
         ("channel ch\nchaincode cc   \n", ChannelFault::Line(2)),
-        ("channel ch\nchaincode c\u{e4} p\n", ChannelFault::Line(2)),
+        (
+            "channel ch\nchaincode c\u{e4} 'A.peer'\n",
+            ChannelFault::Line(2),
+        ),
         ("channel ch\nchannel ch\n", ChannelFault::Repeated(2)),
         ("channel ch\nchannel other\nx\n", ChannelFault::Repeated(2)),
         // a bad name goes before the repetition
         ("channel ch\nchannel a b\n", ChannelFault::Line(2)),
         (
-            "chaincode cc p\nchaincode dd p\nchaincode cc q\n",
+            "chaincode cc 'A.peer'\nchaincode dd 'A.peer'\nchaincode cc 'B.peer'\n",
             ChannelFault::Repeated(3),
         ),
         // the first line that has a fault
@@ -107,15 +128,86 @@ fn faults(rt: HostRuntime) {
 }
 
 #[test]
+fn faults_of_policies(rt: HostRuntime) {
+    let syntax = |at: usize| PolicyFault::Syntax { at };
+    let role = |at: usize| PolicyFault::Role { at };
+    // A place counts from where the policy begins.
+    let cases = [
+        ("channel ch\nchaincode cc AND(\n", 2, syntax(4)),
+        ("chaincode cc p\n", 1, syntax(0)),
+        ("chaincode cc   AND(   \n", 1, syntax(4)),
+        ("chaincode cc 'A.peer' # x\n", 1, syntax(9)),
+        ("chaincode cc 'A.peer'\t\n", 1, syntax(8)),
+        ("chaincode cc 'A.peer'\r\r\n", 1, syntax(8)),
+        ("chaincode cc 'A.peer'\r", 1, syntax(8)),
+        ("chaincode cc dd 'A.peer'\n", 1, syntax(0)),
+        ("#\n\nchaincode cc OR('A.peer', 'A.boss')", 3, role(13)),
+        ("chaincode cc '\u{e4}.peer'\n", 1, role(0)),
+        (
+            "chaincode cc OutOf(3,'A.peer','B.peer')\n",
+            1,
+            PolicyFault::Threshold { at: 25 },
+        ),
+        // the first line that has a fault
+        ("chaincode cc AND(\nnonsense\n", 1, syntax(4)),
+        ("channel ch\nchaincode cc AND(\nchannel ch\n", 2, syntax(4)),
+    ];
+    for (text, line, fault) in cases {
+        expect_fault(&rt, text, ChannelFault::Policy(line, fault));
+    }
+    // A line's form and a repetition go before its policy.
+    expect_fault(&rt, "chaincode c/c AND(\n", ChannelFault::Line(1));
+    expect_fault(
+        &rt,
+        "chaincode cc 'A.peer'\nchaincode cc AND(\n",
+        ChannelFault::Repeated(2),
+    );
+    expect_fault(&rt, "nonsense\nchaincode cc AND(\n", ChannelFault::Line(1));
+}
+
+// `part` so many times.
+fn repeated(alloc: Global, part: &str, count: u32) -> Result<String, AllocError> {
+    let mut text = String::new(alloc);
+    for _ in 0..count {
+        text.push_str(part)?;
+    }
+    Ok(text)
+}
+
+#[test]
+fn limits_of_policies(rt: HostRuntime) -> Result<(), Fail> {
+    let alloc = rt.alloc();
+    // `OR(` and `'A.peer')` have 12 bytes.
+    let spaces = repeated(alloc, " ", 4084)?;
+    let longest = format!(in alloc; "channel ch\nchaincode cc OR({spaces}'A.peer')\n")?;
+    expect_channel(&rt, longest.as_str(), "ch", &[("cc", "OR('A.peer')")])?;
+    let too_long = format!(in alloc; "channel ch\nchaincode cc OR( {spaces}'A.peer')\n")?;
+    expect_fault(
+        &rt,
+        too_long.as_str(),
+        ChannelFault::Policy(2, PolicyFault::TooLarge),
+    );
+    // 32 gates have 96 bytes.
+    let gates = repeated(alloc, "OR(", 33)?;
+    let too_deep = format!(in alloc; "chaincode cc {gates}'A.peer'")?;
+    expect_fault(
+        &rt,
+        too_deep.as_str(),
+        ChannelFault::Policy(1, PolicyFault::TooDeep { at: 96 }),
+    );
+    Ok(())
+}
+
+#[test]
 fn names(rt: HostRuntime) -> Result<(), Fail> {
     // 64 letters
     let longest = "abcdefghijklmnopqrstuvwxyzabcdefghijklmnopqrstuvwxyzabcdefghijkl";
     assert_eq!(rt; longest.len(), 64);
-    let good = format!(in rt.alloc(); "channel {longest}\nchaincode {longest} p")?;
-    expect_channel(&rt, good.as_str(), longest, &[(longest, "p")])?;
+    let good = format!(in rt.alloc(); "channel {longest}\nchaincode {longest} 'A.peer'")?;
+    expect_channel(&rt, good.as_str(), longest, &[(longest, "'A.peer'")])?;
     let channel = format!(in rt.alloc(); "channel {longest}m\n")?;
     expect_fault(&rt, channel.as_str(), ChannelFault::Line(1));
-    let chaincode = format!(in rt.alloc(); "channel ch\nchaincode {longest}m p\n")?;
+    let chaincode = format!(in rt.alloc(); "channel ch\nchaincode {longest}m 'A.peer'\n")?;
     expect_fault(&rt, chaincode.as_str(), ChannelFault::Line(2));
     Ok(())
 }
@@ -124,22 +216,30 @@ fn names(rt: HostRuntime) -> Result<(), Fail> {
 fn many_chaincodes(rt: HostRuntime) -> Result<(), Fail> {
     let mut full = String::from_str(rt.alloc(), "channel ch\n")?;
     for i in 0..256u16 {
-        let line = format!(in rt.alloc(); "chaincode c{i} p{i}\n")?;
+        let line = format!(in rt.alloc(); "chaincode c{i} 'O{i}.peer'\n")?;
         full.push_str(line.as_str())?;
     }
     let channel = Channel::read(rt.alloc(), full.as_str())?;
     assert_eq!(rt; channel.definitions().len(), 256);
-    let policy = channel.policy_text(b"c255").ok_or("c255 is defined")?;
-    assert_eq!(rt; policy, b"p255".as_slice());
+    assert!(rt; is_defined(&rt, &channel, "c255", "'O255.peer'")?);
     // The 257th chaincode's line is line 258.
     let cases = [
-        ("chaincode one p\n", ChannelFault::TooMany(258)),
-        ("chaincode c7 p\n", ChannelFault::Repeated(258)),
+        ("chaincode one 'A.peer'\n", ChannelFault::TooMany(258)),
+        ("chaincode c7 'A.peer'\n", ChannelFault::Repeated(258)),
+        ("chaincode c7 AND(\n", ChannelFault::Repeated(258)),
+        (
+            "chaincode one AND(\n",
+            ChannelFault::Policy(258, PolicyFault::Syntax { at: 4 }),
+        ),
+        (
+            "chaincode one 'A.boss'\n",
+            ChannelFault::Policy(258, PolicyFault::Role { at: 0 }),
+        ),
         ("chaincode one\n", ChannelFault::Line(258)),
-        ("chaincode o/e p\n", ChannelFault::Line(258)),
+        ("chaincode o/e 'A.peer'\n", ChannelFault::Line(258)),
         ("channel ch\n", ChannelFault::Repeated(258)),
         (
-            "\n# x\n chaincode one p\nnonsense\n",
+            "\n# x\n chaincode one 'A.peer'\nnonsense\n",
             ChannelFault::TooMany(260),
         ),
     ];
@@ -147,5 +247,25 @@ fn many_chaincodes(rt: HostRuntime) -> Result<(), Fail> {
         let text = format!(in rt.alloc(); "{full}{last}")?;
         expect_fault(&rt, text.as_str(), fault);
     }
+    Ok(())
+}
+
+// To be run with memory that is refused at any one call.
+#[test]
+fn refused_memory_is_no_fault_of_the_text(rt: HostRuntime) {
+    let text = "channel ch\nchaincode cc OR('A.peer','B.peer')\nchaincode dd AND('A.peer',";
+    let expected = ChannelFault::Policy(3, PolicyFault::Syntax { at: 13 });
+    let fault = Channel::read(rt.alloc(), text).err();
+    assert!(rt; fault == Some(expected) || fault == Some(ChannelFault::Memory));
+}
+
+#[test]
+fn faults_are_told(rt: HostRuntime) -> Result<(), Fail> {
+    let fault = ChannelFault::Policy(2, PolicyFault::Syntax { at: 4 });
+    let told = format!(in rt.alloc(); "{fault}")?;
+    assert_eq!(rt;
+        told.as_str(),
+        "line 2: the policy's byte 4 can't stand there"
+    );
     Ok(())
 }

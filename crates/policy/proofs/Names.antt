@@ -1,12 +1,15 @@
 -- A map by the bytes of names.
-use Rattle.std.proofs.Common.{◌≡◌, ℕ, Bool, true, false, cond, List, [], ◌∷◌, ◌++◌, Option, Some, None, refl, sym, ap, ◌∙◌}
-use Rattle.std.specs.Prelude.{Vec, IsSome}
+use Rattle.std.proofs.Common.{◌≡◌, ℕ, ◌+◌, Bool, true, false, cond, List, [], ◌∷◌, ◌++◌, length, Option, Some, None, refl, sym, ap, ◌∙◌, arith}
+use Rattle.std.specs.Prelude.{Vec, IsSome, is_some}
 use Rattle.std.specs.declared.alloc.Global.{Global}
 use Rattle.std.specs.declared.cmp.Ordering.{Ordering}
-use Rattle.std.specs.Ordering.{eq_by_cmp}
+use Rattle.std.specs.declared.cmp.Ordering.TheVariants.{Less}
+use Rattle.std.specs.Ordering.{eq_by_cmp, is_eq}
 use Rattle.std.specs.Cmp.{eq_by_cmp_equiv}
-use Rattle.std.specs.FinMap.{get, insert, find, empty, from_entries, get-from_entries, get-insert, same_map, slice_cmp-IsAntisymmetric, nat_cmp-IsAntisymmetric}
-use Rattle.std.specs.Map.{lookup, KeepsOthers, IsKeyTest, AreApart}
+use Rattle.std.specs.FinMap.{get, insert, find, empty, len, from_entries, len-empty, len-insert, get-from_entries, get-insert, same_map, slice_cmp-IsAntisymmetric, nat_cmp-IsAntisymmetric}
+use Rattle.std.specs.List.{AllByRecursion}
+use Rattle.std.specs.List.Sorted.{IsStrictlySortedBy}
+use Rattle.std.specs.Map.{keys_of, lookup, KeepsOthers, IsKeyTest, AreApart}
 use Rattle.std.specs.BTreeMap.{BTreeMap, get_by, is_at, UpdatesBy}
 use Rattle.std.proofs.lemmas.Cmp.{nat_list_cmp_total}
 use Rattle.std.proofs.lemmas.Map.Text.{is_eq-slice_cmp}
@@ -94,3 +97,26 @@ no_value (Some x) e h = absurd cc
 
 pub no_policy : (m : Names) (q : List ℕ) → None ≡ at_name m q → IsSome (get (policies_of m) q) → ⊥
 no_policy m q e = no_value (get (policies_of m) q) (get_name m q ∙ sym e)
+
+-- ---- how many names
+
+-- a name below all others is none of them
+below_others : (x : Vec ℕ Global) (es : List (Vec ℕ Global × Tree))
+    → AllByRecursion (λ y. names_cmp x y ≡ Less) (keys_of es) → find bytes_cmp x.items (by_name es) ≡ None
+below_others x [] h = refl
+below_others x (e ∷ es) h =
+    ap (λ (r : Ordering). cond (is_eq r) (Some e.1) (find bytes_cmp x.items (by_name es))) h.0 ∙ below_others x es h.1
+
+counted : (es : List (Vec ℕ Global × Tree)) → IsStrictlySortedBy names_cmp (keys_of es)
+    → len (from_entries {R = bytes_cmp} (by_name es)) ≡ length es
+unfolding IsStrictlySortedBy
+counted [] h = len-empty bytes_cmp Tree
+counted (e ∷ es) h =
+    let rest = from_entries {R = bytes_cmp} (by_name es) in
+    let absent = get-from_entries nat_list_cmp_total (by_name es) e.0.items ∙ below_others e.0 es h.0 in
+    len-insert nat_list_cmp_total rest e.0.items e.1
+    ∙ ap (λ (o : Option Tree). cond (is_some o) (len rest) (len rest + 1)) absent
+    ∙ omega (arith, counted es h.1)
+
+pub count_of : (m : Names) → IsStrictlySortedBy names_cmp (keys_of m.entries) → len (policies_of m) ≡ length m.entries
+count_of m h = counted m.entries h

@@ -1,6 +1,7 @@
 -- What reading answers is what the grammar says, in both directions.
 use Rattle.std.proofs.Common.{◌≡◌, ◌≢◌, ℕ, ◌≤◌, ◌<◌, Bool, true, false, cond, List, [], ◌∷◌, ◌++◌, length, Some, Result, Ok, Err, refl, sym, ap, ◌∙◌, subst, inl, inr, arith}
 use Rattle.std.specs.Prelude.{nat_lt, IfSome, ◌⊎◌}
+use Rattle.std.specs.Result.{result_ok}
 use Rattle.std.proofs.lemmas.Bool.Decides.{nat_tests}
 use Rattle.std.proofs.lemmas.List.{append-nil}
 use Rattle.policy.specs.declared.fault.PolicyFault.{PolicyFault}
@@ -11,6 +12,7 @@ use Rattle.policy.specs.Lexing.{token_at}
 use Rattle.policy.specs.Grammar.{Spells, IsPolicy}
 use Rattle.policy.specs.Fault.{Fault, syntax_fault, role_fault, threshold_fault, depth_fault, size_fault, first, HasFault, too_long, fails, goes_on}
 use Rattle.policy.specs.Reading.{◌>>=◌, Read, expression_by, gate_at, last_token, policy_at}
+use Rattle.policy.specs.Meaning.{policy_of}
 use Rattle.policy.specs.Outcome.{Refuses}
 use Rattle.policy.specs.Kind.{kind_of, IsOfKind}
 use Rattle.policy.proofs.Spaces.{first_is, all_spaced}
@@ -91,6 +93,15 @@ law_only_fault (fails {text} {ts} {f} short sp h) =
 law_only_fault (goes_on {text} {t} {ts} us short sp s keeps more) =
     let r = expression_complete s 32 0 us text (omega (arith, keeps.flat)) keeps.few sp in
     short_is text short ∙ bind_is (expression_by (gate_at 32) 0 text) _ _ r.is ∙ ap (λ (x : Token). last_token t x) (first_is us r.rest r.spaced) ∙ not_last t us us r.rest refl more r.spaced
+
+-- ---- the tree alone
+
+ok_of : (r : Result Tree Fault) (t : Tree) → result_ok r ≡ Some t → r ≡ Ok t
+ok_of (Ok s) t e = let same : s ≡ t = cc in ap Ok same
+ok_of (Err f) t e = absurd cc
+
+pub law_policy : (bytes : List ℕ) (t : Tree) → policy_of bytes ≡ Some t → policy_at bytes ≡ Ok t
+law_policy bytes t e = ok_of (policy_at bytes) t e
 
 -- ---- what a refusal says
 

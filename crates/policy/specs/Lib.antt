@@ -9,6 +9,7 @@ pub mod Text
 pub mod Spelled
 pub mod Lexing
 pub mod Reading
+pub mod Meaning
 pub mod Outcome
 pub mod Written
 pub mod Policies

@@ -1,5 +1,5 @@
 -- Reading a policy, computed: a tree and what follows it, or the first fault from the left. It stands between the
--- code and the grammar: no public contract names it.
+-- code and the grammar: nobody has to believe it, for the law `policy_reading` ties what it gives to the grammar.
 use Rattle.std.specs.Prelude.{ℕ, zero, suc, ◌+◌, List, [], ◌∷◌, length, Bool, true, false, ◌&&◌, nat_le, nat_lt, if◌then◌else◌, Result, Ok, Err}
 use Rattle.policy.specs.declared.token.Word.{Word}
 use Rattle.policy.specs.declared.token.Word.TheVariants.{All, Any, OutOf}

@@ -45,6 +45,13 @@ impl Definitions {
         self.policies.get(name.as_slice())
     }
 
+    /// How many chaincodes have a policy.
+    pub fn len(&self) -> usize
+        ensures { result ≡ map.len self.now }
+    {
+        self.policies.len()
+    }
+
     /// Gives a chaincode its policy, in the place of an earlier one, which takes no memory. An `Err` changes
     /// nothing. Logarithmic in the number of chaincodes.
     pub fn set(&mut self, name: &Name, policy: Policy) -> Result<(), AllocError>

@@ -1,7 +1,8 @@
-ghost use Rattle.std.specs.Prelude.{◌≡◌, ◌⊎◌, ℕ, List};
+ghost use Rattle.std.specs.Prelude.{◌≡◌, ◌⊎◌, ◌↔◌, ℕ, List, Some, Ok, Err};
 ghost use Rattle.policy.specs.Tree.{Tree};
 ghost use Rattle.policy.specs.Grammar.{IsPolicy};
 ghost use Rattle.policy.specs.Fault.{Fault, HasFault};
+ghost use Rattle.policy.specs.Meaning.{policy_of, policy_or_fault};
 
 /// Laws of the policy grammar, and no work: no text spells two trees, none has two kinds of fault, none a tree
 /// and a fault, and each has one or the other.
@@ -10,4 +11,12 @@ pub fn one_reading()
     ensures one_fault { (text : List ℕ) (f g : Fault) → HasFault text f → HasFault text g → f ≡ g }
     ensures tree_or_fault { (text : List ℕ) (t : Tree) (f : Fault) → IsPolicy text t → HasFault text f → ⊥ }
     ensures each_text { (text : List ℕ) → ((t : Tree) × IsPolicy text t) ⊎ ((f : Fault) × HasFault text f) }
+{}
+
+/// Laws of what texts mean, and no work: what `policy_of` gives for a text is the tree that it spells, and none
+/// where it spells none; `policy_or_fault` gives the same tree, or the kind of the text's fault.
+pub fn policy_reading()
+    ensures policy { (text : List ℕ) (t : Tree) → (policy_of text ≡ Some t) ↔ IsPolicy text t }
+    ensures read { (text : List ℕ) (t : Tree) → (policy_or_fault text ≡ Ok t) ↔ IsPolicy text t }
+    ensures refused { (text : List ℕ) (f : Fault) → (policy_or_fault text ≡ Err f) ↔ HasFault text f }
 {}

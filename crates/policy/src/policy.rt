@@ -25,13 +25,14 @@ impl Model for Policy {
 }
 
 impl Policy {
-    ghost use Rattle.std.specs.Prelude.{◌≡◌, ◌≤◌, ℕ, List, length, Ok, IfOk, IfErr, IfSome, IsErrAnd, string_bytes};
+    ghost use Rattle.std.specs.Prelude.{◌≡◌, ◌⊎◌, ◌≤◌, ℕ, List, length, Some, None, Ok, Err, IfOk, IfErr, IfSome, IsErrAnd, string_bytes};
     ghost use Rattle.values.specs.Memory.{GivesUnless};
     ghost use Rattle.policy.specs.declared.fault.PolicyFault.TheVariants.{Memory};
     ghost use Rattle.policy.specs.Tree.{Tree};
     ghost use Rattle.policy.specs.Grammar.{IsPolicy};
     ghost use Rattle.policy.specs.Fault.{Fault, HasFault};
     ghost use Rattle.policy.specs.Kind.{kind_of, IsOfKind};
+    ghost use Rattle.policy.specs.Meaning.{policy_of, policy_or_fault};
     ghost use Rattle.policy.specs.Spelled.{IsSpelled};
     ghost use Rattle.policy.specs.Text.{text_of};
 
@@ -46,8 +47,36 @@ impl Policy {
         ensures fault { IfErr result (λ e. IfSome (kind_of e) (λ f. HasFault text.now f)) }
         // A fault of the text is answered.
         ensures only_fault { (f : Fault) → HasFault text.now f → IsErrAnd result (λ e. IsOfKind f e) }
+
+        // The same, said of the functions that other definitions name.
+        ensures meaning { IfOk result (λ policy. policy_of text.now ≡ Some policy) }
+        ensures no_meaning { IfErr result (λ e. (e ≡ Memory) ⊎ (policy_of text.now ≡ None)) }
+        ensures read { IfOk result (λ policy. policy_or_fault text.now ≡ Ok policy) }
+        ensures refused { IfErr result (λ e. IfSome (kind_of e) (λ f. policy_or_fault text.now ≡ Err f)) }
     {
-        let root = reader::read(alloc, text)?;
+        Policy::parse_bytes(alloc, text.as_bytes())
+    }
+
+    /// The policy that the bytes spell. The grammar is one of bytes, so that these may be any: a text that isn't
+    /// UTF-8 spells no policy. One pass, linear in them; the memory is that of the tree.
+    pub fn parse_bytes(alloc: Global, bytes: &[u8]) -> Result<Policy, PolicyFault>
+        // What is read is spelled so.
+        ensures found { IfOk result (λ policy. IsPolicy bytes.now policy) }
+        // What is spelled so is read.
+        ensures only { (tree : Tree) → IsPolicy bytes.now tree → GivesUnless Memory result (Ok tree) }
+
+        // A fault that is answered is one of the text.
+        ensures fault { IfErr result (λ e. IfSome (kind_of e) (λ f. HasFault bytes.now f)) }
+        // A fault of the text is answered.
+        ensures only_fault { (f : Fault) → HasFault bytes.now f → IsErrAnd result (λ e. IsOfKind f e) }
+
+        // The same, said of the functions that other definitions name.
+        ensures meaning { IfOk result (λ policy. policy_of bytes.now ≡ Some policy) }
+        ensures no_meaning { IfErr result (λ e. (e ≡ Memory) ⊎ (policy_of bytes.now ≡ None)) }
+        ensures read { IfOk result (λ policy. policy_or_fault bytes.now ≡ Ok policy) }
+        ensures refused { IfErr result (λ e. IfSome (kind_of e) (λ f. policy_or_fault bytes.now ≡ Err f)) }
+    {
+        let root = reader::read(alloc, bytes)?;
         Ok(Policy { root })
     }
 

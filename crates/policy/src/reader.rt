@@ -207,16 +207,16 @@ fn closed(wanted: Asked, members: Vec<Expression>, at: usize) -> Result<Expressi
     })
 }
 
-/// The tree that the whole text spells. One pass, linear in the text; the memory is that of the tree.
+/// The tree that all the bytes spell. One pass, linear in them; the memory is that of the tree.
 #[tactic(auto, unfolding(crate::specs::Reading::policy_at))]
-pub fn read(alloc: Global, text: &str) -> Result<Expression, PolicyFault>
+pub fn read(alloc: Global, text: &[u8]) -> Result<Expression, PolicyFault>
     ensures { Gives (λ e. e) result (policy_at text.now) }
 {
     if text.len() > MAX_TEXT {
         return Err(PolicyFault::TooLarge);
     }
     let mut reader = Reader {
-        rest: text.as_bytes(),
+        rest: text,
         principals: 0,
         len: text.len(),
         at: 0,

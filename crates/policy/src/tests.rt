@@ -3,6 +3,7 @@
 use crate::{Policy, PolicyFault};
 use std::alloc::Global;
 
+mod bytes;
 mod definitions;
 mod faults;
 mod limits;

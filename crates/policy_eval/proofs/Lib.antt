@@ -1,0 +1,11 @@
+pub mod Counting
+pub mod Relation
+pub mod Spelled
+pub mod Once
+pub mod Distinct
+pub mod Places
+pub mod Marks
+pub mod Pairs
+pub mod Served
+pub mod Monotone
+pub mod Worked

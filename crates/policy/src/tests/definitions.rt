@@ -28,10 +28,13 @@ fn policies_by_name(rt: HostRuntime) -> Result<(), Fail> {
     let other = name_of(&rt, alloc, "CC")?;
     let mut definitions = Definitions::new(alloc);
     assert!(rt; definitions.of(&cc).is_none());
+    assert_eq!(rt; definitions.len(), 0);
     definitions.set(&cc, Policy::parse(alloc, "'A.peer'")?)?;
     definitions.set(&other, Policy::parse(alloc, "'B.peer'")?)?;
+    assert_eq!(rt; definitions.len(), 2);
     let kept = definitions.copy(alloc)?;
     definitions.set(&cc, Policy::parse(alloc, "'C.peer'")?)?;
+    assert_eq!(rt; definitions.len(), 2);
     assert!(rt; is_of(alloc, &definitions, &cc, "'C.peer'")?);
     assert!(rt; is_of(alloc, &definitions, &other, "'B.peer'")?);
     assert!(rt; is_of(alloc, &kept, &cc, "'A.peer'")?);

@@ -1,31 +1,10 @@
-use Rattle.std.proofs.Common.{ap, inl, inr, Ok, Err}
-use Rattle.std.proofs.lemmas.Result.{err_from_is_err_and}
-use Rattle.policy.proofs.Readings.{law_found, refused_kind, refused_fault, refused_policy, tree_or_fault, one_tree}
+use Rattle.std.proofs.Common.{ℕ, List, Ok, subst}
+use Rattle.values.specs.Memory.{GivesUnless}
+use Rattle.policy.specs.declared.fault.PolicyFault.TheVariants.{Memory}
+use Rattle.policy.specs.Tree.{Tree}
+use Rattle.policy.specs.Grammar.{IsPolicy}
 use Rattle.policy.proofs.policy.Policy.parse.Goals as goal
 
-pub returns-in_err-root-clause-only : goal.returns-in_err-root-clause-only
-returns-in_err-root-clause-only c =
-    let p = err_from_is_err_and c.from_residual.result c.from_residual.ensures.1 in
-    rw (p.1, p.2) (λ t h. inr (ap Err (refused_policy c.in_err-root.field-0.0 c.args.text.now t h c.in_err-root.ensures)))
-
-pub returns-in_err-root-clause-fault : goal.returns-in_err-root-clause-fault
-returns-in_err-root-clause-fault c =
-    let p = err_from_is_err_and c.from_residual.result c.from_residual.ensures.1 in
-    rw (p.1, p.2) (refused_kind c.in_err-root.field-0.0 c.args.text.now c.in_err-root.ensures)
-
-pub returns-in_err-root-clause-only_fault : goal.returns-in_err-root-clause-only_fault
-returns-in_err-root-clause-only_fault c =
-    let p = err_from_is_err_and c.from_residual.result c.from_residual.ensures.1 in
-    rw (p.1, p.2) (λ f h. refused_fault c.in_err-root.field-0.0 c.args.text.now f h c.in_err-root.ensures)
-
-pub invariant_of-result : goal.invariant_of-result
-invariant_of-result c = record { text = c.args.text.now; policy = law_found c.args.text.now c.in_ok-root.root c.in_ok-root.ensures }
-
-pub returns-clause-found : goal.returns-clause-found
-returns-clause-found c = law_found c.args.text.now c.in_ok-root.root c.in_ok-root.ensures
-
 pub returns-clause-only : goal.returns-clause-only
-returns-clause-only c = λ t h. inl (ap Ok (one_tree c.args.text.now c.in_ok-root.root t (law_found c.args.text.now c.in_ok-root.root c.in_ok-root.ensures) h))
-
-pub returns-clause-only_fault : goal.returns-clause-only_fault
-returns-clause-only_fault c = λ f h. absurd (tree_or_fault c.args.text.now c.in_ok-root.root f (law_found c.args.text.now c.in_ok-root.root c.in_ok-root.ensures) h)
+returns-clause-only c =
+    subst (λ (b : List ℕ). (t : Tree) → IsPolicy b t → GivesUnless Memory c.parse_bytes.result (Ok t)) c.as_bytes.ensures.value c.parse_bytes.ensures.only

@@ -1,0 +1,18 @@
+use Rattle.std.proofs.Common.{◌≡◌, ◌≤◌, ◌+◌, ◌*◌, drop}
+use Rattle.policy.specs.Tree.{size_of, size_of_all}
+use Rattle.policy.specs.View.{trees}
+use Rattle.policy_eval.specs.Evaluating.{evaluate_all}
+use Rattle.policy_eval.proofs.Counting.{added}
+use Rattle.policy_eval.proofs.evaluation.+evaluate.Given as goal
+
+abbrev pub decreases-evaluate : goal.decreases-evaluate
+decreases-evaluate l = 2 * size_of l.expression.now
+
+abbrev pub decreases-count_satisfied : goal.decreases-count_satisfied
+decreases-count_satisfied l = 2 * size_of_all (trees l.members.now) + 1
+
+abbrev pub invariant-count_satisfied-loop-member : goal.invariant-count_satisfied-loop-member
+invariant-count_satisfied-loop-member l = record {
+  few : l.count ≤ l.member-index;
+  so_far : evaluate_all (trees l.members) l.signers l.initial.used ≡ added l.count (evaluate_all (trees (drop l.member-index l.members)) l.signers l.used);
+}

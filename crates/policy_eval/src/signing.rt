@@ -1,0 +1,85 @@
+ghost use Rattle.std.specs.Prelude.{◌≡◌, ◌≤◌, ◌++◌, length, take, IfOk, OnOk};
+ghost use Rattle.std.specs.List.{list_any};
+ghost use Rattle.block.specs.Same.{is_same_identity};
+ghost use Rattle.block.specs.TxGrammar.{body_bytes, identity_bytes, IsIdentity};
+ghost use Rattle.policy_eval.specs.Signers.{signers_of, IsSpelled};
+
+use crate::signer_list::Signers;
+use crate::verify::Verify;
+use block::{EncodeFault, Endorsement, Identity, Tx};
+use std::alloc::{AllocError, Global};
+
+/// The bytes of the body, with which each endorser's message begins.
+fn body(alloc: Global, tx: &Tx) -> Result<Vec<u8>, AllocError>
+    requires { IsSpelled tx.now }
+    ensures { IfOk result (λ bytes. bytes.items ≡ body_bytes tx.now) }
+{
+    match block::encode_body(alloc, tx) {
+        Ok(bytes) => Ok(bytes.into_vec()),
+        Err(EncodeFault::Memory) => Err(AllocError),
+        Err(EncodeFault::TooLarge) => unreachable!(),
+    }
+}
+
+/// Puts the identity's bytes in the place of all that follows the body.
+fn address(message: &mut Vec<u8>, body_len: usize, identity: &Identity) -> Result<(), AllocError>
+    requires { IsIdentity identity.now }
+    ensures { OnOk result (message.new.items ≡ take body_len message.old.items ++ identity_bytes identity.now) }
+{
+    message.truncate(body_len);
+    match block::append_identity(message, identity) {
+        Ok(()) => Ok(()),
+        Err(EncodeFault::Memory) => Err(AllocError),
+        Err(EncodeFault::TooLarge) => unreachable!(),
+    }
+}
+
+fn contains(signers: &[Identity], identity: &Identity) -> bool
+    ensures { result ≡ list_any (λ signer. is_same_identity signer identity.now) signers.now }
+{
+    signers.iter().any(|signer| signer.is_same(identity))
+}
+
+/// Whether the verifier accepts the endorser's signature over the body and the endorser's bytes.
+fn has_signed<V: Verify>(
+    endorsement: &Endorsement,
+    message: &mut Vec<u8>,
+    body_len: usize,
+    verifier: &V,
+) -> Result<bool, AllocError>
+    requires endorser { IsIdentity endorsement.now.endorser }
+    requires body { body_len ≤ length message.old.items }
+    ensures value { IfOk result (λ signed. signed ≡ V.accepts verifier.now endorsement.now.endorser (take body_len message.old.items ++ identity_bytes endorsement.now.endorser) endorsement.now.signature) }
+    ensures kept { OnOk result (take body_len message.new.items ≡ take body_len message.old.items) }
+    ensures long { OnOk result (body_len ≤ length message.new.items) }
+{
+    address(message, body_len, &endorsement.endorser)?;
+    Ok(verifier.verify(
+        &endorsement.endorser,
+        message.as_slice(),
+        endorsement.signature.as_slice(),
+    ))
+}
+
+/// The endorsers whose signature over the body and their own identity's bytes the verifier accepts, each
+/// once, in the order of their first accepted signatures.
+///
+/// Encodes the body once, calls the verifier at most once for each endorsement, and not at all for one
+/// whose endorser has signed already. Besides, time is linear in the body, and each endorser is compared
+/// with the signers so far. Memory: one buffer of the body and the longest identity, and the signers.
+pub fn signers<V: Verify>(alloc: Global, tx: &Tx, verifier: &V) -> Result<Signers, AllocError>
+    requires { IsSpelled tx.now }
+    ensures { IfOk result (λ signers. signers ≡ signers_of (V.accepts verifier.now) tx.now) }
+{
+    let mut message = body(alloc, tx)?;
+    let body_len = message.len();
+    let mut identities = Vec::new(alloc);
+    for endorsement in tx.endorsements.as_slice() {
+        if !contains(identities.as_slice(), &endorsement.endorser)
+            && has_signed(endorsement, &mut message, body_len, verifier)?
+        {
+            identities.push(endorsement.endorser.copy(alloc)?)?;
+        }
+    }
+    Ok(Signers { identities })
+}
