@@ -44,8 +44,10 @@ impl<'a> Fault<'a> {
     /// The fault of the channel text in the file of this path.
     pub(crate) fn of_channel(path: &'a str, fault: ChannelFault) -> Fault<'a> {
         match fault {
-            ChannelFault::Line(line) | ChannelFault::Repeated(line) | ChannelFault::TooMany(line) =>
-                Fault::Line(path, line),
+            ChannelFault::Line(line)
+            | ChannelFault::Repeated(line)
+            | ChannelFault::Policy(line, _)
+            | ChannelFault::TooMany(line) => Fault::Line(path, line),
             ChannelFault::NoChannel => Fault::NoChannel(path),
             ChannelFault::Memory => Fault::Memory,
         }

@@ -8,7 +8,7 @@ use text_lines::text_of;
 use values::Bytes;
 
 /// What the files of a run hold.
-#[derive(Debug, Drop)]
+#[derive(Drop)]
 pub(crate) struct Inputs {
     pub(crate) channel: Channel,
     pub(crate) keys: KeyBook,
@@ -42,7 +42,7 @@ fn read_keys<'a, F: Files>(alloc: Global, files: &F, path: &'a str) -> Result<Ke
 
 impl Inputs {
     /// Reads the channel, the keys and the blocks, each file to its end before the next. The memory
-    /// is that of the files' bytes.
+    /// is linear in the files' bytes.
     pub(crate) fn read<'a, F: Files>(
         alloc: Global,
         files: &F,

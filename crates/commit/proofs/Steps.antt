@@ -4,14 +4,12 @@ use Rattle.std.proofs.lemmas.List.{take_more, map_push}
 use Rattle.block.specs.declared.block.Block.{Block}
 use Rattle.block.specs.Grammar.{Spells}
 use Rattle.channel.specs.Configuration.{Configuration}
-use Rattle.header_hash.specs.Hashes.{header_hash_of}
 use Rattle.policy_eval.specs.Accepts.{Accepts}
 use Rattle.rules.specs.declared.answer.Accepted.{Accepted}
 use Rattle.rules.specs.declared.answer.Refused.{Refused}
 use Rattle.rules.specs.declared.flag.Flag.{Flag}
 use Rattle.rules.specs.World.{World}
 use Rattle.rules.specs.Linked.{IsLinked}
-use Rattle.rules.specs.Validation.{flags_of}
 use Rattle.rules.specs.Step.{Step}
 use Rattle.rules.specs.Chain.{Submission, Chain}
 use Rattle.commit.specs.Submissions.{submissions}
@@ -24,21 +22,6 @@ Chain-push channel old mid new [] [] s answer chain step =
 Chain-push channel old mid new (first ∷ submissions) (a ∷ answers) s answer chain step = (chain.0, chain.1, Chain-push channel chain.0 mid new submissions answers s answer chain.2 step)
 Chain-push channel old mid new [] (a ∷ answers) s answer chain step = absurd chain
 Chain-push channel old mid new (first ∷ submissions) [] s answer chain step = absurd chain
-
--- a linked block is accepted, and kept with its bytes, hash and flags
-pub Step-accepted : (channel : Configuration) (accepts : Accepts) (old new : World) (bytes kept hash : List ℕ) (b : Block) (flags kept_flags : List Flag) → Spells bytes b → IsLinked old b
-    → hash ≡ header_hash_of b.header → flags ≡ flags_of channel accepts old b.txs → kept ≡ bytes → kept_flags ≡ flags
-    → new ≡ record { blocks = old.blocks ++ record { bytes = kept; header_hash = hash; flags = kept_flags } ∷ [] }
-    → Step channel accepts old bytes (Ok (record { number = b.header.number; header_hash = hash; flags = flags })) new
-Step-accepted channel accepts old new bytes kept hash b flags kept_flags spells linked h f k g e =
-    let answer : (hash' : List ℕ) (flags' : List Flag) → Accepted = λ hash' flags'. record { number = b.header.number; header_hash = hash'; flags = flags' } in
-    let block : (bytes' hash' : List ℕ) (flags' : List Flag) → World = λ bytes' hash' flags'. record { blocks = old.blocks ++ record { bytes = bytes'; header_hash = hash'; flags = flags' } ∷ [] } in (
-      b,
-      spells,
-      linked,
-      ap (λ (x : List ℕ). answer x flags) h ∙ ap (λ (x : List Flag). answer (header_hash_of b.header) x) f,
-      e ∙ ap (λ (x : List ℕ). block x hash kept_flags) k ∙ ap (λ (x : List ℕ). block bytes x kept_flags) h ∙ ap (λ (x : List Flag). block bytes (header_hash_of b.header) x) (g ∙ f),
-    )
 
 -- one block more was handed in
 pub Chain-more : (channel channel' : Configuration) (accepts : Accepts) (old mid new : World) (blocks : List (List ℕ)) (i : ℕ) (bytes item : List ℕ) (answers answers' : List (Result Accepted Refused)) (answer : Result Accepted Refused)

@@ -4,20 +4,17 @@ ghost use Rattle.rules.specs.Step.{Step};
 ghost use Rattle.rules.specs.Chain.{Chain};
 ghost use Rattle.commit.specs.Submissions.{submissions};
 
-use crate::intake::{decoded, flags};
-use crate::linking::check_linked;
-use crate::world::World;
 use channel::Channel;
-use header_hash::header_hash;
+use plain::World;
 use policy_eval::Verify;
-use rules::{Accepted, CommittedBlock, Refused};
+use rules::{Accepted, Refused};
 use std::alloc::{AllocError, Global};
 use std::marker::Model;
 use values::{Bytes, Items};
 
 /// The ledger of one channel, which takes blocks one by one. A contract sees its channel and its
 /// world.
-#[derive(Debug, Drop)]
+#[derive(Drop)]
 pub struct Ledger {
     alloc: Global,
     channel: Channel,
@@ -25,9 +22,14 @@ pub struct Ledger {
 }
 
 impl Model for Ledger {
+    ghost use Rattle.std.specs.Coded.{codes};
+    ghost use Rattle.policy.specs.Policies.{policies_code};
+    ghost use Rattle.rules.specs.Code.{world_code};
     ghost use Rattle.commit.specs.Contents.{Contents};
 
     ghost Value = { Contents };
+
+    ghost coded = { Prim.hlevel (codes, policies_code, world_code) };
 
     ghost view = { λ l. record { channel = l.channel; world = l.world } };
 }
@@ -52,30 +54,13 @@ impl Ledger {
         &self.world
     }
 
-    /// Takes the bytes of the next block: accepts them, or refuses them and changes nothing.
-    ///
-    /// Linear in the bytes, whatever the height: they are read once, hashed once, and copied twice,
-    /// into the decoded block, which is let go, and into the ledger, which keeps them with a hash and
-    /// a flag for each transaction.
+    /// Takes the bytes of the next block: accepts them, or refuses them and changes nothing. Costs what
+    /// `plain::submit` says.
     pub fn submit_one<V: Verify>(&mut self, bytes: &[u8], verifier: &V) -> Result<Accepted, Refused>
         ensures step { Step self.old.channel (V.accepts verifier.now) self.old.world bytes.now result self.new.world }
         ensures channel { self.new.channel ≡ self.old.channel }
     {
-        let block = decoded(self.alloc, bytes)?;
-        check_linked(&self.world, &block)?;
-        let number = block.header.number;
-        let header_hash = header_hash(&block.header);
-        let flags = flags(self.alloc, verifier, block.txs.as_slice())?;
-        self.world.push(CommittedBlock {
-            bytes: Bytes::from_slice(self.alloc, bytes)?,
-            header_hash,
-            flags: flags.copy(self.alloc)?,
-        })?;
-        Ok(Accepted {
-            number,
-            header_hash,
-            flags,
-        })
+        plain::submit(self.alloc, &self.channel, &mut self.world, bytes, verifier)
     }
 
     /// Takes the bytes of blocks one after the other, each as `submit_one` does, and answers to all.

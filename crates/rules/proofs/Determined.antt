@@ -11,7 +11,8 @@ use Rattle.rules.specs.declared.answer.Refused.{Refused}
 use Rattle.rules.specs.declared.answer.Refused.TheVariants.{Malformed, WrongNumber, WrongPrevious, WrongDataHash, Memory}
 use Rattle.rules.specs.World.{World}
 use Rattle.rules.specs.Linked.{HasNumber, HasPrevious, HasDataHash, IsLinked, IsRefused}
-use Rattle.rules.specs.Step.{accepted_of, world_after, Step}
+use Rattle.rules.specs.Commit.{world_after}
+use Rattle.rules.specs.Step.{accepted_of, Step}
 
 -- what the block grammar's laws say
 pub record ReadsOnce : Type 0 where

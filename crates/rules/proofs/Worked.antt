@@ -1,16 +1,23 @@
 -- Worked rows of the step: blocks 0 and 1 of a chain, and what isn't the next block.
-use Rattle.std.proofs.Common.{◌≡◌, ℕ, List, [], ◌∷◌, ◌++◌, ◌≤◌, length, Ok, Err, refl, arith}
+use Rattle.std.proofs.Common.{◌≡◌, ℕ, List, [], ◌∷◌, ◌++◌, ◌≤◌, length, Ok, Err, Option, None, refl, sym, ap, ◌∙◌, arith}
+use Rattle.std.specs.FinMap.{empty}
 use Rattle.block.specs.declared.block.Block.{Block}
 use Rattle.block.specs.declared.block.Header.{Header}
 use Rattle.block.specs.declared.block.Previous.{Previous}
 use Rattle.block.specs.declared.block.Previous.TheVariants.{Empty, Hash}
+use Rattle.block.specs.declared.transaction.Tx.{Tx}
 use Rattle.block.specs.Grammar.{header_bytes, txs_bytes, Spells}
-use Rattle.channel.specs.Configuration.{Configuration}
+use Rattle.block.specs.TxReading.{name_at, body_at, tx_at, whole_tx_at}
 use Rattle.header_hash.specs.Hashes.{header_hash_of, data_hash_of}
 use Rattle.policy_eval.specs.Accepts.{Accepts}
-use Rattle.rules.specs.declared.answer.Refused.TheVariants.{WrongNumber, WrongPrevious}
+use Rattle.channel.specs.Configuration.{Configuration}
+use Rattle.rules.specs.declared.answer.Refused.TheVariants.{WrongNumber, WrongPrevious, WrongDataHash}
 use Rattle.rules.specs.declared.flag.Flag.TheVariants.{BadPayload}
 use Rattle.rules.specs.World.{World, empty_world}
+use Rattle.rules.specs.History.{with_entries}
+use Rattle.rules.specs.FirstUses.{with_uses}
+use Rattle.rules.specs.Fold.{running, entries_to, flags}
+use Rattle.rules.specs.Commit.{txs_of, job_of, committed_of, committed}
 use Rattle.rules.specs.Step.{Step}
 
 -- block 0 with the transactions `a` and none, and blocks without any
@@ -26,12 +33,24 @@ hash_0 = header_hash_of block_0.header
 abbrev empty_block : ℕ → Previous → Block
 empty_block n previous = record { header = record { number = n; previous = previous; data_hash = data_hash_of [] }; txs = [] }
 
+-- with the data hash of block 0
+abbrev wrong_block : ℕ → Previous → Block
+wrong_block n previous = record { header = record { number = n; previous = previous; data_hash = data_hash_of txs_0 }; txs = [] }
+
 abbrev bytes_of : Block → List ℕ
 bytes_of b = header_bytes b.header ++ txs_bytes (length b.txs) b.txs
 
--- the world after block 0
+-- the world after block 0: two bad payloads
 abbrev world_1 : World
-world_1 = record { blocks = record { bytes = bytes_of block_0; header_hash = hash_0; flags = BadPayload ∷ BadPayload ∷ [] } ∷ [] }
+world_1 = record { state = empty; history = empty; first_uses = empty; blocks = record { bytes = bytes_of block_0; header_hash = hash_0; flags = BadPayload ∷ BadPayload ∷ [] } ∷ [] }
+
+abbrev no_txs : List (Option Tx)
+no_txs = None ∷ None ∷ []
+
+-- neither `a` nor no bytes are a transaction
+no_txs_in_0 : txs_of block_0 ≡ no_txs
+unfolding name_at body_at tx_at whole_tx_at
+no_txs_in_0 = refl
 
 -- given that hashes have 32 bytes
 module _ (channel : Configuration) (accepts : Accepts) (data_hash_len : (txs : List (List ℕ)) → length (data_hash_of txs) ≡ 32) (header_hash_len : (h : Header) → length (header_hash_of h) ≡ 32) where
@@ -41,9 +60,25 @@ module _ (channel : Configuration) (accepts : Accepts) (data_hash_len : (txs : L
   spelled_after_0 : (n : ℕ) → n ≤ 3 → Spells (bytes_of (empty_block n (Hash hash_0))) (empty_block n (Hash hash_0))
   spelled_after_0 n small = record { header = record { number = omega arith; previous = header_hash_len block_0.header; data_hash = data_hash_len [] }; count = omega arith; each = tt; fields = refl }
 
+  spelled_wrong : Spells (bytes_of (wrong_block 1 (Hash hash_0))) (wrong_block 1 (Hash hash_0))
+  spelled_wrong = record { header = record { number = omega arith; previous = header_hash_len block_0.header; data_hash = data_hash_len txs_0 }; count = omega arith; each = tt; fields = refl }
+
+  flags_0 : BadPayload ∷ BadPayload ∷ [] ≡ flags (job_of channel accepts empty_world no_txs)
+  flags_0 = refl
+
+  kept_0 : world_1 ≡ committed channel accepts empty_world no_txs (committed_of (bytes_of block_0) block_0 (job_of channel accepts empty_world no_txs))
+  unfolding running entries_to with_entries with_uses
+  kept_0 = refl
+
   -- accepted, with a flag for each transaction
   block_0_first : Step channel accepts empty_world (bytes_of block_0) (Ok (record { number = 0; header_hash = hash_0; flags = BadPayload ∷ BadPayload ∷ [] })) world_1
-  block_0_first = (block_0, spelled_0, record { number = refl; previous = refl; data_hash = refl }, refl, refl)
+  block_0_first = (
+    block_0,
+    spelled_0,
+    record { number = refl; previous = refl; data_hash = refl },
+    ap (λ (txs : List (Option Tx)). record { number = 0; header_hash = hash_0; flags = flags (job_of channel accepts empty_world txs) }) (sym no_txs_in_0),
+    kept_0 ∙ ap (λ (txs : List (Option Tx)). committed channel accepts empty_world txs (committed_of (bytes_of block_0) block_0 (job_of channel accepts empty_world txs))) (sym no_txs_in_0),
+  )
 
   block_0_again : Step channel accepts world_1 (bytes_of block_0) (Err (WrongNumber 1 0)) world_1
   block_0_again = ((block_0, spelled_0, ((λ e. absurd (omega arith)), refl, refl)), refl)
@@ -52,11 +87,17 @@ module _ (channel : Configuration) (accepts : Accepts) (data_hash_len : (txs : L
   block_2_too_early : Step channel accepts world_1 (bytes_of (empty_block 2 (Hash hash_0))) (Err (WrongNumber 1 2)) world_1
   block_2_too_early = ((empty_block 2 (Hash hash_0), spelled_after_0 2 (omega arith), ((λ e. absurd (omega arith)), refl, refl)), refl)
 
-  block_1_next : Step channel accepts world_1 (bytes_of (empty_block 1 (Hash hash_0)))
-      (Ok (record { number = 1; header_hash = header_hash_of (empty_block 1 (Hash hash_0)).header; flags = [] }))
-      (record { blocks = world_1.blocks ++ record { bytes = bytes_of (empty_block 1 (Hash hash_0)); header_hash = header_hash_of (empty_block 1 (Hash hash_0)).header; flags = [] } ∷ [] })
+  abbrev world_2 : World
+  world_2 = record { state = empty; history = empty; first_uses = empty; blocks = world_1.blocks ++ record { bytes = bytes_of (empty_block 1 (Hash hash_0)); header_hash = header_hash_of (empty_block 1 (Hash hash_0)).header; flags = [] } ∷ [] }
+
+  block_1_next : Step channel accepts world_1 (bytes_of (empty_block 1 (Hash hash_0))) (Ok (record { number = 1; header_hash = header_hash_of (empty_block 1 (Hash hash_0)).header; flags = [] })) world_2
+  unfolding running entries_to with_entries with_uses
   block_1_next = (empty_block 1 (Hash hash_0), spelled_after_0 1 (omega arith), record { number = refl; previous = refl; data_hash = refl }, refl, refl)
 
   -- block 0 with a previous hash
   block_0_with_previous : Step channel accepts empty_world (bytes_of (empty_block 0 (Hash hash_0))) (Err WrongPrevious) empty_world
   block_0_with_previous = ((empty_block 0 (Hash hash_0), spelled_after_0 0 (omega arith), (refl, (λ e. absurd cc))), refl)
+
+  -- another data hash than that of no transactions, given that the two differ
+  block_1_wrong : (data_hash_of txs_0 ≡ data_hash_of [] → ⊥) → Step channel accepts world_1 (bytes_of (wrong_block 1 (Hash hash_0))) (Err WrongDataHash) world_1
+  block_1_wrong apart = ((wrong_block 1 (Hash hash_0), spelled_wrong, (refl, refl, apart)), refl)

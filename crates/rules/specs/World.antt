@@ -1,21 +1,28 @@
 -- What a ledger holds.
 use Rattle.std.specs.Prelude.{ℕ, ◌-◌, List, [], length, Option, Some, None, option_map, slice_get}
+use Rattle.std.specs.FinMap.{empty}
 use Rattle.block.specs.declared.block.Previous.{Previous}
 use Rattle.block.specs.declared.block.Previous.TheVariants.{Empty, Hash}
 use Rattle.rules.specs.declared.committed.CommittedBlock.{CommittedBlock}
+use Rattle.rules.specs.State.{State}
+use Rattle.rules.specs.History.{History}
+use Rattle.rules.specs.FirstUses.{FirstUses}
 
 pub record World : Type 0 where
+  pub state : State
+  pub history : History
+  pub first_uses : FirstUses
   -- the accepted blocks in order
   pub blocks : List CommittedBlock
 
 abbrev pub empty_world : World
-empty_world = record { blocks = [] }
+empty_world = record { state = empty; history = empty; first_uses = empty; blocks = [] }
 
 -- the number of accepted blocks
 abbrev pub height_of : World → ℕ
 height_of w = length w.blocks
 
--- the header hash of the last block, or none at height 0
+-- the header hash of the last block; at height 0 place 0 - 1 = 0 has none
 abbrev pub last_header_hash : World → Option (List ℕ)
 last_header_hash w = option_map (λ b. b.header_hash) (slice_get w.blocks (length w.blocks - 1))
 
@@ -23,7 +30,3 @@ last_header_hash w = option_map (λ b. b.header_hash) (slice_get w.blocks (lengt
 abbrev pub previous_from : Option (List ℕ) → Previous
 previous_from None = Empty
 previous_from (Some hash) = Hash hash
-
--- the block of a number
-abbrev pub block_of_number : World → ℕ → Option CommittedBlock
-block_of_number w n = slice_get w.blocks n

@@ -18,8 +18,9 @@ pub struct Accepted {
     pub flags: Items<Flag>,
 }
 
-/// Why a string of bytes isn't accepted as the next block. The first one in this order is answered,
-/// but want of memory may come in the place of any.
+/// Why a string of bytes isn't accepted as the next block. Of the first four the first that holds is
+/// answered. Want of memory may come in the place of any of them, or of an acceptance, where a growth
+/// was refused.
 #[derive(Clone, Copy, Debug, PartialEq, Eq, Error)]
 pub enum Refused {
     /// The bytes are no block.

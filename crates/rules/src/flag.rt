@@ -1,11 +1,34 @@
 ghost use Rattle.std.specs.Prelude.{◌≡◌};
-ghost use Rattle.rules.specs.Flags.{number_of};
+ghost use Rattle.rules.specs.Flags.{number_of, is_valid};
 
-/// What validation says of a transaction: a name and number of Fabric's `peer.TxValidationCode`.
+/// What validation says of a transaction: a name and number of Fabric's `peer.TxValidationCode`. They stand
+/// here by number, and are tested in the order that the definitions of candidates and of the fold give.
 #[derive(Clone, Copy, Debug, PartialEq, Eq)]
 pub enum Flag {
+    /// Its writes are applied.
+    Valid,
     /// The bytes are no transaction.
     BadPayload,
+    /// The verifier refuses the creator's signature.
+    BadCreatorSignature,
+    /// The id isn't that of the nonce and the creator.
+    BadProposalTxId,
+    /// The id was used before: by an earlier transaction for this channel, with a good creator's signature
+    /// and its own id, whatever its flag.
+    DuplicateTxId,
+    /// A policy isn't satisfied, or the policy of a key that it writes was written earlier in the block by a
+    /// transaction that passed this check.
+    EndorsementPolicyFailure,
+    /// A key has another version than the one that was read, or is there or absent against the read.
+    MvccReadConflict,
+    /// A range has other keys or versions than those that were read.
+    PhantomReadConflict,
+    /// It is for another channel.
+    TargetChainNotFound,
+    /// The read and write sets aren't in form.
+    BadRwset,
+    /// A chaincode has no definition.
+    InvalidChaincode,
 }
 
 impl Flag {
@@ -14,7 +37,23 @@ impl Flag {
         ensures { result ≡ number_of self }
     {
         match self {
+            Flag::Valid => 0,
             Flag::BadPayload => 2,
+            Flag::BadCreatorSignature => 4,
+            Flag::BadProposalTxId => 8,
+            Flag::DuplicateTxId => 9,
+            Flag::EndorsementPolicyFailure => 10,
+            Flag::MvccReadConflict => 11,
+            Flag::PhantomReadConflict => 12,
+            Flag::TargetChainNotFound => 14,
+            Flag::BadRwset => 22,
+            Flag::InvalidChaincode => 25,
         }
+    }
+
+    pub fn is_valid(self) -> bool
+        ensures { result ≡ is_valid self }
+    {
+        self == Flag::Valid
     }
 }

@@ -12,17 +12,20 @@ const WORDS: [&str; 6] = ["run", "--channel", "c.txt", "--keys", "k.txt", "b0"];
 #[test]
 fn faults_of_the_channel_text(rt: HostRuntime) -> Result<(), Fail> {
     let block = empty_block(rt.alloc(), 0, b"")?;
-    let rows: [(&[u8], &str); 8] = [
+    let rows: [(&[u8], &str); 10] = [
         // A line that isn't UTF-8 goes before the fault of an earlier one.
         (b"nonsense\n\xffchannel ch\n", "c.txt line 2\n"),
         (b"nonsense\nchannel ch\n", "c.txt line 1\n"),
         (b"# \n\nchannel ch\nchannel ch\n", "c.txt line 4\n"),
         (
-            b"channel ch\nchaincode cc P\nchaincode cc P\n",
+            b"channel ch\nchaincode cc 'A.peer'\nchaincode cc 'A.peer'\n",
             "c.txt line 3\n",
         ),
         (b"channel ch\nchaincode cc\n", "c.txt line 2\n"),
-        (b"chaincode cc P\n", "c.txt no channel\n"),
+        // A line whose policy has a fault, which isn't told.
+        (b"channel ch\nchaincode cc AND(\n", "c.txt line 2\n"),
+        (b"channel ch\nchaincode cc 'A.boss'\n", "c.txt line 2\n"),
+        (b"chaincode cc 'A.peer'\n", "c.txt no channel\n"),
         (b"", "c.txt no channel\n"),
         (b"\xff", "c.txt line 1\n"),
     ];
@@ -42,7 +45,7 @@ fn faults_of_the_channel_text(rt: HostRuntime) -> Result<(), Fail> {
 fn too_many_chaincodes(rt: HostRuntime) -> Result<(), Fail> {
     let mut channel = String::from_str(rt.alloc(), "channel ch\n")?;
     for i in 0..257u16 {
-        let line = format!(in rt.alloc(); "chaincode c{i} P\n")?;
+        let line = format!(in rt.alloc(); "chaincode c{i} 'A.peer'\n")?;
         channel.push_str(line.as_str())?;
     }
     expect(

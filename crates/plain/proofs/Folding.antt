@@ -1,0 +1,93 @@
+-- What runs along in the code is what runs along in the definition.
+use Rattle.std.proofs.Common.{◌≡◌, ℕ, suc, ◌+◌, ◌<◌, Bool, cond, List, [], ◌∷◌, ◌++◌, length, get_or, map, Option, refl, sym, ap, ◌∙◌, add-one, arith}
+use Rattle.std.specs.List.{range_with_len}
+use Rattle.std.proofs.lemmas.List.{get_or-map}
+use Rattle.std.proofs.lemmas.List.FromFn.{map-range_with_len_more}
+use Rattle.policy.specs.Policies.{Policies}
+use Rattle.rules.specs.declared.flag.Flag.{Flag}
+use Rattle.rules.specs.declared.flag.Flag.TheVariants.{BadPayload}
+use Rattle.rules.specs.declared.history.HistoryEntry.{HistoryEntry}
+use Rattle.rules.specs.declared.row.Row.{Row}
+use Rattle.rules.specs.Flags.{is_valid}
+use Rattle.rules.specs.State.{State, StateKey, ChangeOf, with_changes}
+use Rattle.rules.specs.Candidate as rules
+use Rattle.rules.specs.World.{World}
+use Rattle.rules.specs.Job.{Job, candidate_at, version_of, touched_by, changes_by, entries_by, endorsement_by, reads_by, flag_by}
+use Rattle.rules.specs.Fold.{running, endorsed, flag, changes_to, entries_to}
+use Rattle.rules.specs.Delta.{changes_in, entries_in}
+use Rattle.rules.proofs.Deltas.{changes_to-running}
+use Rattle.plain.specs.declared.candidate.Candidate.{Candidate}
+use Rattle.plain.specs.declared.fold.Running.{Running}
+use Rattle.plain.specs.Keys.{keys_of}
+use Rattle.plain.specs.Seen.{seen, job_over}
+use Rattle.plain.specs.Taking.{state_in, endorsement_in, flag_in, IsRunning, IsTaken}
+
+module _ (definitions : Policies) (w : World) (cs : List Candidate) where
+  abbrev j : Job
+  j = job_over definitions w cs
+
+  candidate-seen : (i : ℕ) (c : Candidate) → i < length cs → c ≡ get_or cs i c → candidate_at j i ≡ seen c
+  candidate-seen i c lt is = get_or-map seen cs i c (rules.flagged BadPayload) lt ∙ ap seen (sym is)
+
+  module _ (i : ℕ) (c : rules.Candidate) (old : Running) (here : candidate_at j i ≡ c) (before : IsRunning j i old) where
+    state-is : state_in w.state old ≡ (running j i).state
+    state-is = ap (with_changes w.state) before.changes ∙ changes_to-running j i
+
+    endorsement-is : endorsement_in definitions w.state old c ≡ endorsed j i
+    endorsement-is = ap (λ t. endorsement_by definitions w.state t c) before.touched ∙ ap (endorsement_by definitions w.state (running j i).touched) (sym here)
+
+    flag-is : flag_in definitions w.state old c ≡ flag j i
+    flag-is =
+        ap (λ e. flag_by c e (reads_by (state_in w.state old) c)) endorsement-is
+        ∙ ap (λ s. flag_by c (endorsed j i) (reads_by s c)) state-is
+        ∙ ap (λ x. flag_by x (endorsed j i) (reads_by (running j i).state x)) (sym here)
+
+    touched-is : cond (endorsement_in definitions w.state old c) (touched_by c ++ keys_of old.touched.items) (keys_of old.touched.items) ≡ (running j (suc i)).touched
+    unfolding running
+    touched-is =
+        ap (λ e. cond e (touched_by c ++ keys_of old.touched.items) (keys_of old.touched.items)) endorsement-is
+        ∙ ap (λ t. cond (endorsed j i) (touched_by c ++ t) t) before.touched
+        ∙ ap (λ x. cond (endorsed j i) (touched_by x ++ (running j i).touched) (running j i).touched) (sym here)
+
+    changes-is : changes_in old.changes.items ++ cond (is_valid (flag_in definitions w.state old c)) (changes_by (version_of j i) c (state_in w.state old)) [] ≡ changes_to j (suc i)
+    unfolding changes_to
+    changes-is =
+        ap (λ l. l ++ cond (is_valid (flag_in definitions w.state old c)) (changes_by (version_of j i) c (state_in w.state old)) []) before.changes
+        ∙ ap (λ f. changes_to j i ++ cond (is_valid f) (changes_by (version_of j i) c (state_in w.state old)) []) flag-is
+        ∙ ap (λ s. changes_to j i ++ cond (is_valid (flag j i)) (changes_by (version_of j i) c s) []) state-is
+        ∙ ap (λ x. changes_to j i ++ cond (is_valid (flag j i)) (changes_by (version_of j i) x (running j i).state) []) (sym here)
+
+    entries-is : entries_in old.entries.items ++ cond (is_valid (flag_in definitions w.state old c)) (entries_by (version_of j i) c) [] ≡ entries_to j (suc i)
+    unfolding entries_to
+    entries-is =
+        ap (λ l. l ++ cond (is_valid (flag_in definitions w.state old c)) (entries_by (version_of j i) c) []) before.entries
+        ∙ ap (λ f. entries_to j i ++ cond (is_valid f) (entries_by (version_of j i) c) []) flag-is
+        ∙ ap (λ x. entries_to j i ++ cond (is_valid (flag j i)) (entries_by (version_of j i) x) []) (sym here)
+
+    flags-is : old.flags.items ++ flag_in definitions w.state old c ∷ [] ≡ map (flag j) (range_with_len 0 (i + 1))
+    flags-is =
+        ap (λ l. l ++ flag_in definitions w.state old c ∷ []) before.flags
+        ∙ ap (λ f. map (flag j) (range_with_len 0 i) ++ f ∷ []) flag-is
+        ∙ sym (map-range_with_len_more (flag j) 0 i i (omega arith))
+
+  -- one candidate more was taken
+  pub running-more : (i : ℕ) (c : Candidate) (old new : Running) → i < length cs → c ≡ get_or cs i c → IsRunning j i old
+      → IsTaken definitions w.state (version_of j i) (seen c) old new
+      → new.flags.items ≡ old.flags.items ++ flag_in definitions w.state old (seen c) ∷ []
+      → IsRunning j (i + 1) new
+  running-more i c old new lt is before taken flags =
+      let here = candidate-seen i c lt is in record {
+        touched = taken.touched ∙ touched-is i (seen c) old here before ∙ ap (λ k. (running j k).touched) (sym (add-one i));
+        changes = taken.changes ∙ changes-is i (seen c) old here before ∙ ap (changes_to j) (sym (add-one i));
+        entries = taken.entries ∙ entries-is i (seen c) old here before ∙ ap (entries_to j) (sym (add-one i));
+        flags = flags ∙ flags-is i (seen c) old here before;
+      }
+
+  pub running-first : (r : Running) → r.touched.items ≡ [] → r.changes.items ≡ [] → r.entries.items ≡ [] → r.flags.items ≡ [] → IsRunning j 0 r
+  unfolding running changes_to entries_to
+  running-first r touched changes entries flags = record {
+    touched = ap keys_of touched;
+    changes = ap changes_in changes;
+    entries = ap entries_in entries;
+    flags = flags;
+  }

@@ -1,0 +1,6 @@
+use Rattle.plain.specs.Seen.{job_over}
+use Rattle.plain.specs.Taking.{IsRunning}
+use Rattle.plain.proofs.fold.fold.Given as goal
+
+abbrev pub invariant-loop-tx : goal.invariant-loop-tx
+invariant-loop-tx l = IsRunning (job_over l.definitions l.world l.candidates) l.tx l.running

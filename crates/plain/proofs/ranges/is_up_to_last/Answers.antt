@@ -1,0 +1,16 @@
+use Rattle.std.proofs.Common.{ap, ◌∙◌}
+use Rattle.std.specs.Ordering.{is_le}
+use Rattle.policy.specs.Policies.{bytes_cmp}
+use Rattle.rules.specs.Ranges.{is_up_to}
+use Rattle.plain.proofs.RangeChecks.{last_is}
+use Rattle.plain.proofs.ranges.is_up_to_last.Goals as goal
+
+pub returns-in-None : goal.returns-in-None
+returns-in-None c = ap (is_up_to c.args.key.now) (c.in-None.ensures ∙ last_is c.args.range.now.results)
+
+pub returns-in-Some : goal.returns-in-Some
+returns-in-Some c =
+    c.is_at_most.ensures
+    ∙ ap (λ k. is_le (bytes_cmp k c.as_slice-in-Some.result.now)) c.as_slice.ensures.value
+    ∙ ap (λ k. is_le (bytes_cmp c.args.key.now k)) c.as_slice-in-Some.ensures.value
+    ∙ ap (is_up_to c.args.key.now) (c.in-Some.ensures ∙ last_is c.args.range.now.results)

@@ -1,0 +1,7 @@
+use Rattle.std.proofs.Common.{◌≡◌, ◌++◌, take, map}
+use Rattle.plain.specs.Keys.{keys_of}
+use Rattle.rules.specs.Effect as effect
+use Rattle.plain.proofs.state_key.add_value_keys.Given as goal
+
+abbrev pub invariant-loop-write : goal.invariant-loop-write
+invariant-loop-write l = keys_of l.keys.items ≡ keys_of l.initial.keys.items ++ map (λ w. (l.set.name, w.key)) (take l.write-index l.set.writes)

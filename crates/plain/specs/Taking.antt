@@ -1,0 +1,38 @@
+-- What taking one candidate makes of what runs along in the code.
+use Rattle.std.specs.Prelude.{◌≡◌, ℕ, List, [], ◌∷◌, ◌++◌, Bool, if◌then◌else◌, map}
+use Rattle.std.specs.List.{range_with_len}
+use Rattle.block.specs.declared.transaction.Version.{Version}
+use Rattle.policy.specs.Policies.{Policies}
+use Rattle.rules.specs.declared.flag.Flag.{Flag}
+use Rattle.rules.specs.Flags.{is_valid}
+use Rattle.rules.specs.State.{State, with_changes}
+use Rattle.rules.specs.Delta.{changes_in, entries_in}
+use Rattle.rules.specs.Candidate.{Candidate}
+use Rattle.rules.specs.Job.{Job, touched_by, changes_by, entries_by, endorsement_by, reads_by, flag_by}
+use Rattle.rules.specs.Fold.{running, flag, changes_to, entries_to}
+use Rattle.plain.specs.declared.fold.Running.{Running}
+use Rattle.plain.specs.Keys.{keys_of}
+
+-- it has what the candidates before i give
+pub record IsRunning (j : Job) (i : ℕ) (r : Running) : Type 0 where
+  pub touched : keys_of r.touched.items ≡ (running j i).touched
+  pub changes : changes_in r.changes.items ≡ changes_to j i
+  pub entries : entries_in r.entries.items ≡ entries_to j i
+  pub flags : r.flags.items ≡ map (flag j) (range_with_len 0 i)
+
+-- ---- one candidate more, over the state before the block
+
+abbrev pub state_in : State → Running → State
+state_in before r = with_changes before (changes_in r.changes.items)
+
+abbrev pub endorsement_in : Policies → State → Running → Candidate → Bool
+endorsement_in definitions before r c = endorsement_by definitions before (keys_of r.touched.items) c
+
+abbrev pub flag_in : Policies → State → Running → Candidate → Flag
+flag_in definitions before r c = flag_by c (endorsement_in definitions before r c) (reads_by (state_in before r) c)
+
+-- its flag aside
+pub record IsTaken (definitions : Policies) (before : State) (v : Version) (c : Candidate) (old new : Running) : Type 0 where
+  pub touched : keys_of new.touched.items ≡ (if endorsement_in definitions before old c then touched_by c ++ keys_of old.touched.items else keys_of old.touched.items)
+  pub changes : changes_in new.changes.items ≡ changes_in old.changes.items ++ (if is_valid (flag_in definitions before old c) then changes_by v c (state_in before old) else [])
+  pub entries : entries_in new.entries.items ≡ entries_in old.entries.items ++ (if is_valid (flag_in definitions before old c) then entries_by v c else [])

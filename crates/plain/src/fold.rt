@@ -1,0 +1,196 @@
+//! Candidates one by one in order.
+ghost use Rattle.std.specs.Prelude.{◌≡◌, ◌<◌, ◌^◌, ◌++◌, ◌∷◌, [], if◌then◌else◌, length, IfOk, OnOk};
+ghost use Rattle.rules.specs.Delta.{changes_in, entries_in};
+ghost use Rattle.rules.specs.Candidate as rules;
+ghost use Rattle.rules.specs.Effect as effect;
+ghost use Rattle.rules.specs.History as history;
+ghost use Rattle.rules.specs.Fold as fold;
+ghost use Rattle.rules.specs.Job as job;
+ghost use Rattle.rules.specs.Reads as reads;
+ghost use Rattle.rules.specs.Flags.{is_valid};
+ghost use Rattle.plain.specs.Keys.{keys_of};
+ghost use Rattle.plain.specs.Seen.{seen, job_over};
+ghost use Rattle.plain.specs.Taking.{state_in, flag_in, IsRunning, IsTaken};
+
+use crate::candidate::{Candidate, OpenTx};
+use crate::effect::{changes_of, entries_of};
+use crate::endorsement::is_endorsed;
+use crate::reads::read_verdict;
+use crate::state::StateNow;
+use crate::state_key::{StateKey, policy_keys};
+use crate::world::World;
+use block::{Tx, Version};
+use policy::Definitions;
+use rules::{Change, Flag, NewEntry, ReadVerdict};
+use std::alloc::{AllocError, Global};
+
+/// What runs along: the keys whose policy was touched, and what the candidates so far have given.
+#[derive(Drop)]
+pub(crate) struct Running<'a> {
+    touched: Vec<StateKey<'a>>,
+    pub changes: Vec<Change>,
+    pub entries: Vec<NewEntry>,
+    pub flags: Vec<Flag>,
+}
+
+fn read_flag(verdict: ReadVerdict) -> Flag
+    ensures { result ≡ job.read_flag verdict }
+{
+    match verdict {
+        ReadVerdict::Good => Flag::Valid,
+        ReadVerdict::Stale => Flag::MvccReadConflict,
+        ReadVerdict::Phantom => Flag::PhantomReadConflict,
+    }
+}
+
+impl<'a> Running<'a> {
+    fn new(alloc: Global) -> Running<'a>
+        ensures touched { result.touched.items ≡ [] }
+        ensures changes { result.changes.items ≡ [] }
+        ensures entries { result.entries.items ≡ [] }
+        ensures flags { result.flags.items ≡ [] }
+    {
+        Running {
+            touched: Vec::new(alloc),
+            changes: Vec::new(alloc),
+            entries: Vec::new(alloc),
+            flags: Vec::new(alloc),
+        }
+    }
+
+    /// Applies a valid transaction.
+    fn apply(
+        &mut self,
+        alloc: Global,
+        world: &World,
+        version: Version,
+        tx: &Tx,
+    ) -> Result<(), AllocError>
+        ensures changes { OnOk result (changes_in self.new.changes.items ≡ changes_in self.old.changes.items ++ effect.changes_of version tx.now (state_in world.now.state self.old)) }
+        ensures entries { OnOk result (entries_in self.new.entries.items ≡ entries_in self.old.entries.items ++ history.entries_of version tx.now) }
+        ensures touched { OnOk result (self.new.touched.items ≡ self.old.touched.items) }
+        ensures flags { OnOk result (self.new.flags.items ≡ self.old.flags.items) }
+    {
+        let state = StateNow {
+            world,
+            changes: self.changes.as_slice(),
+        };
+        let mut changes = changes_of(alloc, version, tx, state)?;
+        self.changes.append(&mut changes)?;
+        entries_of(alloc, &mut self.entries, version, tx)
+    }
+
+    /// The keys whose policy the transaction writes are touched from now on.
+    fn touch(&mut self, alloc: Global, tx: &'a Tx) -> Result<(), AllocError>
+        ensures touched { OnOk result (keys_of self.new.touched.items ≡ effect.policy_keys tx.now ++ keys_of self.old.touched.items) }
+        ensures changes { OnOk result (self.new.changes.items ≡ self.old.changes.items) }
+        ensures entries { OnOk result (self.new.entries.items ≡ self.old.entries.items) }
+        ensures flags { OnOk result (self.new.flags.items ≡ self.old.flags.items) }
+    {
+        let mut touched = policy_keys(alloc, tx)?;
+        touched.extend_from_slice(self.touched.as_slice())?;
+        self.touched = touched;
+        Ok(())
+    }
+
+    /// What an open transaction's reads say, which is applied where they are good.
+    fn read(
+        &mut self,
+        alloc: Global,
+        world: &World,
+        version: Version,
+        open_tx: &OpenTx,
+    ) -> Result<Flag, AllocError>
+        ensures flag { IfOk result (λ flag. flag ≡ job.read_flag (reads.read_verdict (state_in world.now.state self.old) open_tx.now.tx)) }
+        ensures changes { IfOk result (λ flag. changes_in self.new.changes.items ≡ changes_in self.old.changes.items ++ (if is_valid flag then effect.changes_of version open_tx.now.tx (state_in world.now.state self.old) else [])) }
+        ensures entries { IfOk result (λ flag. entries_in self.new.entries.items ≡ entries_in self.old.entries.items ++ (if is_valid flag then history.entries_of version open_tx.now.tx else [])) }
+        ensures touched { OnOk result (self.new.touched.items ≡ self.old.touched.items) }
+        ensures flags { OnOk result (self.new.flags.items ≡ self.old.flags.items) }
+    {
+        let state = StateNow {
+            world,
+            changes: self.changes.as_slice(),
+        };
+        let flag = read_flag(read_verdict(state, &open_tx.tx));
+        if flag.is_valid() {
+            self.apply(alloc, world, version, &open_tx.tx)?;
+        }
+        Ok(flag)
+    }
+
+    fn take_open(
+        &mut self,
+        alloc: Global,
+        definitions: &Definitions,
+        world: &World,
+        version: Version,
+        open_tx: &'a OpenTx,
+    ) -> Result<Flag, AllocError>
+        ensures flag { IfOk result (λ flag. flag ≡ flag_in definitions.now world.now.state self.old (rules.opened open_tx.now.tx open_tx.now.signers)) }
+        ensures taken { OnOk result (IsTaken definitions.now world.now.state version (rules.opened open_tx.now.tx open_tx.now.signers) self.old self.new) }
+        ensures flags { OnOk result (self.new.flags.items ≡ self.old.flags.items) }
+    {
+        let touched = self.touched.as_slice();
+        if !is_endorsed(
+            alloc,
+            definitions,
+            world,
+            touched,
+            &open_tx.tx,
+            &open_tx.signers,
+        )? {
+            return Ok(Flag::EndorsementPolicyFailure);
+        }
+        let flag = self.read(alloc, world, version, open_tx)?;
+        self.touch(alloc, &open_tx.tx)?;
+        Ok(flag)
+    }
+
+    /// One candidate more, whose writes have this version.
+    fn take(
+        &mut self,
+        alloc: Global,
+        definitions: &Definitions,
+        world: &World,
+        version: Version,
+        candidate: &'a Candidate,
+    ) -> Result<(), AllocError>
+        ensures taken { OnOk result (IsTaken definitions.now world.now.state version (seen candidate.now) self.old self.new) }
+        ensures flags { OnOk result (self.new.flags.items ≡ self.old.flags.items ++ flag_in definitions.now world.now.state self.old (seen candidate.now) ∷ []) }
+    {
+        let flag = match candidate {
+            Candidate::Flagged(flag) => *flag,
+            Candidate::Open(open_tx) => self.take_open(
+                alloc,
+                definitions,
+                world,
+                version,
+                open_tx,
+            )?,
+        };
+        self.flags.push(flag)?;
+        Ok(())
+    }
+}
+
+/// Takes the candidates of the next block of the world.
+pub(crate) fn fold<'a>(
+    alloc: Global,
+    definitions: &Definitions,
+    world: &World,
+    candidates: &'a [Candidate],
+) -> Result<Running<'a>, AllocError>
+    requires { length candidates.now < 2 ^ 32 }
+    ensures { IfOk result (λ r. IsRunning (job_over definitions.now world.now candidates.now) (length candidates.now) r) }
+{
+    let mut running = Running::new(alloc);
+    let block = world.height();
+    for (tx, candidate) in candidates.iter().enumerate() {
+        let version = Version {
+            block,
+            tx: tx as u32,
+        };
+        running.take(alloc, definitions, world, version, candidate)?;
+    }
+    Ok(running)
+}

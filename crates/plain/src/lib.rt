@@ -1,0 +1,23 @@
+//! A serial committer over plain lists, slow and obvious: it computes the definitions of `rules` as they stand.
+//! Faster committers are compared with it.
+#![tactic(auto)]
+
+mod candidate;
+mod effect;
+mod endorsement;
+mod fold;
+mod intake;
+mod linking;
+mod ranges;
+mod reads;
+mod sets;
+mod state;
+mod state_key;
+mod step;
+mod world;
+
+pub use step::submit;
+pub use world::World;
+
+#[cfg(test)]
+mod tests;

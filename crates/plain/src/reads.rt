@@ -1,0 +1,74 @@
+//! The read rule.
+ghost use Rattle.std.specs.Prelude.{◌≡◌, IsTrue};
+ghost use Rattle.std.specs.List.{list_all};
+ghost use Rattle.rules.specs.Ranges.{range_holds};
+ghost use Rattle.rules.specs.ReadWriteSets.{has_sound_results, is_sound_set, is_sound};
+ghost use Rattle.rules.specs.Reads.{read_holds, set_verdict, read_verdict};
+ghost use Rattle.plain.specs.StateNow.{state_now};
+
+use crate::ranges::range_holds;
+use crate::state::StateNow;
+use crate::state_key::StateKey;
+use block::{NsSet, Range, Read, Tx};
+use rules::ReadVerdict;
+use values::Name;
+
+fn read_holds(state: StateNow<'_>, namespace: &Name, read: &Read) -> bool
+    ensures { result ≡ read_holds (state_now state.entry) namespace.now read.now }
+{
+    let key = StateKey {
+        namespace,
+        key: &read.key,
+    };
+    state.version(key) == read.version
+}
+
+fn reads_hold(state: StateNow<'_>, namespace: &Name, reads: &[Read]) -> bool
+    ensures { result ≡ list_all (read_holds (state_now state.entry) namespace.now) reads.now }
+{
+    for read in reads {
+        if !read_holds(state, namespace, read) {
+            return false;
+        }
+    }
+    true
+}
+
+fn ranges_hold(state: StateNow<'_>, namespace: &Name, ranges: &[Range]) -> bool
+    requires { IsTrue (list_all has_sound_results ranges.now) }
+    ensures { result ≡ list_all (range_holds (state_now state.entry) namespace.now) ranges.now }
+{
+    for range in ranges {
+        if !range_holds(state, namespace, range) {
+            return false;
+        }
+    }
+    true
+}
+
+fn set_verdict(state: StateNow<'_>, set: &NsSet) -> ReadVerdict
+    requires { IsTrue (is_sound_set set.now) }
+    ensures { result ≡ set_verdict (state_now state.entry) set.now }
+{
+    if !reads_hold(state, &set.name, set.reads.as_slice()) {
+        ReadVerdict::Stale
+    } else if !ranges_hold(state, &set.name, set.ranges.as_slice()) {
+        ReadVerdict::Phantom
+    } else {
+        ReadVerdict::Good
+    }
+}
+
+/// The first fault of the reads and ranges, namespaces in order.
+pub(crate) fn read_verdict(state: StateNow<'_>, tx: &Tx) -> ReadVerdict
+    requires { IsTrue (is_sound tx.now) }
+    ensures { result ≡ read_verdict (state_now state.entry) tx.now }
+{
+    for set in tx.namespaces.as_slice() {
+        match set_verdict(state, set) {
+            ReadVerdict::Good => {}
+            fault => return fault,
+        }
+    }
+    ReadVerdict::Good
+}

@@ -1,0 +1,142 @@
+//! Refused bytes between the blocks of the chain.
+
+use super::vectors::first_blocks::FIRST_BLOCKS;
+use super::vectors::later_blocks::LATER_BLOCKS;
+use super::vectors::worked::TRANSACTION_WITHOUT_BYTES;
+use super::{CHANNEL, SaysOk, shown};
+use crate::{World, submit};
+use block::BlockFault;
+use channel::Channel;
+use rules::{Flag, Refused};
+use std::alloc::Global;
+use std::process::Abort;
+use std::test::Fail;
+
+// The bytes with the lowest bit of one flipped.
+fn flipped(alloc: Global, bytes: &[u8], place: usize) -> Result<Vec<u8>, Fail> {
+    let mut changed = Vec::from_slice(alloc, bytes)?;
+    let byte = changed.get_mut(place).ok_or("a byte is there")?;
+    *byte ^= 1;
+    Ok(changed)
+}
+
+// The bytes are refused, and the world is shown as before.
+fn refused(
+    rt: &(impl Abort + AllocGlobal),
+    channel: &Channel,
+    world: &mut World,
+    before: &[u8],
+    bytes: &[u8],
+    want: Refused,
+) -> Result<(), Fail> {
+    let alloc = rt.alloc();
+    let answer = submit(alloc, channel, world, bytes, &SaysOk).err();
+    assert_eq!(rt; answer, Some(want));
+    assert_eq!(rt; shown(alloc, world)?.as_slice(), before);
+    Ok(())
+}
+
+// Bytes of a header with a previous hash: 4 of magic, 8 of the number, 1, 32 of the previous hash, 32 of the
+// data hash, 4 of the count.
+fn flips(number: u64) -> [(usize, Refused); 9] {
+    let wrong_number = Refused::WrongNumber {
+        want: number,
+        got: number ^ 1,
+    };
+    [
+        (0, Refused::Malformed(BlockFault::BadMagic)),
+        (3, Refused::Malformed(BlockFault::BadMagic)),
+        (11, wrong_number),
+        (12, Refused::Malformed(BlockFault::PreviousLength)),
+        (13, Refused::WrongPrevious),
+        (44, Refused::WrongPrevious),
+        (45, Refused::WrongDataHash),
+        (76, Refused::WrongDataHash),
+        (77, Refused::Malformed(BlockFault::TooManyTxs)),
+    ]
+}
+
+const CUTS: [(usize, BlockFault); 8] = [
+    (0, BlockFault::BadMagic),
+    (3, BlockFault::BadMagic),
+    (4, BlockFault::Truncated),
+    (12, BlockFault::Truncated),
+    (44, BlockFault::Truncated),
+    (76, BlockFault::Truncated),
+    (80, BlockFault::Truncated),
+    (84, BlockFault::Truncated),
+];
+
+fn refuses_changed(
+    rt: &(impl Abort + AllocGlobal),
+    channel: &Channel,
+    world: &mut World,
+    bytes: &[u8],
+) -> Result<(), Fail> {
+    let alloc = rt.alloc();
+    let before = shown(alloc, world)?;
+    for (place, want) in flips(world.height()) {
+        let changed = flipped(alloc, bytes, place)?;
+        refused(rt, channel, world, &before, &changed, want)?;
+    }
+    for (length, fault) in CUTS {
+        let cut = bytes.get(..length).ok_or("so many bytes are there")?;
+        refused(rt, channel, world, &before, cut, Refused::Malformed(fault))?;
+    }
+    let mut longer = Vec::from_slice(alloc, bytes)?;
+    longer.push(0)?;
+    let trailing = Refused::Malformed(BlockFault::TrailingBytes);
+    refused(rt, channel, world, &before, &longer, trailing)
+}
+
+#[test]
+fn changed_bytes(rt: HostRuntime) -> Result<(), Fail> {
+    let alloc = rt.alloc();
+    let channel = Channel::read(alloc, CHANNEL)?;
+    let mut world = World::new(alloc);
+    for block in FIRST_BLOCKS.iter().chain(LATER_BLOCKS.iter()) {
+        if world.height() % 16 == 3 {
+            refuses_changed(&rt, &channel, &mut world, block.bytes)?;
+        }
+        let accepted = submit(alloc, &channel, &mut world, block.bytes, &SaysOk)?;
+        assert_eq!(rt; accepted.header_hash, *block.header_hash);
+        assert_eq!(rt; accepted.flags.len(), block.flags.len());
+    }
+    assert_eq!(rt; world.height(), 32);
+    Ok(())
+}
+
+// Each block is handed in where block 4 is next.
+#[test]
+fn other_numbers(rt: HostRuntime) -> Result<(), Fail> {
+    let alloc = rt.alloc();
+    let channel = Channel::read(alloc, CHANNEL)?;
+    let mut world = World::new(alloc);
+    for block in FIRST_BLOCKS.iter().take(4) {
+        submit(alloc, &channel, &mut world, block.bytes, &SaysOk)?;
+    }
+    let before = shown(alloc, &world)?;
+    for (number, block) in FIRST_BLOCKS.iter().enumerate() {
+        let got = number as u64;
+        if got != 4 {
+            let want = Refused::WrongNumber { want: 4, got };
+            refused(&rt, &channel, &mut world, &before, block.bytes, want)?;
+        }
+    }
+    Ok(())
+}
+
+// Block 0 has an empty previous hash.
+#[test]
+fn previous_hash_at_the_beginning(rt: HostRuntime) -> Result<(), Fail> {
+    let alloc = rt.alloc();
+    let channel = Channel::read(alloc, CHANNEL)?;
+    let mut world = World::new(alloc);
+    let before = shown(alloc, &world)?;
+    let [with_previous, without] = TRANSACTION_WITHOUT_BYTES;
+    let want = Refused::WrongPrevious;
+    refused(&rt, &channel, &mut world, &before, with_previous, want)?;
+    let accepted = submit(alloc, &channel, &mut world, without, &SaysOk)?;
+    assert_eq!(rt; accepted.flags.as_slice(), [Flag::BadPayload].as_slice());
+    Ok(())
+}

@@ -1,0 +1,45 @@
+-- The candidates and the used ids of a block's transactions, list by list.
+use Rattle.std.proofs.Common.{◌≡◌, ℕ, suc, ◌+◌, List, [], ◌∷◌, ◌++◌, length, map, Option, refl, sym, ap, ◌∙◌, append_assoc, append-nil, arith}
+use Rattle.std.specs.Prelude.{option_to_list}
+use Rattle.block.specs.declared.transaction.Tx.{Tx}
+use Rattle.policy_eval.specs.Accepts.{Accepts}
+use Rattle.channel.specs.Configuration.{Configuration}
+use Rattle.rules.specs.declared.first_use.FirstUse.{FirstUse}
+use Rattle.rules.specs.Candidate.{Candidate, used_id, is_used, candidate_of, candidates_from}
+use Rattle.rules.specs.FirstUses.{FirstUses}
+use Rattle.rules.specs.Job.{Job}
+use Rattle.rules.specs.Fold.{flag}
+use Rattle.rules.specs.Commit.{uses_from}
+
+module _ (channel : Configuration) (accepts : Accepts) where
+  -- the ids that these use
+  abbrev pub ids_of : List (Option Tx) → List (List ℕ)
+  ids_of [] = []
+  ids_of (tx ∷ txs) = option_to_list (used_id channel accepts tx) ++ ids_of txs
+
+  -- one candidate for each transaction
+  pub length-candidates_from : (uses : FirstUses) (earlier : List (List ℕ)) (txs : List (Option Tx)) → length (candidates_from channel accepts uses earlier txs) ≡ length txs
+  length-candidates_from uses earlier [] = refl
+  length-candidates_from uses earlier (tx ∷ txs) = ap suc (length-candidates_from uses (earlier ++ option_to_list (used_id channel accepts tx)) txs)
+
+  pub candidates_from-append : (uses : FirstUses) (earlier : List (List ℕ)) (txs others : List (Option Tx))
+      → candidates_from channel accepts uses earlier (txs ++ others) ≡ candidates_from channel accepts uses earlier txs ++ candidates_from channel accepts uses (earlier ++ ids_of txs) others
+  candidates_from-append uses earlier [] others = ap (λ (ids : List (List ℕ)). candidates_from channel accepts uses ids others) (sym (append-nil earlier))
+  candidates_from-append uses earlier (tx ∷ txs) others =
+      let id = option_to_list (used_id channel accepts tx) in
+      let rest = candidates_from-append uses (earlier ++ id) txs others
+      ∙ ap (λ (ids : List (List ℕ)). candidates_from channel accepts uses (earlier ++ id) txs ++ candidates_from channel accepts uses ids others) (append_assoc earlier id (ids_of txs)) in
+      ap (λ (cs : List Candidate). candidate_of channel accepts (is_used uses earlier (used_id channel accepts tx)) tx ∷ cs) rest
+
+  -- one transaction more at the end
+  pub candidates_from-push : (uses : FirstUses) (earlier : List (List ℕ)) (txs : List (Option Tx)) (tx : Option Tx)
+      → candidates_from channel accepts uses earlier (txs ++ tx ∷ []) ≡ candidates_from channel accepts uses earlier txs ++ candidate_of channel accepts (is_used uses (earlier ++ ids_of txs) (used_id channel accepts tx)) tx ∷ []
+  candidates_from-push uses earlier txs tx = candidates_from-append uses earlier txs (tx ∷ [])
+
+pub uses_from-append : (j : Job) (i : ℕ) (ids others : List (Option (List ℕ))) → uses_from j i (ids ++ others) ≡ uses_from j i ids ++ uses_from j (i + length ids) others
+uses_from-append j i [] others = let same : i ≡ i + 0 = omega arith in ap (λ (n : ℕ). uses_from j n others) same
+uses_from-append j i (id ∷ ids) others =
+    let own : List (List ℕ × FirstUse) = map (λ x. (x, record { block = j.number; place = i; flag = flag j i })) (option_to_list id) in
+    let place : suc i + length ids ≡ i + length (id ∷ ids) = omega arith in
+    ap (λ (us : List (List ℕ × FirstUse)). own ++ us) (uses_from-append j (suc i) ids others ∙ ap (λ (n : ℕ). uses_from j (suc i) ids ++ uses_from j n others) place)
+    ∙ sym (append_assoc own (uses_from j (suc i) ids) (uses_from j (i + length (id ∷ ids)) others))

@@ -1,0 +1,13 @@
+-- Worked rows of the definitions of validation: each computes, and a wrong expectation is refused.
+pub mod Shared
+mod Looks
+mod Conflicts
+mod Endorsement
+mod Ranges
+mod KeyPolicies
+mod ReadWriteSets
+mod Assignments
+mod Ids
+mod Origins
+mod History
+mod TenBlocks

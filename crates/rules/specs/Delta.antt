@@ -1,0 +1,31 @@
+-- The change of one block as plain data.
+use Rattle.std.specs.Prelude.{ℕ, List, [], ◌∷◌, ◌++◌, map, Option}
+use Rattle.rules.specs.declared.delta.Change.{Change}
+use Rattle.rules.specs.declared.delta.NewEntry.{NewEntry}
+use Rattle.rules.specs.declared.delta.NewUse.{NewUse}
+use Rattle.rules.specs.declared.delta.Delta.{Delta}
+use Rattle.rules.specs.declared.first_use.FirstUse.{FirstUse}
+use Rattle.rules.specs.declared.history.HistoryEntry.{HistoryEntry}
+use Rattle.rules.specs.declared.row.Row.{Row}
+use Rattle.rules.specs.State.{StateKey, ChangeOf, with_changes}
+use Rattle.rules.specs.History.{with_entries}
+use Rattle.rules.specs.FirstUses.{with_uses}
+use Rattle.rules.specs.World.{World}
+
+abbrev pub changes_in : List Change → List (ChangeOf Row)
+changes_in cs = map (λ c. ((c.namespace, c.key), c.row)) cs
+
+abbrev pub entries_in : List NewEntry → List (StateKey × HistoryEntry)
+entries_in es = map (λ e. ((e.namespace, e.key), e.entry)) es
+
+abbrev pub uses_in : List NewUse → List (List ℕ × FirstUse)
+uses_in us = map (λ u. (u.id, u.first_use)) us
+
+-- the world with a delta applied
+abbrev pub applied : World → Delta → World
+applied w d = record {
+  state = with_changes w.state (changes_in d.changes);
+  history = with_entries w.history (entries_in d.entries);
+  first_uses = with_uses w.first_uses (uses_in d.uses);
+  blocks = w.blocks ++ d.block ∷ [];
+}

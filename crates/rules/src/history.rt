@@ -1,0 +1,13 @@
+use block::{ID_BYTES, Version};
+use values::Bytes;
+
+/// A value write or a delete of a key, by a valid transaction.
+#[derive(Debug, Drop)]
+pub struct HistoryEntry {
+    /// The place of the transaction.
+    pub version: Version,
+    /// The transaction's id.
+    pub id: [u8; ID_BYTES],
+    /// The value, or none where the key was deleted.
+    pub value: Option<Bytes>,
+}

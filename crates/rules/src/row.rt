@@ -1,0 +1,13 @@
+use block::Version;
+use policy::Policy;
+use values::Bytes;
+
+/// What the state has at a key.
+#[derive(Drop)]
+pub struct Row {
+    pub value: Bytes,
+    /// The place of the transaction that wrote the row last, its value or its policy.
+    pub version: Version,
+    /// The key's own policy, if it has one.
+    pub policy: Option<Policy>,
+}
