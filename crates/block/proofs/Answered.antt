@@ -88,3 +88,11 @@ one_fault bytes f g s t = err_is f g (sym (block_fails_again bytes f s) ∙ bloc
 
 pub block_or_fault : (bytes : List ℕ) (b : Block) (f : BlockFault) → Spells bytes b → HasFault bytes f → ⊥
 block_or_fault bytes b f s t = block_not_fault b f (sym (block_again b bytes s) ∙ block_fails_again bytes f t)
+
+-- bytes are a block, or have a fault
+pub some_reading : (bytes : List ℕ) → IsBytes bytes → ((b : Block) × Spells bytes b) ⊎ ((f : BlockFault) × HasFault bytes f)
+some_reading bytes fits = by (block_at bytes) refl
+  where
+    by : (r : Answer) → block_at bytes ≡ r → ((b : Block) × Spells bytes b) ⊎ ((f : BlockFault) × HasFault bytes f)
+    by (Ok b) e = inl (b, block_taken bytes b fits e)
+    by (Err f) e = inr (f, block_fails bytes f fits e)

@@ -16,7 +16,7 @@ use Rattle.rules.specs.Fold.{running, flag, final_state, changes_to, entries_to}
 use Rattle.rules.specs.World.{World}
 use Rattle.rules.specs.Candidate.{used_id}
 use Rattle.rules.specs.Commit.{job_of, uses_from, committed}
-use Rattle.rules.specs.Delta.{changes_in, entries_in, uses_in, applied}
+use Rattle.rules.specs.Delta.{changes_in, entries_in, uses_in, applied, IsDelta}
 use Rattle.rules.proofs.Changes.{with_changes-append, with_changes-none}
 
 -- ---- changes
@@ -66,3 +66,7 @@ committed-by_delta channel accepts w txs kept d changes entries uses block =
     (ap (with_entries w.history) entries)
     (ap (with_uses w.first_uses) uses)
     block
+
+pub committed-is_delta : (channel : Configuration) (accepts : Accepts) (w : World) (txs : List (Option Tx)) (kept : CommittedBlock) (d : Delta)
+    → IsDelta channel accepts w txs kept d → committed channel accepts w txs kept ≡ applied w d
+committed-is_delta channel accepts w txs kept d is = committed-by_delta channel accepts w txs kept d is.changes is.entries is.uses is.block

@@ -1,6 +1,13 @@
--- A world and a string of bytes have one answer, but for want of memory.
-use Rattle.std.proofs.Common.{◌≡◌, ◌≢◌, ℕ, List, Result, Ok, Err, refl, sym, ap, subst, ◌∙◌}
+-- A world and a string of bytes have one answer, want of memory aside.
+use Rattle.std.proofs.Common.{◌≡◌, ◌≢◌, ◌⊎◌, inl, inr, ℕ, ◌==◌, Bool, true, false, List, Result, Ok, Err, refl, sym, ap, subst, ◌∙◌}
+use Rattle.std.specs.Bool.{Decides}
+use Rattle.std.specs.Str.{bytes_eq}
+use Rattle.std.proofs.lemmas.Bool.{false≢true}
+use Rattle.std.proofs.lemmas.Bool.Decides.{Decides-eqb}
+use Rattle.std.proofs.lemmas.Slice.Eq.{bytes_eq-Decides}
 use Rattle.block.specs.declared.block.Block.{Block}
+use Rattle.block.specs.declared.block.Previous.{Previous}
+use Rattle.block.specs.declared.block.Previous.TheVariants.{Empty, Hash}
 use Rattle.block.specs.declared.fault.BlockFault.{BlockFault}
 use Rattle.block.specs.Grammar.{Spells}
 use Rattle.block.specs.Faults.{HasFault}
@@ -9,8 +16,9 @@ use Rattle.policy_eval.specs.Accepts.{Accepts}
 use Rattle.rules.specs.declared.answer.Accepted.{Accepted}
 use Rattle.rules.specs.declared.answer.Refused.{Refused}
 use Rattle.rules.specs.declared.answer.Refused.TheVariants.{Malformed, WrongNumber, WrongPrevious, WrongDataHash, Memory}
-use Rattle.rules.specs.World.{World}
-use Rattle.rules.specs.Linked.{HasNumber, HasPrevious, HasDataHash, IsLinked, IsRefused}
+use Rattle.header_hash.specs.Hashes.{data_hash_of}
+use Rattle.rules.specs.World.{World, height_of, last_header_hash, previous_from}
+use Rattle.rules.specs.Linked.{HasNumber, HasPrevious, HasDataHash, IsLinked, IsUnlinked, IsRefused}
 use Rattle.rules.specs.Commit.{world_after}
 use Rattle.rules.specs.Step.{accepted_of, Step}
 
@@ -79,3 +87,60 @@ one_step_by laws channel accepts old a b bytes (Ok x) (Err r) s t p q = absurd (
 one_step_by laws channel accepts old a b bytes (Err r) (Ok y) s t p q = absurd (accepted_or_refused laws old bytes t.0 r t.1 t.2 s.0 (not_memory r p))
 one_step_by laws channel accepts old a b bytes (Err r) (Err r') s t p q =
     (ap refused_answer (one_refusal laws old bytes r r' s.0 t.0 (not_memory r p) (not_memory r' q)), s.1 ∙ sym t.1)
+
+-- ---- and there is one
+
+decided : {P : Type 0} (r : Bool) → Decides r P → P ⊎ (P → ⊥)
+decided true d = inl (d.0 refl)
+decided false d = inr (λ p. false≢true (d.1 p))
+
+empty_is_no_hash : (h : List ℕ) → Empty ≡ Hash h → ⊥
+empty_is_no_hash h e = absurd cc
+
+hash_is : (g h : List ℕ) → Hash g ≡ Hash h → g ≡ h
+hash_is g h e = cc
+
+same_previous : (p q : Previous) → (p ≡ q) ⊎ (p ≢ q)
+same_previous Empty Empty = inl refl
+same_previous Empty (Hash h) = inr (empty_is_no_hash h)
+same_previous (Hash g) Empty = inr (λ e. empty_is_no_hash g (sym e))
+same_previous (Hash g) (Hash h) = by (decided (bytes_eq g h) (bytes_eq-Decides g h))
+  where
+    by : (g ≡ h) ⊎ (g ≢ h) → (Hash g ≡ Hash h) ⊎ (Hash g ≢ Hash h)
+    by (inl e) = inl (ap Hash e)
+    by (inr n) = inr (λ e. n (hash_is g h e))
+
+accepted_is_no_refusal : (a : Accepted) → accepted_answer a ≡ Err Memory → ⊥
+accepted_is_no_refusal a e = absurd cc
+
+unlinked_or_not : (w : World) (b : Block) → IsLinked w b ⊎ ((r : Refused) × IsUnlinked w b r)
+unlinked_or_not w b = by
+    (decided (b.header.number == height_of w) (Decides-eqb b.header.number (height_of w)))
+    (same_previous b.header.previous (previous_from (last_header_hash w)))
+    (decided (bytes_eq b.header.data_hash (data_hash_of b.txs)) (bytes_eq-Decides b.header.data_hash (data_hash_of b.txs)))
+  where
+    by : HasNumber w b ⊎ (HasNumber w b → ⊥) → HasPrevious w b ⊎ (HasPrevious w b → ⊥) → HasDataHash b ⊎ (HasDataHash b → ⊥) → IsLinked w b ⊎ ((r : Refused) × IsUnlinked w b r)
+    by (inl n) (inl p) (inl d) = inl (record { number = n; previous = p; data_hash = d })
+    by (inl n) (inl p) (inr d) = inr (WrongDataHash, (n, p, d))
+    by (inl n) (inr p) d = inr (WrongPrevious, (n, p))
+    by (inr n) p d = inr (WrongNumber (height_of w) b.header.number, (n, refl, refl))
+
+unlinked_is_refused : (w : World) (bytes : List ℕ) (b : Block) (r : Refused) → Spells bytes b → IsUnlinked w b r → IsRefused w bytes r × (refused_answer r ≢ Err Memory)
+unlinked_is_refused w bytes b (WrongNumber want got) s u = ((b, s, u), λ e. absurd cc)
+unlinked_is_refused w bytes b WrongPrevious s u = ((b, s, u), λ e. absurd cc)
+unlinked_is_refused w bytes b WrongDataHash s u = ((b, s, u), λ e. absurd cc)
+unlinked_is_refused w bytes b (Malformed f) s u = absurd u
+unlinked_is_refused w bytes b Memory s u = absurd u
+
+-- an answer that isn't want of memory, with the world after it
+abbrev pub HasAnswer : Configuration → Accepts → World → List ℕ → Type 0
+HasAnswer channel accepts old bytes = (x : Result Accepted Refused) × (new : World) × Step channel accepts old bytes x new × (x ≢ Err Memory)
+
+pub some_step_by : (channel : Configuration) (accepts : Accepts) (old : World) (bytes : List ℕ)
+    → ((b : Block) × Spells bytes b) ⊎ ((f : BlockFault) × HasFault bytes f) → HasAnswer channel accepts old bytes
+some_step_by channel accepts old bytes (inl (b, s)) = by (unlinked_or_not old b)
+  where
+    by : IsLinked old b ⊎ ((r : Refused) × IsUnlinked old b r) → HasAnswer channel accepts old bytes
+    by (inl l) = (Ok (accepted_of channel accepts old b), world_after channel accepts old bytes b, (b, s, l, refl, refl), accepted_is_no_refusal (accepted_of channel accepts old b))
+    by (inr (r, u)) = let refused = unlinked_is_refused old bytes b r s u in (Err r, old, (refused.0, refl), refused.1)
+some_step_by channel accepts old bytes (inr (f, h)) = (Err (Malformed f), old, (h, refl), λ e. absurd cc)

@@ -11,3 +11,5 @@ mod Ids
 mod Origins
 mod History
 mod TenBlocks
+mod Answers
+mod Runs

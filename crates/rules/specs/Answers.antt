@@ -43,3 +43,7 @@ first_use_answer w id = get w.first_uses id
 -- the block of a number
 abbrev pub block_answer : World → ℕ → Option CommittedBlock
 block_answer w n = slice_get w.blocks n
+
+-- the number of the next block
+abbrev pub height_answer : World → ℕ
+height_answer w = height_of w

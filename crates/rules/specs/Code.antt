@@ -1,5 +1,5 @@
 -- Injective codes of states and worlds, which the prover asks of a type that contracts see.
-use Rattle.std.specs.Prelude.{ℕ, List, refl}
+use Rattle.std.specs.Prelude.{List, refl}
 use Rattle.std.specs.Coded.{Coded, coded×, coded_list, coded_ℕ, code_by}
 use Rattle.std.specs.FinMap as map
 use Rattle.rules.specs.contracts.row.Row as row

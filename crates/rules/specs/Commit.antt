@@ -28,7 +28,7 @@ job_of channel accepts w txs = record {
   candidates = candidates_from channel accepts w.first_uses [] txs;
 }
 
--- the uses of ids from place i on, each as it stands if it is the id's first
+-- the uses of ids from place i on; of an id that was used already, the use doesn't count (`with_uses`)
 abbrev pub uses_from : Job → ℕ → List (Option (List ℕ)) → List (List ℕ × FirstUse)
 uses_from j i [] = []
 uses_from j i (id ∷ ids) =

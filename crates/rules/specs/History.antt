@@ -1,6 +1,6 @@
 -- The history of keys: one entry for each value write or delete of a valid transaction, also of a key that isn't there.
 -- Policy writes alone aren't in it (our own).
-use Rattle.std.specs.Prelude.{ℕ, List, [], ◌∷◌, map, flat_map, unwrap_or}
+use Rattle.std.specs.Prelude.{List, [], ◌∷◌, map, flat_map, unwrap_or}
 use Rattle.std.specs.FinMap.{get, insert}
 use Rattle.block.specs.declared.transaction.Version.{Version}
 use Rattle.block.specs.declared.transaction.Tx.{Tx}

@@ -1,4 +1,5 @@
--- The range rule: a range query that is executed again gives the same keys and versions.
+-- The range rule: a range query that is executed again gives the same keys and versions ('Read-Write set semantics'). How
+-- far one that wasn't read to its end is compared is our own.
 use Rattle.std.specs.Prelude.{ℕ, List, [], ◌∷◌, Bool, true, false, ◌&&◌, ◌||◌, map, filter, Option, Some, None}
 use Rattle.std.specs.Str.{bytes_eq}
 use Rattle.std.specs.List.{last_or}

@@ -19,7 +19,7 @@ pub enum Flag {
     /// A policy isn't satisfied, or the policy of a key that it writes was written earlier in the block by a
     /// transaction that passed this check.
     EndorsementPolicyFailure,
-    /// A key has another version than the one that was read, or is there or absent against the read.
+    /// A key that was read has another version, or was read as absent and has a row, or the other way round.
     MvccReadConflict,
     /// A range has other keys or versions than those that were read.
     PhantomReadConflict,
@@ -27,7 +27,7 @@ pub enum Flag {
     TargetChainNotFound,
     /// The read and write sets aren't in form.
     BadRwset,
-    /// A chaincode has no definition.
+    /// The named chaincode, or a namespace with writes, has no definition.
     InvalidChaincode,
 }
 

@@ -1,4 +1,4 @@
-ghost use Rattle.std.specs.Prelude.{◌≡◌, ◌≢◌, ℕ, suc, Bool, List, length, map, Option, IsSome, Result, Err};
+ghost use Rattle.std.specs.Prelude.{◌≡◌, ◌≢◌, ◌<◌, ℕ, suc, Bool, List, Option, IsSome, Result, Err, slice_index};
 ghost use Rattle.block.specs.declared.transaction.Tx.{Tx};
 ghost use Rattle.block.specs.declared.transaction.Version.{Version};
 ghost use Rattle.policy_eval.specs.Accepts.{Accepts};
@@ -16,19 +16,19 @@ ghost use Rattle.rules.specs.State.{StateKey};
 ghost use Rattle.rules.specs.Job.{Job, reads};
 ghost use Rattle.rules.specs.Fold.{running, endorsed, flag, changes_to, entries_to};
 ghost use Rattle.rules.specs.World.{World};
-ghost use Rattle.rules.specs.Candidate.{used_id};
-ghost use Rattle.rules.specs.Commit.{job_of, uses_from, committed};
-ghost use Rattle.rules.specs.Delta.{changes_in, entries_in, uses_in, applied};
+ghost use Rattle.rules.specs.Commit.{committed};
+ghost use Rattle.rules.specs.Delta.{applied, IsDelta};
 ghost use Rattle.rules.specs.Step.{Step};
 ghost use Rattle.rules.specs.Assignment.{state_under, endorsement_under, reads_under, version_under};
 ghost use Rattle.rules.specs.Depends.{EndorsementDepends, ReadsDepend, VersionDepends};
 ghost use Rattle.rules.specs.Sure.{Sure};
 ghost use Rattle.rules.specs.Machine.{Board, first_board, Run, ShowsFold};
 
-/// A law, and no work: but for want of memory, a world and a string of bytes have one answer and one
-/// world after it.
+/// Laws, and no work: want of memory aside, a world and a string of bytes have one answer and one world after it.
 pub fn one_step()
-    ensures { (channel : Configuration) (accepts : Accepts) (old a b : World) (bytes : List ℕ) (x y : Result Accepted Refused)
+    ensures some_answer { (channel : Configuration) (accepts : Accepts) (old : World) (bytes : List ℕ) → ((i : ℕ) → slice_index bytes i < 256)
+        → (x : Result Accepted Refused) × (new : World) × Step channel accepts old bytes x new × (x ≢ Err Memory) }
+    ensures one_answer { (channel : Configuration) (accepts : Accepts) (old a b : World) (bytes : List ℕ) (x y : Result Accepted Refused)
         → Step channel accepts old bytes x a → Step channel accepts old bytes y b → x ≢ Err Memory → y ≢ Err Memory
         → (x ≡ y) × (a ≡ b) }
 {
@@ -49,16 +49,10 @@ pub fn invalid_transactions_change_nothing()
     ensures entries { (j : Job) (i : ℕ) → flag j i ≢ Valid → entries_to j (suc i) ≡ entries_to j i }
 {}
 
-/// A law, and no work: the world after a block is the world before it with a delta applied, whichever delta has the
-/// block's changes, its history entries, its uses of ids, and the block itself.
+/// A law, and no work: the world after a block is the world before it with the block's delta applied.
 pub fn a_block_is_its_delta()
     ensures { (channel : Configuration) (accepts : Accepts) (w : World) (txs : List (Option Tx)) (kept : CommittedBlock) (d : Delta)
-        → let j = job_of channel accepts w txs in
-        changes_in d.changes ≡ changes_to j (length j.candidates)
-        → entries_in d.entries ≡ entries_to j (length j.candidates)
-        → uses_in d.uses ≡ uses_from j 0 (map (used_id channel accepts) txs)
-        → d.block ≡ kept
-        → committed channel accepts w txs kept ≡ applied w d }
+        → IsDelta channel accepts w txs kept d → committed channel accepts w txs kept ≡ applied w d }
 {}
 
 /// A law, and no work: where each earlier candidate is called what the fold finds it to be, the verdicts of

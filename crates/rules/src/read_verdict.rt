@@ -3,8 +3,8 @@
 pub enum ReadVerdict {
     /// All are as the state has them.
     Good,
-    /// A key has another version.
+    /// A key has another version than was read, or is there or absent against the read.
     Stale,
-    /// A range has other keys or versions.
+    /// A range has other keys or versions than were read.
     Phantom,
 }

@@ -8,7 +8,7 @@ use Rattle.rules.specs.State.{with_changes, version_in}
 use Rattle.rules.specs.Candidate.{Candidate}
 use Rattle.rules.specs.Job.{Job}
 use Rattle.rules.specs.Fold.{running, flags, final_state}
-use Rattle.rules.proofs.rows.Shared.{chaincode, k, at, read_at, absent, put, deleted, policy_put, set_of, over, tx, reading, writing, writing_policy, one, unendorsed, documentation_block, block_over}
+use Rattle.rules.proofs.rows.Shared.{chaincode, k, at, read_at, absent, put, deleted, policy_put, set_of, over, tx, reading, writing, writing_policy, one, unendorsed, documentation_block, block_over, dd}
 use Rattle.rules.proofs.rows.Looks.{looks, scans}
 
 -- the example of Fabric's documentation ('Read-Write set semantics')
@@ -55,9 +55,6 @@ a_to_d = record { start = codes "a"; end = codes "d"; exhausted = true; results 
 
 abbrev stale : List Read
 stale = read_at (codes "a") (at 5 5) ∷ []
-
-abbrev dd : List ℕ
-dd = codes "dd"
 
 -- a phantom in the first namespace, a stale read in the second
 pub first_namespace_goes_first : flags (block_over (codes "a" ∷ []) (one (over (set_of chaincode [] (a_to_d ∷ []) [] [] ∷ set_of dd stale [] [] [] ∷ [])) ∷ [])) ≡ PhantomReadConflict ∷ []

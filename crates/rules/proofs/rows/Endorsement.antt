@@ -2,7 +2,6 @@
 use Rattle.std.proofs.Common.{◌≡◌, ℕ, List, [], ◌∷◌, refl}
 use Rattle.std.specs.Prelude.{codes}
 use Rattle.rules.specs.declared.flag.Flag.TheVariants.{Valid, EndorsementPolicyFailure, InvalidChaincode}
-use Rattle.block.specs.declared.transaction.Tx.{Tx}
 use Rattle.policy.specs.Tree.{Tree, principal}
 use Rattle.policy.specs.declared.tree.PolicyRole.TheVariants as wanted
 use Rattle.rules.specs.State.{with_changes}
@@ -12,15 +11,12 @@ use Rattle.rules.specs.Fold.{running, flags}
 use Rattle.std.specs.FinMap.{from_entries}
 use Rattle.policy.specs.Policies.{bytes_cmp}
 use Rattle.block.specs.declared.transaction.NsSet.{NsSet}
-use Rattle.rules.proofs.rows.Shared.{either_peer, both_peers, both, chaincode, p0, p1, a0, peer_of, both_of, k, absent, put, policy_removed, set_of, over, writing, one, unendorsed, signed_by, judged, definitions_with, state_with, block_over}
+use Rattle.rules.proofs.rows.Shared.{either_peer, both_peers, both, chaincode, p0, p1, a0, peer_of, both_of, k, absent, put, policy_removed, set_of, over, one, unendorsed, signed_by, judged, definitions_with, state_with, block_over, zz, dd, writes_k}
 use Rattle.rules.proofs.rows.Looks.{looks}
 
 -- block 1 over no keys, where the policy of cc is this one
 abbrev under_policy : Tree → List Candidate → Job
 under_policy policy candidates = record { number = 1; state = state_with []; definitions = definitions_with policy; candidates = candidates }
-
-abbrev writes_k : Tx
-writes_k = writing (put k ∷ [])
 
 pub endorsing_twice_counts_once : flags (under_policy (both_of (peer_of (codes "Org1")) (peer_of (codes "Org1"))) (signed_by (p0 ∷ p0 ∷ []) writes_k ∷ signed_by (p0 ∷ p1 ∷ []) writes_k ∷ [])) ≡ EndorsementPolicyFailure ∷ Valid ∷ []
 unfolding running with_changes
@@ -32,9 +28,6 @@ unfolding running with_changes
 member_takes_the_admin = simp looks refl
 
 -- ---- namespaces and the named chaincode
-
-abbrev zz : List ℕ
-zz = codes "zz"
 
 -- and not written
 pub undefined_namespace_may_be_read : flags (block_over [] (judged (over (set_of zz (absent k ∷ []) [] [] [] ∷ [])) ∷ judged (over (set_of zz (absent k ∷ []) [] (put k ∷ []) [] ∷ [])) ∷ judged (over (set_of zz [] [] [] (policy_removed k ∷ []) ∷ [])) ∷ [])) ≡ Valid ∷ InvalidChaincode ∷ InvalidChaincode ∷ []
@@ -51,9 +44,6 @@ unfolding running with_changes
 named_chaincode_wants_its_policy = simp looks refl
 
 -- ---- several namespaces
-
-abbrev dd : List ℕ
-dd = codes "dd"
 
 -- block 1 over no keys, where cc and dd have these policies
 abbrev under_policies : Tree → Tree → List Candidate → Job

@@ -1,16 +1,14 @@
 -- The history of a key over several blocks.
-use Rattle.std.proofs.Common.{◌≡◌, ℕ, List, [], ◌∷◌, Option, Some, None, refl}
+use Rattle.std.proofs.Common.{◌≡◌, ℕ, [], ◌∷◌, Some, None, refl}
 use Rattle.std.specs.Prelude.{codes}
 use Rattle.std.specs.FinMap.{empty, get}
-use Rattle.rules.specs.declared.history.HistoryEntry.{HistoryEntry}
 use Rattle.rules.specs.History.{History, with_entries, entries_at}
 use Rattle.rules.specs.Fold.{entries_to}
-use Rattle.block.specs.declared.transaction.Version.{Version}
 use Rattle.rules.specs.State.{State, with_changes}
 use Rattle.rules.specs.Candidate.{Candidate}
 use Rattle.rules.specs.Job.{Job}
 use Rattle.rules.specs.Fold.{running, final_state}
-use Rattle.rules.proofs.rows.Shared.{both_peers, chaincode, k, at, put, deleted, policy_put, writing, writing_policy, one, unendorsed, block_on, block_over, an_id}
+use Rattle.rules.proofs.rows.Shared.{both_peers, chaincode, k, at, put, deleted, policy_put, writing, writing_policy, one, unendorsed, block_on, block_over, entry}
 use Rattle.rules.proofs.rows.Looks.{entry_looks}
 
 -- state and history after a block of one candidate
@@ -20,9 +18,6 @@ block_of number before candidate = block_on number before.0 (candidate ∷ [])
 abbrev after : ℕ → State × History → Candidate → State × History
 after number before candidate =
     (final_state (block_of number before candidate), with_entries before.1 (entries_to (block_of number before candidate) 1))
-
-abbrev entry : Version → Option (List ℕ) → HistoryEntry
-entry v value = record { version = v; id = an_id; value = value }
 
 -- k is written, then deleted, then its policy is written
 abbrev written : State × History

@@ -2,7 +2,6 @@
 use Rattle.std.proofs.Common.{◌≡◌, List, [], ◌∷◌, Option, Some, None, refl}
 use Rattle.std.specs.Prelude.{codes}
 use Rattle.std.specs.FinMap.{empty}
-use Rattle.rules.specs.declared.committed.CommittedBlock.{CommittedBlock}
 use Rattle.rules.specs.FirstUses.{with_uses}
 use Rattle.rules.specs.Commit.{job_of, committed}
 use Rattle.rules.specs.World.{World}
@@ -12,12 +11,8 @@ use Rattle.block.specs.declared.transaction.Tx.{Tx}
 use Rattle.rules.specs.State.{with_changes, version_in}
 use Rattle.rules.specs.Job.{Job}
 use Rattle.rules.specs.Fold.{running, flags}
-use Rattle.rules.proofs.rows.Shared.{p0, chaincode, k, at, read_at, put, set_of, over, reading, writing, channel, any, endorsed_by, an_id}
+use Rattle.rules.proofs.rows.Shared.{p0, chaincode, k, at, read_at, put, set_of, over, reading, writing, channel, any, endorsed_by, an_id, writes_k, kept, zz}
 use Rattle.rules.proofs.rows.Looks.{uses}
-
--- any bytes and flags will do for a kept block
-abbrev kept : CommittedBlock
-kept = record { bytes = []; header_hash = []; flags = [] }
 
 -- of height 1
 abbrev world_1 : World
@@ -35,9 +30,6 @@ with_one t = Some (endorsed_by (p0 ∷ []) t)
 
 abbrev with_none : Tx → Option Tx
 with_none t = Some t
-
-abbrev writes_k : Tx
-writes_k = writing (put k ∷ [])
 
 -- the first one isn't endorsed
 abbrev used_twice : List (Option Tx)
@@ -69,7 +61,7 @@ abbrev out_of_form : Option Tx
 out_of_form = with_one (writing (put k ∷ put k ∷ []))
 
 abbrev undefined : Option Tx
-undefined = with_one (over (set_of (codes "zz") [] [] (put k ∷ []) [] ∷ []))
+undefined = with_one (over (set_of zz [] [] (put k ∷ []) [] ∷ []))
 
 abbrev stale : Option Tx
 stale = with_one (reading (read_at k (at 7 7) ∷ []))

@@ -1,16 +1,14 @@
 -- Policies of keys.
 use Rattle.std.proofs.Common.{◌≡◌, [], ◌∷◌, Some, None, refl}
-use Rattle.std.specs.Prelude.{codes}
+use Rattle.std.specs.Prelude.{codes, option_map}
+use Rattle.std.specs.FinMap.{get}
 use Rattle.rules.specs.declared.flag.Flag.TheVariants.{Valid, EndorsementPolicyFailure, MvccReadConflict, BadRwset}
 use Rattle.block.specs.declared.transaction.Tx.{Tx}
 use Rattle.rules.specs.State.{with_changes, version_in, policy_in}
 use Rattle.rules.specs.Job.{Job}
 use Rattle.rules.specs.Fold.{running, flags, final_state}
-use Rattle.rules.proofs.rows.Shared.{both_peers, chaincode, k, at, absent, put, deleted, policy_put, policy_removed, set_of, over, tx, writing, writing_policy, one, both, unendorsed, judged, guarded_state, block_on, block_over}
+use Rattle.rules.proofs.rows.Shared.{both_peers, chaincode, k, at, absent, put, deleted, policy_put, policy_removed, set_of, over, tx, writing, writing_policy, one, both, unendorsed, judged, guarded_state, block_on, block_over, writes_k}
 use Rattle.rules.proofs.rows.Looks.{looks}
-
-abbrev writes_k : Tx
-writes_k = writing (put k ∷ [])
 
 abbrev deletes_k : Tx
 deletes_k = writing (deleted k ∷ [])
@@ -69,6 +67,17 @@ new_policy_governs_the_next_block = simp looks refl
 pub removing_no_policy_touches : flags (block_over (k ∷ []) (one (writing_policy (policy_removed k)) ∷ one writes_k ∷ [])) ≡ Valid ∷ EndorsementPolicyFailure ∷ []
 unfolding running with_changes
 removing_no_policy_touches = simp looks refl
+
+abbrev removes_no_policy : Job
+removes_no_policy = block_over (k ∷ []) (one (writing_policy (policy_removed k)) ∷ [])
+
+pub removing_no_policy_sets_the_version : version_in (final_state removes_no_policy) (chaincode, k) ≡ Some (at 1 0)
+unfolding running with_changes
+removing_no_policy_sets_the_version = simp looks refl
+
+pub removing_no_policy_keeps_the_value : option_map (λ row. row.value) (get (final_state removes_no_policy) (chaincode, k)) ≡ Some (codes "v")
+unfolding running with_changes
+removing_no_policy_keeps_the_value = simp looks refl
 
 abbrev policy_of_an_absent_key : Job
 policy_of_an_absent_key = block_over [] (one (writing_policy (policy_put k)) ∷ one writes_k ∷ [])

@@ -3,18 +3,14 @@ use Rattle.std.proofs.Common.{◌≡◌, ℕ, Bool, true, false, List, [], ◌�
 use Rattle.std.specs.Prelude.{codes}
 use Rattle.rules.specs.declared.flag.Flag.TheVariants.{Valid, EndorsementPolicyFailure, PhantomReadConflict}
 use Rattle.block.specs.declared.transaction.Range.{Range}
-use Rattle.block.specs.declared.transaction.Version.{Version}
 use Rattle.block.specs.declared.transaction.Tx.{Tx}
 use Rattle.rules.specs.State.{with_changes}
 use Rattle.rules.specs.Candidate.{Candidate}
 use Rattle.rules.specs.Job.{Job}
 use Rattle.rules.specs.Fold.{running, flags}
 use Rattle.block.specs.declared.transaction.KeyVersion.{KeyVersion}
-use Rattle.rules.proofs.rows.Shared.{at, put, deleted, scanning, writing, one, unendorsed, block_over}
+use Rattle.rules.proofs.rows.Shared.{at, put, deleted, scanning, writing, one, unendorsed, block_over, found}
 use Rattle.rules.proofs.rows.Looks.{scans}
-
-abbrev found : List ℕ → Version → KeyVersion
-found key v = record { key = key; version = v }
 
 -- a and c as transaction 0 of block 0 wrote them
 abbrev a_and_c : List KeyVersion

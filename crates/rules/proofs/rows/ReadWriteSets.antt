@@ -9,17 +9,11 @@ use Rattle.rules.specs.Job.{Job}
 use Rattle.rules.specs.Fold.{running, flags}
 use Rattle.block.specs.declared.transaction.KeyVersion.{KeyVersion}
 use Rattle.block.specs.declared.transaction.PolicyWrite.{PolicyWrite}
-use Rattle.rules.proofs.rows.Shared.{chaincode, k, at, read_at, absent, put, deleted, policy_put, policy_removed, set_of, over, tx, reading, scanning, writing, writing_policy, judged, block_over, first_peer_text, broken_text}
+use Rattle.rules.proofs.rows.Shared.{chaincode, k, at, read_at, absent, put, deleted, policy_put, policy_removed, set_of, over, tx, reading, scanning, writing, writing_policy, judged, block_over, first_peer_text, broken_text, a, c, found}
 use Rattle.rules.proofs.rows.Looks.{scans}
 
-abbrev found : List ℕ → KeyVersion
-found key = record { key = key; version = at 0 0 }
-
-abbrev a : List ℕ
-a = codes "a"
-
-abbrev c : List ℕ
-c = codes "c"
+abbrev found_at_0 : List ℕ → KeyVersion
+found_at_0 key = found key (at 0 0)
 
 abbrev d : List ℕ
 d = codes "d"
@@ -33,24 +27,24 @@ alone t = block_over (a ∷ c ∷ []) (judged t ∷ [])
 
 -- ---- ranges
 
-pub results_as_found : flags (alone (scanning (between a d (found a ∷ found c ∷ [])))) ≡ Valid ∷ []
+pub results_as_found : flags (alone (scanning (between a d (found_at_0 a ∷ found_at_0 c ∷ [])))) ≡ Valid ∷ []
 unfolding running with_changes
 results_as_found = simp scans refl
 
-pub results_fall : flags (alone (scanning (between a d (found c ∷ found a ∷ [])))) ≡ BadRwset ∷ []
+pub results_fall : flags (alone (scanning (between a d (found_at_0 c ∷ found_at_0 a ∷ [])))) ≡ BadRwset ∷ []
 unfolding running with_changes
 results_fall = simp scans refl
 
-pub result_repeats : flags (alone (scanning (between a d (found a ∷ found a ∷ found c ∷ [])))) ≡ BadRwset ∷ []
+pub result_repeats : flags (alone (scanning (between a d (found_at_0 a ∷ found_at_0 a ∷ found_at_0 c ∷ [])))) ≡ BadRwset ∷ []
 unfolding running with_changes
 result_repeats = simp scans refl
 
 -- the end is no key of the range
-pub result_at_the_end : flags (alone (scanning (between a d (found d ∷ [])))) ≡ BadRwset ∷ []
+pub result_at_the_end : flags (alone (scanning (between a d (found_at_0 d ∷ [])))) ≡ BadRwset ∷ []
 unfolding running with_changes
 result_at_the_end = simp scans refl
 
-pub result_before_the_start : flags (alone (scanning (between c d (found a ∷ [])))) ≡ BadRwset ∷ []
+pub result_before_the_start : flags (alone (scanning (between c d (found_at_0 a ∷ [])))) ≡ BadRwset ∷ []
 unfolding running with_changes
 result_before_the_start = simp scans refl
 
@@ -59,11 +53,11 @@ pub end_before_start : flags (alone (scanning (between d a []))) ≡ Valid ∷ [
 unfolding running with_changes
 end_before_start = simp scans refl
 
-pub end_before_start_and_a_result : flags (alone (scanning (between d a (found c ∷ [])))) ≡ BadRwset ∷ []
+pub end_before_start_and_a_result : flags (alone (scanning (between d a (found_at_0 c ∷ [])))) ≡ BadRwset ∷ []
 unfolding running with_changes
 end_before_start_and_a_result = simp scans refl
 
-pub end_before_start_and_its_start : flags (alone (scanning (between d a (found d ∷ [])))) ≡ BadRwset ∷ []
+pub end_before_start_and_its_start : flags (alone (scanning (between d a (found_at_0 d ∷ [])))) ≡ BadRwset ∷ []
 unfolding running with_changes
 end_before_start_and_its_start = simp scans refl
 

@@ -1,11 +1,12 @@
 -- What the worked rows are made of: identities, policies, transactions, candidates, and blocks over a state.
-use Rattle.std.proofs.Common.{◌≡◌, ℕ, true, false, List, [], ◌∷◌, map, Some, None, Ok, Err, refl}
-use Rattle.std.specs.Prelude.{codes}
+use Rattle.std.proofs.Common.{◌≡◌, ℕ, true, false, List, [], ◌∷◌, map, Option, Some, None, Ok, Err, refl}
+use Rattle.std.specs.Prelude.{codes, replicate}
 use Rattle.std.specs.FinMap.{from_entries}
 use Rattle.block.specs.declared.identity.Role.TheVariants.{Peer, Admin}
 use Rattle.block.specs.declared.identity.Identity.{Identity}
 use Rattle.block.specs.declared.transaction.Version.{Version}
 use Rattle.block.specs.declared.transaction.Read.{Read}
+use Rattle.block.specs.declared.transaction.KeyVersion.{KeyVersion}
 use Rattle.block.specs.declared.transaction.Range.{Range}
 use Rattle.block.specs.declared.transaction.Write.{Write}
 use Rattle.block.specs.declared.transaction.PolicyWrite.{PolicyWrite}
@@ -22,6 +23,8 @@ use Rattle.policy.specs.Reading.{policy_at, expression_by, gate_at, gate_by, mem
 use Rattle.policy_eval.specs.Accepts.{Accepts}
 use Rattle.policy_eval.specs.Signers.{signers_of}
 use Rattle.channel.specs.Configuration.{Configuration}
+use Rattle.rules.specs.declared.committed.CommittedBlock.{CommittedBlock}
+use Rattle.rules.specs.declared.history.HistoryEntry.{HistoryEntry}
 use Rattle.rules.specs.declared.row.Row.{Row}
 use Rattle.rules.specs.State.{StateKey, State, key_cmp}
 use Rattle.rules.specs.Candidate.{Candidate, opened, candidate_of}
@@ -84,13 +87,29 @@ pub strange_byte_read : policy_at (255 ∷ []) ≡ Err syntax_fault
 unfolding policy_at expression_by front_at word_at word_in
 strange_byte_read = refl
 
--- ---- transactions of the chaincode cc
+-- ---- namespaces and keys
 
 abbrev pub chaincode : List ℕ
 chaincode = codes "cc"
 
+-- another namespace
+abbrev pub dd : List ℕ
+dd = codes "dd"
+
+-- a namespace without a definition
+abbrev pub zz : List ℕ
+zz = codes "zz"
+
+abbrev pub a : List ℕ
+a = codes "a"
+
+abbrev pub c : List ℕ
+c = codes "c"
+
 abbrev pub k : List ℕ
 k = codes "k"
+
+-- ---- transactions of the chaincode cc
 
 abbrev pub at : ℕ → ℕ → Version
 at b i = record { block = b; tx = i }
@@ -100,6 +119,9 @@ read_at key v = record { key = key; version = Some v }
 
 abbrev pub absent : List ℕ → Read
 absent key = record { key = key; version = None }
+
+abbrev pub found : List ℕ → Version → KeyVersion
+found key v = record { key = key; version = v }
 
 abbrev pub put : List ℕ → Write
 put key = record { key = key; value = Some (codes "v") }
@@ -145,6 +167,9 @@ scanning range = tx [] (range ∷ []) [] []
 
 abbrev pub writing : List Write → Tx
 writing writes = tx [] [] writes []
+
+abbrev pub writes_k : Tx
+writes_k = writing (put k ∷ [])
 
 abbrev pub writing_policy : PolicyWrite → Tx
 writing_policy w = tx [] [] [] (w ∷ [])
@@ -202,6 +227,14 @@ block_on number state candidates = record { number = number; state = state; defi
 -- block 1 over these keys
 abbrev pub block_over : List (List ℕ) → List Candidate → Job
 block_over keys candidates = block_on 1 (state_with keys) candidates
+
+-- any bytes and flags will do for a kept block
+abbrev pub kept : CommittedBlock
+kept = record { bytes = []; header_hash = replicate 32 1; flags = [] }
+
+-- of a transaction with that id
+abbrev pub entry : Version → Option (List ℕ) → HistoryEntry
+entry v value = record { version = v; id = an_id; value = value }
 
 -- the block of the documentation's example: its fifth transaction reads what no other one writes
 abbrev pub documentation_block : Job

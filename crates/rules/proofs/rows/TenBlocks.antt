@@ -5,7 +5,6 @@ use Rattle.std.specs.FinMap.{from_entries, get, empty}
 use Rattle.block.specs.declared.block.Block.{Block}
 use Rattle.block.specs.declared.block.Previous.TheVariants.{Hash}
 use Rattle.block.specs.declared.identity.Identity.{Identity}
-use Rattle.block.specs.declared.transaction.KeyVersion.{KeyVersion}
 use Rattle.block.specs.declared.transaction.Range.{Range}
 use Rattle.block.specs.declared.transaction.Tx.{Tx}
 use Rattle.block.specs.declared.transaction.Version.{Version}
@@ -15,9 +14,7 @@ use Rattle.policy.specs.Policies.{Policies, bytes_cmp}
 use Rattle.policy.specs.Tree.{Tree}
 use Rattle.channel.specs.Configuration.{Configuration}
 use Rattle.rules.specs.declared.answer.Refused.TheVariants.{WrongNumber, WrongPrevious}
-use Rattle.rules.specs.declared.committed.CommittedBlock.{CommittedBlock}
 use Rattle.rules.specs.declared.flag.Flag.TheVariants.{Valid, EndorsementPolicyFailure, MvccReadConflict, PhantomReadConflict, BadRwset, InvalidChaincode, DuplicateTxId, TargetChainNotFound}
-use Rattle.rules.specs.declared.history.HistoryEntry.{HistoryEntry}
 use Rattle.rules.specs.declared.row.Row.{Row}
 use Rattle.rules.specs.Answers.{first_use_answer}
 use Rattle.rules.specs.Candidate.{Candidate, candidate_of}
@@ -29,16 +26,10 @@ use Rattle.rules.specs.Job.{Job}
 use Rattle.rules.specs.State.{State, key_cmp, with_changes, version_in}
 use Rattle.rules.specs.Step.{Step}
 use Rattle.rules.specs.World.{World}
-use Rattle.rules.proofs.rows.Shared.{p0, q0, either_peer, both_peers, chaincode, k, at, read_at, absent, put, deleted, policy_put, policy_removed, set_of, an_id, over, tx, reading, scanning, writing, writing_policy, any, endorsed_by}
+use Rattle.rules.proofs.rows.Shared.{p0, q0, either_peer, both_peers, chaincode, k, at, read_at, absent, put, deleted, policy_put, policy_removed, set_of, an_id, over, tx, reading, scanning, writing, writing_policy, any, endorsed_by, a, c, dd, zz, kept, found, entry}
 use Rattle.rules.proofs.rows.Looks.{looks, uses, scans, entry_looks}
 
 -- ---- the world
-
-abbrev a : List ℕ
-a = codes "a"
-
-abbrev c : List ℕ
-c = codes "c"
 
 abbrev g : List ℕ
 g = codes "g"
@@ -49,13 +40,6 @@ m = codes "m"
 -- without a row
 abbrev q : List ℕ
 q = codes "q"
-
-abbrev dd : List ℕ
-dd = codes "dd"
-
--- without a definition
-abbrev zz : List ℕ
-zz = codes "zz"
 
 abbrev first_row : Option Tree → Row
 first_row policy = record { value = codes "v"; version = at 0 0; policy = policy }
@@ -75,10 +59,6 @@ definitions = from_entries {R = bytes_cmp} ((chaincode, either_peer) ∷ (dd, bo
 
 abbrev channel : Configuration
 channel = record { name = codes "ch"; definitions = definitions }
-
--- any bytes and flags will do for a kept block
-abbrev kept : CommittedBlock
-kept = record { bytes = []; header_hash = replicate 32 1; flags = [] }
 
 abbrev world_1 : World
 world_1 = record { state = before; history = empty; first_uses = empty; blocks = kept ∷ [] }
@@ -155,9 +135,6 @@ unfolding running with_changes
 touched_key_is_as_before = simp looks refl
 
 -- ---- ranges around an insert
-
-abbrev found : List ℕ → Version → KeyVersion
-found key v = record { key = key; version = v }
 
 -- from a to before d, read to its end
 abbrev a_and_c : Version → Candidate
@@ -269,9 +246,6 @@ written_and_deleted = block_1 (
 pub reads_what_is_left : flags written_and_deleted ≡ Valid ∷ Valid ∷ Valid ∷ []
 unfolding running with_changes
 reads_what_is_left = simp looks refl
-
-abbrev entry : Version → Option (List ℕ) → HistoryEntry
-entry v value = record { version = v; id = an_id; value = value }
 
 -- over any history
 module _ (old : History) where

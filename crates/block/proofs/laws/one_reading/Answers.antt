@@ -1,5 +1,5 @@
-use Rattle.block.proofs.Answered.{one_block, one_spelling, one_fault, block_or_fault}
+use Rattle.block.proofs.Answered.{one_block, one_spelling, one_fault, block_or_fault, some_reading}
 use Rattle.block.proofs.laws.one_reading.Goals as goal
 
 pub returns : goal.returns
-returns c = record { one_block = one_block; one_spelling = one_spelling; one_fault = one_fault; block_or_fault = block_or_fault }
+returns c = record { one_block = one_block; one_spelling = one_spelling; one_fault = one_fault; block_or_fault = block_or_fault; some_reading = some_reading }

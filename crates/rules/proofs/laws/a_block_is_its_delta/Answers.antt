@@ -1,5 +1,5 @@
-use Rattle.rules.proofs.Deltas.{committed-by_delta}
+use Rattle.rules.proofs.Deltas.{committed-is_delta}
 use Rattle.rules.proofs.laws.a_block_is_its_delta.Goals as goal
 
 pub returns : goal.returns
-returns c = committed-by_delta
+returns c = committed-is_delta
