@@ -1,15 +1,11 @@
 -- The ledger's steps are those of the definition, and make a chain.
-use Rattle.std.proofs.Common.{◌≡◌, ℕ, ◌+◌, ◌<◌, List, [], ◌∷◌, ◌++◌, length, get_or, take, Result, Ok, refl, sym, ap, subst, ◌∙◌}
+use Rattle.std.proofs.Common.{◌≡◌, ℕ, ◌+◌, ◌<◌, List, [], ◌∷◌, ◌++◌, length, get_or, take, Result, refl, sym, ap, subst, ◌∙◌}
 use Rattle.std.proofs.lemmas.List.{take_more, map_push}
-use Rattle.block.specs.declared.block.Block.{Block}
-use Rattle.block.specs.Grammar.{Spells}
 use Rattle.channel.specs.Configuration.{Configuration}
 use Rattle.policy_eval.specs.Accepts.{Accepts}
 use Rattle.rules.specs.declared.answer.Accepted.{Accepted}
 use Rattle.rules.specs.declared.answer.Refused.{Refused}
-use Rattle.rules.specs.declared.flag.Flag.{Flag}
 use Rattle.rules.specs.World.{World}
-use Rattle.rules.specs.Linked.{IsLinked}
 use Rattle.rules.specs.Step.{Step}
 use Rattle.rules.specs.Chain.{Submission, Chain}
 use Rattle.commit.specs.Submissions.{submissions}

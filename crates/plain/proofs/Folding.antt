@@ -1,15 +1,12 @@
 -- What runs along in the code is what runs along in the definition.
-use Rattle.std.proofs.Common.{◌≡◌, ℕ, suc, ◌+◌, ◌<◌, Bool, cond, List, [], ◌∷◌, ◌++◌, length, get_or, map, Option, refl, sym, ap, ◌∙◌, add-one, arith}
+use Rattle.std.proofs.Common.{◌≡◌, ℕ, suc, ◌+◌, ◌<◌, cond, List, [], ◌∷◌, ◌++◌, length, get_or, map, sym, ap, ◌∙◌, add-one, arith}
 use Rattle.std.specs.List.{range_with_len}
 use Rattle.std.proofs.lemmas.List.{get_or-map}
 use Rattle.std.proofs.lemmas.List.FromFn.{map-range_with_len_more}
 use Rattle.policy.specs.Policies.{Policies}
-use Rattle.rules.specs.declared.flag.Flag.{Flag}
 use Rattle.rules.specs.declared.flag.Flag.TheVariants.{BadPayload}
-use Rattle.rules.specs.declared.history.HistoryEntry.{HistoryEntry}
-use Rattle.rules.specs.declared.row.Row.{Row}
 use Rattle.rules.specs.Flags.{is_valid}
-use Rattle.rules.specs.State.{State, StateKey, ChangeOf, with_changes}
+use Rattle.rules.specs.State.{with_changes}
 use Rattle.rules.specs.Candidate as rules
 use Rattle.rules.specs.World.{World}
 use Rattle.rules.specs.Job.{Job, candidate_at, version_of, touched_by, changes_by, entries_by, endorsement_by, reads_by, flag_by}

@@ -1,5 +1,5 @@
 -- A block that was taken in, folded and kept is a step of the definition.
-use Rattle.std.proofs.Common.{◌≡◌, ℕ, ◌<◌, ◌≤◌, ◌^◌, List, [], ◌∷◌, length, map, Option, Ok, refl, sym, ap, subst, ◌∙◌, arith}
+use Rattle.std.proofs.Common.{◌≡◌, ℕ, List, [], length, map, Option, Ok, sym, ap, subst, ◌∙◌}
 use Rattle.std.proofs.lemmas.List.{length-map}
 use Rattle.std.proofs.lemmas.List.FromFn.{length-map-range_with_len}
 use Rattle.block.specs.declared.block.Block.{Block}
@@ -8,17 +8,15 @@ use Rattle.channel.specs.Configuration.{Configuration}
 use Rattle.header_hash.specs.Hashes.{header_hash_of}
 use Rattle.policy_eval.specs.Accepts.{Accepts}
 use Rattle.rules.specs.declared.answer.Accepted.{Accepted}
-use Rattle.rules.specs.declared.committed.CommittedBlock.{CommittedBlock}
 use Rattle.rules.specs.declared.delta.Delta.{Delta}
-use Rattle.rules.specs.declared.delta.NewUse.{NewUse}
 use Rattle.rules.specs.declared.flag.Flag.{Flag}
 use Rattle.rules.specs.Candidate as rules
 use Rattle.rules.specs.Commit.{txs_of, job_of, uses_from, committed_of, world_after}
 use Rattle.rules.specs.Delta.{changes_in, entries_in, uses_in, applied}
-use Rattle.rules.specs.Fold.{flag, flags, changes_to, entries_to}
+use Rattle.rules.specs.Fold.{flag, flags}
 use Rattle.rules.specs.Job.{Job}
 use Rattle.rules.specs.Linked.{IsLinked}
-use Rattle.rules.specs.Step.{accepted_of, Step}
+use Rattle.rules.specs.Step.{Step}
 use Rattle.rules.specs.World.{World}
 use Rattle.rules.proofs.Candidates.{length-candidates_from}
 use Rattle.rules.proofs.Deltas.{committed-by_delta}

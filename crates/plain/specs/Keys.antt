@@ -1,4 +1,4 @@
--- A key of the state that the code lends.
+-- A key of the state that the code lends. No public contract cites this.
 use Rattle.std.specs.Prelude.{List, map}
 use Rattle.plain.specs.declared.state_key.StateKey.{StateKey}
 use Rattle.rules.specs.State as state

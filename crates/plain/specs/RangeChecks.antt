@@ -1,4 +1,4 @@
--- The two parts of a check of a range, over its results and over the keys that were ever changed.
+-- The two parts of a check of a range, over its results and over the keys that were ever changed. No public contract cites this.
 use Rattle.std.specs.Prelude.{ℕ, List, Bool, not, ◌&&◌, ◌||◌, Some, is_none}
 use Rattle.std.specs.List.{list_any}
 use Rattle.std.specs.Option.{option_eq}

@@ -1,4 +1,4 @@
--- Results of a range query whose keys strictly rise.
+-- Results of a range query whose keys strictly rise. No public contract cites this.
 use Rattle.std.specs.Prelude.{List, Bool, map}
 use Rattle.std.specs.FinMap.{is_sorted}
 use Rattle.block.specs.declared.transaction.KeyVersion.{KeyVersion}

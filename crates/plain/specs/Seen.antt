@@ -1,4 +1,4 @@
--- Candidates of the code.
+-- Candidates of the code. No public contract cites this.
 use Rattle.std.specs.Prelude.{List, map}
 use Rattle.plain.specs.declared.candidate.Candidate.{Candidate}
 use Rattle.plain.specs.declared.candidate.Candidate.TheVariants.{Flagged, Open}

@@ -1,4 +1,4 @@
--- The state within a block.
+-- The state within a block. No public contract cites this.
 use Rattle.rules.specs.State.{State, with_changes}
 use Rattle.rules.specs.Delta.{changes_in}
 use Rattle.plain.specs.declared.state.StateNow.{StateNow}

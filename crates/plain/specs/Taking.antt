@@ -1,5 +1,5 @@
--- What taking one candidate makes of what runs along in the code.
-use Rattle.std.specs.Prelude.{◌≡◌, ℕ, List, [], ◌∷◌, ◌++◌, Bool, if◌then◌else◌, map}
+-- What taking one candidate makes of what runs along in the code. No public contract cites this.
+use Rattle.std.specs.Prelude.{◌≡◌, ℕ, [], ◌++◌, Bool, if◌then◌else◌, map}
 use Rattle.std.specs.List.{range_with_len}
 use Rattle.block.specs.declared.transaction.Version.{Version}
 use Rattle.policy.specs.Policies.{Policies}

@@ -1,5 +1,5 @@
-//! A serial committer over plain lists, slow and obvious: it computes the definitions of `rules` as they stand.
-//! Faster committers are compared with it.
+//! A serial committer over plain lists, slow and obvious: what it answers is what the definitions of `rules` say.
+//! Faster committers are to be compared with it.
 #![tactic(auto)]
 
 mod candidate;

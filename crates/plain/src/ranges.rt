@@ -87,7 +87,7 @@ fn are_found(state: StateNow<'_>, namespace: &Name, range: &Range) -> bool
     true
 }
 
-/// The same of all changes that were ever made before this block.
+/// Whether `are_listed` holds for the changes of every block before this one.
 fn are_all_listed(state: StateNow<'_>, namespace: &Name, range: &Range, deltas: &[Delta]) -> bool
     ensures { result ≡ list_all (λ d. list_all (is_listed (state_now state.entry) namespace.now range.now) d.changes) deltas.now }
 {

@@ -44,8 +44,10 @@ fn uses_of(
 
 /// Takes the bytes of the next block of a channel: accepts them, or refuses them and changes nothing.
 ///
-/// Slow, with no cleverness at all: each look-up of a row goes through all changes that the world ever made,
-/// so that a block takes time in the product of its reads and writes and these, a range in their square.
+/// Slow, with no cleverness at all. Each look-up of a row goes through all changes that the world ever made, so that a
+/// block takes time in the product of its reads and writes and these, a range in their square. Each id is compared
+/// with all ids, each written key with all touched ones, and whether a list repeats nothing takes its square. A world
+/// keeps every change that was ever made, and the bytes of every block.
 pub fn submit<V: Verify>(
     alloc: Global,
     channel: &Channel,

@@ -4,16 +4,17 @@ use crate::{World, submit};
 use block::Identity;
 use channel::Channel;
 use policy_eval::Verify;
-use rules::{Flag, Row};
+use rules::{Flag, HistoryEntry, Row};
 use std::alloc::Global;
 use std::test::Fail;
 use values::{Key, Name, is_key, is_name};
-use vectors::read_use;
-use vectors::rows::ROWS;
-use vectors::uses::USES;
+use vectors::rows::rows;
+use vectors::uses::uses;
+use vectors::{Left, read_use};
 
 mod chain;
 mod endorsing;
+mod long_block;
 mod memory;
 mod reading;
 mod refusals;
@@ -113,8 +114,39 @@ fn show_row(alloc: Global, shown: &mut Vec<u8>, row: Option<&Row>) -> Result<(),
     Ok(())
 }
 
+// As `Left::history` has it.
+fn show_entry(shown: &mut Vec<u8>, entry: &HistoryEntry) -> Result<(), Fail> {
+    shown.extend_from_slice(&entry.version.block.to_be_bytes())?;
+    shown.extend_from_slice(&entry.version.tx.to_be_bytes())?;
+    shown.extend_from_slice(&entry.id)?;
+    match &entry.value {
+        None => shown.push(b'-')?,
+        Some(value) => {
+            shown.push(b'=')?;
+            shown.extend_from_slice(&value.len().to_be_bytes())?;
+            shown.extend_from_slice(value.as_slice())?;
+        }
+    }
+    Ok(())
+}
+
+fn show_history(
+    alloc: Global,
+    shown: &mut Vec<u8>,
+    world: &World,
+    left: &Left,
+) -> Result<(), Fail> {
+    let namespace = name(alloc, left.namespace)?;
+    let at = key(alloc, left.key)?;
+    let entries = world.history(alloc, &namespace, &at)?;
+    for entry in &entries {
+        show_entry(shown, entry)?;
+    }
+    Ok(())
+}
+
 fn show_uses(shown: &mut Vec<u8>, world: &World) -> Result<(), Fail> {
-    for bytes in &USES {
+    for bytes in uses() {
         if let Some(used) = world.first_use(&read_use(bytes).id) {
             shown.extend_from_slice(&used.block.to_be_bytes())?;
             shown.extend_from_slice(&used.place.to_be_bytes())?;
@@ -132,9 +164,10 @@ fn shown(alloc: Global, world: &World) -> Result<Vec<u8>, Fail> {
     if let Some(hash) = world.header_hash() {
         shown.extend_from_slice(&hash)?;
     }
-    for left in &ROWS {
+    for left in rows() {
         let row = row_at(alloc, world, left.namespace, left.key)?;
         show_row(alloc, &mut shown, row)?;
+        show_history(alloc, &mut shown, world, left)?;
     }
     show_uses(&mut shown, world)?;
     Ok(shown)

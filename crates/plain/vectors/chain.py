@@ -56,14 +56,23 @@ def rust_flags(flags):
     return "&[" + ", ".join(map(str, flags)) + "]"
 
 
+def rust_table(name, item, rows):
+    """A table behind a function: a proof that calls it doesn't read the table."""
+    yield f"pub fn {name}() -> &'static [{item}] {{ &{name.upper()} }}\n"
+    yield f"static {name.upper()}: [{item}; {len(rows)}] = ["
+    yield from rows
+    yield "];"
+
+
+def rust_block(octets, header_hash, flags):
+    parts = f"bytes: {rust_bytes(octets)}, header_hash: {rust_bytes(header_hash)}, flags: {rust_flags(flags)}"
+    return f"Committed {{ {parts} }},"
+
+
 def rust_blocks(name, blocks):
     yield "//! Blocks of one chain, made by vectors/chain.py.\n"
     yield "use super::Committed;\n"
-    yield f"pub const {name}: [Committed; {len(blocks)}] = ["
-    for octets, header_hash, flags in blocks:
-        yield f"Committed {{ bytes: {rust_bytes(octets)},"
-        yield f"header_hash: {rust_bytes(header_hash)}, flags: {rust_flags(flags)} }},"
-    yield "];"
+    yield from rust_table(name, "Committed", [rust_block(*block) for block in blocks])
 
 
 def written_keys(world):
@@ -78,24 +87,32 @@ def rust_row(row):
     return f'Some(LeftRow {{ value: {rust_bytes(value)}, block: {block}, tx: {tx}, policy: "{text}" }})'
 
 
+def rust_entry(version, id, value):
+    """The bytes of `Left::history` for one entry."""
+    block, tx = version
+    tail = b"-" if value is None else b"=" + len(value).to_bytes(8, "big") + value
+    return block.to_bytes(8, "big") + tx.to_bytes(4, "big") + id + tail
+
+
+def rust_left(world, at):
+    namespace, key = map(rust_bytes, at)
+    row = rust_row(world.state.get(at))
+    history = rust_bytes(b"".join(rust_entry(*entry) for entry in reversed(world.history.get(at, []))))
+    return f"Left {{ namespace: {namespace}, key: {key}, row: {row}, history: {history} }},"
+
+
 def rust_rows(world):
     yield "//! What the chain leaves at each key, made by vectors/chain.py.\n"
     yield "use super::{Left, LeftRow};\n"
-    keys = written_keys(world)
-    yield f"pub const ROWS: [Left; {len(keys)}] = ["
-    for namespace, key in keys:
-        row = rust_row(world.state.get((namespace, key)))
-        yield f"Left {{ namespace: {rust_bytes(namespace)}, key: {rust_bytes(key)}, row: {row} }},"
-    yield "];"
+    yield from rust_table("rows", "Left", [rust_left(world, at) for at in written_keys(world)])
 
 
 def rust_uses(world):
     yield "//! Where the chain uses each id first, made by vectors/chain.py.\n"
+    octets = b"".join(id + bytes(use) for id, use in world.first_uses.items())
     yield "/// The id's 64 bytes, then the block, the place and the number of the flag, a byte each."
-    yield f"pub const USES: [&[u8; 67]; {len(world.first_uses)}] = ["
-    for id, use in world.first_uses.items():
-        yield f'b"{id.decode()}{"".join(f"{chr(92)}x{number:02x}" for number in use)}",'
-    yield "];"
+    yield "pub fn uses() -> &'static [[u8; 67]] { USES.as_chunks().0 }\n"
+    yield f"static USES: &[u8; {len(octets)}] = {rust_bytes(octets)};"
 
 
 def rust_worked():
@@ -107,8 +124,8 @@ def rust_worked():
 def write_rust(world):
     half = len(world.blocks) // 2
     files = {
-        "first_blocks": rust_blocks("FIRST_BLOCKS", world.blocks[:half]),
-        "later_blocks": rust_blocks("LATER_BLOCKS", world.blocks[half:]),
+        "first_blocks": rust_blocks("first_blocks", world.blocks[:half]),
+        "later_blocks": rust_blocks("later_blocks", world.blocks[half:]),
         "rows": rust_rows(world),
         "uses": rust_uses(world),
         "worked": rust_worked(),

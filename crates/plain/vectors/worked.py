@@ -1,4 +1,4 @@
-"""Short chains that each show one thing. The flags of the last block were written down by hand; all before it are 0."""
+"""Short chains that each show one thing, with flags that were written down by hand, and two blocks 0."""
 
 from hashlib import sha256
 

@@ -1,9 +1,9 @@
-use super::vectors::first_blocks::FIRST_BLOCKS;
-use super::vectors::later_blocks::LATER_BLOCKS;
-use super::vectors::rows::ROWS;
-use super::vectors::uses::USES;
+use super::vectors::first_blocks::first_blocks;
+use super::vectors::later_blocks::later_blocks;
+use super::vectors::rows::rows;
+use super::vectors::uses::uses;
 use super::vectors::{Committed, Left, LeftRow, read_use};
-use super::{CHANNEL, SaysOk, numbers, row_at, show_row};
+use super::{CHANNEL, SaysOk, numbers, row_at, show_history, show_row};
 use crate::{World, submit};
 use channel::Channel;
 use std::alloc::Global;
@@ -32,8 +32,8 @@ fn take_all(
 fn whole_chain(rt: &impl Abort, alloc: Global) -> Result<World, Fail> {
     let channel = Channel::read(alloc, CHANNEL)?;
     let mut world = World::new(alloc);
-    take_all(rt, alloc, &channel, &mut world, &FIRST_BLOCKS)?;
-    take_all(rt, alloc, &channel, &mut world, &LATER_BLOCKS)?;
+    take_all(rt, alloc, &channel, &mut world, first_blocks())?;
+    take_all(rt, alloc, &channel, &mut world, later_blocks())?;
     Ok(world)
 }
 
@@ -58,14 +58,17 @@ fn check_left(rt: &impl Abort, alloc: Global, world: &World, left: &Left) -> Res
     let mut wanted = Vec::new(alloc);
     show_wanted(&mut wanted, &left.row)?;
     assert_eq!(rt; shown.as_slice(), wanted.as_slice(), "{:?}", left.key);
+    let mut history = Vec::new(alloc);
+    show_history(alloc, &mut history, world, left)?;
+    assert_eq!(rt; history.as_slice(), left.history, "{:?}", left.key);
     Ok(())
 }
 
 #[test]
-fn answers_and_rows(rt: HostRuntime) -> Result<(), Fail> {
+fn rows_and_histories(rt: HostRuntime) -> Result<(), Fail> {
     let alloc = rt.alloc();
     let world = whole_chain(&rt, alloc)?;
-    for left in &ROWS {
+    for left in rows() {
         check_left(&rt, alloc, &world, left)?;
     }
     Ok(())
@@ -74,7 +77,7 @@ fn answers_and_rows(rt: HostRuntime) -> Result<(), Fail> {
 #[test]
 fn first_uses(rt: HostRuntime) -> Result<(), Fail> {
     let world = whole_chain(&rt, rt.alloc())?;
-    for bytes in &USES {
+    for bytes in uses() {
         let want = read_use(bytes);
         let used = world.first_use(&want.id).ok_or("the id is used")?;
         assert_eq!(rt; used.block, want.block);
@@ -90,7 +93,7 @@ fn kept_blocks(rt: HostRuntime) -> Result<(), Fail> {
     let alloc = rt.alloc();
     let world = whole_chain(&rt, alloc)?;
     assert_eq!(rt; world.height(), 32);
-    let blocks = FIRST_BLOCKS.iter().chain(LATER_BLOCKS.iter());
+    let blocks = first_blocks().iter().chain(later_blocks().iter());
     for (number, block) in blocks.enumerate() {
         let kept = world.block(number as u64).ok_or("the block was accepted")?;
         assert_eq!(rt; kept.bytes.as_slice(), block.bytes, "block {number}");

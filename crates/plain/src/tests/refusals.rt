@@ -1,7 +1,7 @@
 //! Refused bytes between the blocks of the chain.
 
-use super::vectors::first_blocks::FIRST_BLOCKS;
-use super::vectors::later_blocks::LATER_BLOCKS;
+use super::vectors::first_blocks::first_blocks;
+use super::vectors::later_blocks::later_blocks;
 use super::vectors::worked::TRANSACTION_WITHOUT_BYTES;
 use super::{CHANNEL, SaysOk, shown};
 use crate::{World, submit};
@@ -38,23 +38,19 @@ fn refused(
 
 // Bytes of a header with a previous hash: 4 of magic, 8 of the number, 1, 32 of the previous hash, 32 of the
 // data hash, 4 of the count.
-fn flips(number: u64) -> [(usize, Refused); 9] {
-    let wrong_number = Refused::WrongNumber {
-        want: number,
-        got: number ^ 1,
-    };
-    [
-        (0, Refused::Malformed(BlockFault::BadMagic)),
-        (3, Refused::Malformed(BlockFault::BadMagic)),
-        (11, wrong_number),
-        (12, Refused::Malformed(BlockFault::PreviousLength)),
-        (13, Refused::WrongPrevious),
-        (44, Refused::WrongPrevious),
-        (45, Refused::WrongDataHash),
-        (76, Refused::WrongDataHash),
-        (77, Refused::Malformed(BlockFault::TooManyTxs)),
-    ]
-}
+const FLIPS: [(usize, Refused); 8] = [
+    (0, Refused::Malformed(BlockFault::BadMagic)),
+    (3, Refused::Malformed(BlockFault::BadMagic)),
+    (12, Refused::Malformed(BlockFault::PreviousLength)),
+    (13, Refused::WrongPrevious),
+    (44, Refused::WrongPrevious),
+    (45, Refused::WrongDataHash),
+    (76, Refused::WrongDataHash),
+    (77, Refused::Malformed(BlockFault::TooManyTxs)),
+];
+
+// The lowest byte of the number.
+const NUMBER: usize = 11;
 
 const CUTS: [(usize, BlockFault); 8] = [
     (0, BlockFault::BadMagic),
@@ -75,10 +71,21 @@ fn refuses_changed(
 ) -> Result<(), Fail> {
     let alloc = rt.alloc();
     let before = shown(alloc, world)?;
-    for (place, want) in flips(world.height()) {
+    for (place, want) in FLIPS {
         let changed = flipped(alloc, bytes, place)?;
         refused(rt, channel, world, &before, &changed, want)?;
     }
+    let want = world.height();
+    let got = want ^ 1;
+    let other = flipped(alloc, bytes, NUMBER)?;
+    refused(
+        rt,
+        channel,
+        world,
+        &before,
+        &other,
+        Refused::WrongNumber { want, got },
+    )?;
     for (length, fault) in CUTS {
         let cut = bytes.get(..length).ok_or("so many bytes are there")?;
         refused(rt, channel, world, &before, cut, Refused::Malformed(fault))?;
@@ -94,7 +101,7 @@ fn changed_bytes(rt: HostRuntime) -> Result<(), Fail> {
     let alloc = rt.alloc();
     let channel = Channel::read(alloc, CHANNEL)?;
     let mut world = World::new(alloc);
-    for block in FIRST_BLOCKS.iter().chain(LATER_BLOCKS.iter()) {
+    for block in first_blocks().iter().chain(later_blocks().iter()) {
         if world.height() % 16 == 3 {
             refuses_changed(&rt, &channel, &mut world, block.bytes)?;
         }
@@ -112,11 +119,11 @@ fn other_numbers(rt: HostRuntime) -> Result<(), Fail> {
     let alloc = rt.alloc();
     let channel = Channel::read(alloc, CHANNEL)?;
     let mut world = World::new(alloc);
-    for block in FIRST_BLOCKS.iter().take(4) {
+    for block in first_blocks().iter().take(4) {
         submit(alloc, &channel, &mut world, block.bytes, &SaysOk)?;
     }
     let before = shown(alloc, &world)?;
-    for (number, block) in FIRST_BLOCKS.iter().enumerate() {
+    for (number, block) in first_blocks().iter().enumerate() {
         let got = number as u64;
         if got != 4 {
             let want = Refused::WrongNumber { want: 4, got };

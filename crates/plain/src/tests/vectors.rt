@@ -13,11 +13,13 @@ pub struct Committed {
     pub flags: &'static [u8],
 }
 
-/// What is left at a key.
+/// What is left at a key. Its history has for each entry, the newest first, the block in 8 bytes and the transaction in
+/// 4, the id's 64 bytes, and `-` for a delete, or `=`, the length of the value in 8 bytes and the value.
 pub struct Left {
     pub namespace: &'static [u8],
     pub key: &'static [u8],
     pub row: Option<LeftRow>,
+    pub history: &'static [u8],
 }
 
 /// A value, its version, and the text of its own policy, which is empty where it has none.
@@ -37,7 +39,7 @@ pub struct Used {
     pub flag: u8,
 }
 
-/// What 67 bytes of `USES` say.
+/// What 67 bytes of `uses` say.
 pub fn read_use(bytes: &[u8; 67]) -> Used {
     let mut id = [0; 64];
     id.copy_from_slice(&bytes[..64]);

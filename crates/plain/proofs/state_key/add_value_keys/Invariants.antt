@@ -1,6 +1,5 @@
 use Rattle.std.proofs.Common.{◌≡◌, ◌++◌, take, map}
 use Rattle.plain.specs.Keys.{keys_of}
-use Rattle.rules.specs.Effect as effect
 use Rattle.plain.proofs.state_key.add_value_keys.Given as goal
 
 abbrev pub invariant-loop-write : goal.invariant-loop-write

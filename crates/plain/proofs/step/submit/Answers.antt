@@ -1,8 +1,7 @@
-use Rattle.std.proofs.Common.{◌≡◌, ℕ, List, [], length, map, Option, Ok, Err, refl, sym, ap, subst, ◌∙◌, arith}
+use Rattle.std.proofs.Common.{◌≡◌, ℕ, List, [], length, map, refl, sym, ap, subst, ◌∙◌, arith}
 use Rattle.std.proofs.lemmas.Result.{err_from_is_err_and}
 use Rattle.block.specs.Decoded.{tx_of}
 use Rattle.policy.specs.Policies.{Policies}
-use Rattle.rules.specs.declared.flag.Flag.{Flag}
 use Rattle.rules.specs.Candidate.{used_id, candidates_from}
 use Rattle.rules.specs.Commit.{uses_from}
 use Rattle.rules.specs.Delta.{uses_in}

@@ -2,7 +2,11 @@
 
 use super::Committed;
 
-pub const FIRST_BLOCKS: [Committed; 16] = [
+pub fn first_blocks() -> &'static [Committed] {
+    &FIRST_BLOCKS
+}
+
+static FIRST_BLOCKS: [Committed; 16] = [
     Committed {
         bytes: b"FBK1\0\0\0\0\0\0\0\0\0\xe0o0\x8b\x9d\xc5dj\xec\xd3\x80\x8a\xf5\xea\x0d\x87\xaa\xfa\xdc0\xe6v\
     II\x7fis\xf0\x905\x173\0\0\0\x02\0\0\0\xa8\x02ch4d941d69b676a61aff49cd6e78f11d3727d68eebad17\

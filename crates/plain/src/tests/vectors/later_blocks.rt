@@ -2,7 +2,11 @@
 
 use super::Committed;
 
-pub const LATER_BLOCKS: [Committed; 16] = [
+pub fn later_blocks() -> &'static [Committed] {
+    &LATER_BLOCKS
+}
+
+static LATER_BLOCKS: [Committed; 16] = [
     Committed {
         bytes: b"FBK1\0\0\0\0\0\0\0\x10 \xa5\x0d\x1bi\xea\xdc\xb7\xe3gT\xf5\xc1\xc2\x16\x09\x94\x0bt\xbbo\xcc\
     \x11\x8e\xf8\xd6c-\xff\x0c\xbcP\x87\xa5\xe6*U\xbb\xa01\xab\xf5\xfe7\x05\x16\xce\xd4.\xcdE+p\

@@ -1,4 +1,4 @@
-use Rattle.std.proofs.Common.{take, sym, ap, ◌∙◌, arith}
+use Rattle.std.proofs.Common.{take, sym, ap, ◌∙◌}
 use Rattle.std.specs.Option.{option_or}
 use Rattle.std.specs.Prelude.{flat_map}
 use Rattle.std.specs.FinMap.{get, find}

@@ -3,9 +3,8 @@ use Rattle.std.specs.FinMap.{get, empty}
 use Rattle.std.specs.Prelude.{flat_map}
 use Rattle.rules.specs.declared.delta.Delta.{Delta}
 use Rattle.rules.specs.declared.row.Row.{Row}
-use Rattle.rules.specs.State.{State, key_cmp, with_changes}
+use Rattle.rules.specs.State.{with_changes}
 use Rattle.rules.specs.Delta.{changes_in}
-use Rattle.rules.proofs.Changes.{with_changes-none}
 use Rattle.plain.specs.Keys.{key_of}
 use Rattle.plain.proofs.Worlds.{one_delta_row, no_row}
 use Rattle.plain.proofs.world.World.row_at.Goals as goal
