@@ -9,7 +9,7 @@ use Rattle.block.specs.Grammar.{Spells}
 use Rattle.block.specs.Faults.{HasFault}
 use Rattle.block.specs.Reading.{Gives, block_at}
 use Rattle.block.proofs.Steps.{ok_is}
-use Rattle.block.proofs.Fields.{IsBytes}
+use Rattle.values.proofs.Numbers.{IsBytes}
 use Rattle.block.proofs.Blocks.{block_taken, block_again}
 use Rattle.block.proofs.Faulty.{block_fails}
 use Rattle.block.proofs.FaultyAgain.{block_fails_again}

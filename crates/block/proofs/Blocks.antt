@@ -7,40 +7,42 @@ use Rattle.std.proofs.lemmas.List.Concat.{flat_map-cons}
 use Rattle.byteorder.specs.Endian.{big_bytes}
 use Rattle.block.specs.declared.block.Block.{Block}
 use Rattle.block.specs.declared.block.Header.{Header}
-use Rattle.block.specs.declared.block.TheConstants.{MAX_TXS, MAX_TX_BYTES}
+use Rattle.transaction.specs.Limits.{max_tx_bytes}
+use Rattle.block.specs.Limits.{max_txs}
 use Rattle.block.specs.declared.fault.BlockFault.TheVariants.{TooManyTxs, TxTooLong, TrailingBytes}
 use Rattle.block.specs.Grammar.{header_bytes, tx_bytes, txs_bytes, IsTx, Spells}
 use Rattle.block.specs.Reading.{◌>>=◌, Read, number_at, bytes_at, header_at, count_at, tx_at, txs_at, block_at}
 use Rattle.block.proofs.Steps.{bind_ok, refused_ok, taken_ok, ok_is}
 use Rattle.block.proofs.Rests.{Txs, count_or_fault, tx_or_fault, in_front, after_tx, ended, after_count, after_header}
-use Rattle.block.proofs.Fields.{IsBytes, IsBytes-behind, bytes_taken, bytes_again, wide4, number_taken, number_again}
+use Rattle.values.proofs.Numbers.{IsBytes, IsBytes-behind, wide4}
+use Rattle.block.proofs.Fields.{bytes_taken, bytes_again, number_taken, number_again}
 use Rattle.block.proofs.Headers.{header_taken, header_again}
 
-pub count_taken : (bytes : List ℕ) (x : ℕ × List ℕ) → IsBytes bytes → count_at bytes ≡ Ok x → (bytes ≡ big_bytes 4 x.0 ++ x.1) × (x.0 ≤ MAX_TXS)
+pub count_taken : (bytes : List ℕ) (x : ℕ × List ℕ) → IsBytes bytes → count_at bytes ≡ Ok x → (bytes ≡ big_bytes 4 x.0 ++ x.1) × (x.0 ≤ max_txs)
 unfolding count_at
 count_taken bytes x fits e =
     let a = bind_ok (number_at 4 bytes) count_or_fault x e in
-    let g = refused_ok (ltb MAX_TXS a.0.0) TooManyTxs (Ok a.0) x a.2 in
+    let g = refused_ok (ltb max_txs a.0.0) TooManyTxs (Ok a.0) x a.2 in
     let read = number_taken 4 wide4 bytes a.0 fits a.1 in
-    subst (λ (p : ℕ × List ℕ). (bytes ≡ big_bytes 4 p.0 ++ p.1) × (p.0 ≤ MAX_TXS)) (ok_is a.0 x g.1) (read.0, ltb-false _ _ g.0)
+    subst (λ (p : ℕ × List ℕ). (bytes ≡ big_bytes 4 p.0 ++ p.1) × (p.0 ≤ max_txs)) (ok_is a.0 x g.1) (read.0, ltb-false _ _ g.0)
 
-pub count_again : (n : ℕ) (rest : List ℕ) → n ≤ MAX_TXS → count_at (big_bytes 4 n ++ rest) ≡ Ok (n, rest)
+pub count_again : (n : ℕ) (rest : List ℕ) → n ≤ max_txs → count_at (big_bytes 4 n ++ rest) ≡ Ok (n, rest)
 unfolding count_at
 count_again n rest le =
     ap (λ (r : Read ℕ). r >>= count_or_fault) (number_again 4 n rest (omega arith))
-    ∙ ap (λ (b : Bool). cond b (Err TooManyTxs) (Ok (n, rest))) (le-ltb MAX_TXS n le)
+    ∙ ap (λ (b : Bool). cond b (Err TooManyTxs) (Ok (n, rest))) (le-ltb max_txs n le)
 
 pub tx_taken : (bytes : List ℕ) (x : List ℕ × List ℕ) → IsBytes bytes → tx_at bytes ≡ Ok x → (bytes ≡ tx_bytes x.0 ++ x.1) × IsTx x.0
 unfolding tx_at
 tx_taken bytes x fits e =
     let a = bind_ok (number_at 4 bytes) tx_or_fault x e in
-    let g = refused_ok (ltb MAX_TX_BYTES a.0.0) TxTooLong (bytes_at a.0.0 a.0.1) x a.2 in
+    let g = refused_ok (ltb max_tx_bytes a.0.0) TxTooLong (bytes_at a.0.0 a.0.1) x a.2 in
     let read = number_taken 4 wide4 bytes a.0 fits a.1 in
     let tx = bytes_taken a.0.0 a.0.1 x g.1 in
-    let small : a.0.0 ≤ MAX_TX_BYTES = ltb-false _ _ g.0 in
+    let small : a.0.0 ≤ max_tx_bytes = ltb-false _ _ g.0 in
     joined (big_bytes 4 a.0.0) bytes a.0.1 x.0 x.1 a.0.0 tx.1 read.0 tx.0 small
   where
-    joined : (front bytes behind tx rest : List ℕ) (n : ℕ) → length tx ≡ n → bytes ≡ big_bytes 4 n ++ behind → behind ≡ tx ++ rest → n ≤ MAX_TX_BYTES → (bytes ≡ tx_bytes tx ++ rest) × IsTx tx
+    joined : (front bytes behind tx rest : List ℕ) (n : ℕ) → length tx ≡ n → bytes ≡ big_bytes 4 n ++ behind → behind ≡ tx ++ rest → n ≤ max_tx_bytes → (bytes ≡ tx_bytes tx ++ rest) × IsTx tx
     joined front bytes behind tx rest n len e f small =
         (e ∙ ap (λ (t : List ℕ). big_bytes 4 n ++ t) f ∙ ap (λ (k : ℕ). big_bytes 4 k ++ (tx ++ rest)) (sym len) ∙ sym (append_assoc (big_bytes 4 (length tx)) tx rest), omega arith)
 
@@ -49,7 +51,7 @@ unfolding tx_at
 tx_again tx rest small =
     ap tx_at (append_assoc (big_bytes 4 (length tx)) tx rest)
     ∙ ap (λ (r : Read ℕ). r >>= tx_or_fault) (number_again 4 (length tx) (tx ++ rest) (omega arith))
-    ∙ ap (λ (b : Bool). cond b (Err TxTooLong) (bytes_at (length tx) (tx ++ rest))) (le-ltb MAX_TX_BYTES (length tx) small)
+    ∙ ap (λ (b : Bool). cond b (Err TxTooLong) (bytes_at (length tx) (tx ++ rest))) (le-ltb max_tx_bytes (length tx) small)
     ∙ bytes_again (length tx) tx rest refl
 
 -- a transaction in front of others
@@ -104,7 +106,7 @@ block_taken bytes x fits e =
     let fields : bytes ≡ header_bytes a.0.0 ++ txs_bytes (length c.0.0) c.0.0 =
     parts ∙ ap (λ (t : List ℕ). (header_bytes a.0.0 ++ (big_bytes 4 b.0.0 ++ flat_map tx_bytes c.0.0)) ++ t) nothing ∙ append-nil (header_bytes a.0.0 ++ (big_bytes 4 b.0.0 ++ flat_map tx_bytes c.0.0))
     ∙ ap (λ (n : ℕ). header_bytes a.0.0 ++ (big_bytes 4 n ++ flat_map tx_bytes c.0.0)) (sym txs.len) in
-    let few : length c.0.0 ≤ MAX_TXS = omega (arith, txs.len, count.1) in
+    let few : length c.0.0 ≤ max_txs = omega (arith, txs.len, count.1) in
     let spells : Spells bytes made = record { header = header.1; count = few; each = txs.each; fields = fields } in
     subst (λ (b : Block). Spells bytes b) (ok_is made x g.1) spells
 

@@ -7,7 +7,9 @@ use Rattle.byteorder.specs.Endian.{big_bytes}
 use Rattle.block.specs.declared.block.Header.{Header}
 use Rattle.block.specs.declared.block.Previous.{Previous}
 use Rattle.block.specs.declared.block.Previous.TheVariants.{Empty, Hash}
-use Rattle.block.specs.declared.block.TheConstants.{HASH_BYTES, MAX_TXS, MAX_TX_BYTES}
+use Rattle.values.specs.Hash.{hash_bytes}
+use Rattle.transaction.specs.Limits.{max_tx_bytes}
+use Rattle.block.specs.Limits.{max_txs}
 use Rattle.block.specs.declared.fault.BlockFault.{BlockFault}
 use Rattle.block.specs.declared.fault.BlockFault.TheVariants.{BadMagic, Truncated, PreviousLength, TooManyTxs, TxTooLong, TrailingBytes}
 use Rattle.block.specs.Grammar.{magic, previous_bytes, header_bytes, tx_bytes, txs_bytes, IsHeader, IsTx, Spells}
@@ -15,7 +17,8 @@ use Rattle.block.specs.Faults.{Field, number, previous_length, previous_hash, da
 use Rattle.block.specs.Reading.{◌>>=◌, number_at, bytes_at, magic_at, previous_at, header_at, count_at, tx_at, txs_at, block_at}
 use Rattle.block.proofs.Steps.{bind_err, refused_err, taken_err, ok_not_err}
 use Rattle.block.proofs.Rests.{Txs, as_hash, hash_or_fault, as_header, after_previous, after_number, after_magic, count_or_fault, tx_or_fault, in_front, after_tx, ended, after_count, after_header}
-use Rattle.block.proofs.Fields.{IsBytes, IsBytes-behind, bytes_fail, wide4, wide8, number_taken, number_fails}
+use Rattle.values.proofs.Numbers.{IsBytes, IsBytes-behind, wide4, wide8}
+use Rattle.block.proofs.Fields.{bytes_fail, number_taken, number_fails}
 use Rattle.block.proofs.Headers.{magic_taken, magic_again, previous_taken, header_taken}
 use Rattle.block.proofs.Blocks.{count_taken, tx_taken, txs_taken, AreTaken, tx_in_front}
 
@@ -37,13 +40,13 @@ previous_fails_len : (bytes : List ℕ) (n len : ℕ) (rest : List ℕ) (f : Blo
 unfolding previous_at
 previous_fails_len bytes n len rest f lt e h = empty (eqb len 0) refl h
   where
-    hash : (b : Bool) → eqb len 0 ≡ false → eqb len HASH_BYTES ≡ b → cond b (bytes_at HASH_BYTES rest >>= as_hash) (Err PreviousLength) ≡ Err f → HasFault bytes f
+    hash : (b : Bool) → eqb len 0 ≡ false → eqb len hash_bytes ≡ b → cond b (bytes_at hash_bytes rest >>= as_hash) (Err PreviousLength) ≡ Err f → HasFault bytes f
     hash true z t h =
-        elim (bind_err (bytes_at HASH_BYTES rest) as_hash f h) [
+        elim (bind_err (bytes_at hash_bytes rest) as_hash f h) [
           | inl k ↦
-              let is : len ≡ HASH_BYTES = eqb-true _ _ t in
-              let at : bytes ≡ (magic ++ big_bytes 8 n ++ HASH_BYTES ∷ []) ++ rest = e ∙ ap (λ (m : ℕ). (magic ++ big_bytes 8 n) ++ (m ∷ rest)) is ∙ sym (append_assoc (magic ++ big_bytes 8 n) (HASH_BYTES ∷ []) rest) in
-              short bytes (previous_hash n) rest f (lt, at) (bytes_fail HASH_BYTES rest f k)
+              let is : len ≡ hash_bytes = eqb-true _ _ t in
+              let at : bytes ≡ (magic ++ big_bytes 8 n ++ hash_bytes ∷ []) ++ rest = e ∙ ap (λ (m : ℕ). (magic ++ big_bytes 8 n) ++ (m ∷ rest)) is ∙ sym (append_assoc (magic ++ big_bytes 8 n) (hash_bytes ∷ []) rest) in
+              short bytes (previous_hash n) rest f (lt, at) (bytes_fail hash_bytes rest f k)
           | inr k ↦ absurd (ok_not_err (Hash k.0.0, k.0.1) f k.2)
         ]
     hash false z t h =
@@ -52,7 +55,7 @@ previous_fails_len bytes n len rest f lt e h = empty (eqb len 0) refl h
 
     empty : (b : Bool) → eqb len 0 ≡ b → cond b (Ok (Empty, rest)) (hash_or_fault len rest) ≡ Err f → HasFault bytes f
     empty true t h = absurd (ok_not_err (Empty, rest) f h)
-    empty false t h = hash (eqb len HASH_BYTES) t refl h
+    empty false t h = hash (eqb len hash_bytes) t refl h
 
 previous_fails : (bytes : List ℕ) (n : ℕ) (rest : List ℕ) (f : BlockFault) → n < 2 ^ 64 → bytes ≡ (magic ++ big_bytes 8 n) ++ rest → previous_at rest ≡ Err f → HasFault bytes f
 unfolding previous_at
@@ -70,8 +73,8 @@ header_fails bytes f fits e = at_magic (bind_err (magic_at bytes) after_magic f 
     at_data n r p lt e h k =
         let read = previous_taken r p h in
         let at : bytes ≡ (magic ++ big_bytes 8 n ++ previous_bytes p.0) ++ p.1 = two (magic ++ big_bytes 8 n) (previous_bytes p.0) p.1 bytes r e read.0 in
-        elim (bind_err (bytes_at HASH_BYTES p.1) (as_header n p.0) f k) [
-          | inl h ↦ short bytes (data_hash n p.0) p.1 f ((lt, read.1), at) (bytes_fail HASH_BYTES p.1 f h)
+        elim (bind_err (bytes_at hash_bytes p.1) (as_header n p.0) f k) [
+          | inl h ↦ short bytes (data_hash n p.0) p.1 f ((lt, read.1), at) (bytes_fail hash_bytes p.1 f h)
           | inr h ↦ absurd (ok_not_err (record { number = n; previous = p.0; data_hash = h.0.0 }, h.0.1) f h.2)
         ]
 
@@ -102,10 +105,10 @@ unfolding count_at
 count_fails bytes h rest f fits fine e k =
     elim (bind_err (number_at 4 rest) count_or_fault f k) [
       | inl k ↦ short bytes (count h) rest f (fine, e) (number_fails 4 rest f k)
-      | inr k ↦ over k.0 (number_taken 4 wide4 rest k.0 fits k.1) (refused_err (ltb MAX_TXS k.0.0) TooManyTxs f (Ok k.0) k.2)
+      | inr k ↦ over k.0 (number_taken 4 wide4 rest k.0 fits k.1) (refused_err (ltb max_txs k.0.0) TooManyTxs f (Ok k.0) k.2)
     ]
   where
-    over : (n : ℕ × List ℕ) → (rest ≡ big_bytes 4 n.0 ++ n.1) × (n.0 < 256 ^ 4) → ((ltb MAX_TXS n.0 ≡ true) × (TooManyTxs ≡ f)) ⊎ ((ltb MAX_TXS n.0 ≡ false) × (Ok n ≡ Err f)) → HasFault bytes f
+    over : (n : ℕ × List ℕ) → (rest ≡ big_bytes 4 n.0 ++ n.1) × (n.0 < 256 ^ 4) → ((ltb max_txs n.0 ≡ true) × (TooManyTxs ≡ f)) ⊎ ((ltb max_txs n.0 ≡ false) × (Ok n ≡ Err f)) → HasFault bytes f
     over n read (inl g) = subst (λ (g : BlockFault). HasFault bytes g) g.1 (h, n.0, n.1, (fine, e ∙ ap (λ (t : List ℕ). header_bytes h ++ t) read.0), read.1, ltb-true _ _ g.0)
     over n read (inr g) = absurd (ok_not_err n f g.1)
 
@@ -136,14 +139,14 @@ unfolding tx_at
 tx_fails bytes h n txs rest f fits reached e k =
     elim (bind_err (number_at 4 rest) tx_or_fault f k) [
       | inl k ↦ short bytes (tx_length h n txs) rest f (reached, e) (number_fails 4 rest f k)
-      | inr k ↦ over k.0 (number_taken 4 wide4 rest k.0 fits k.1) (refused_err (ltb MAX_TX_BYTES k.0.0) TxTooLong f (bytes_at k.0.0 k.0.1) k.2)
+      | inr k ↦ over k.0 (number_taken 4 wide4 rest k.0 fits k.1) (refused_err (ltb max_tx_bytes k.0.0) TxTooLong f (bytes_at k.0.0 k.0.1) k.2)
     ]
   where
-    over : (len : ℕ × List ℕ) → (rest ≡ big_bytes 4 len.0 ++ len.1) × (len.0 < 256 ^ 4) → ((ltb MAX_TX_BYTES len.0 ≡ true) × (TxTooLong ≡ f)) ⊎ ((ltb MAX_TX_BYTES len.0 ≡ false) × (bytes_at len.0 len.1 ≡ Err f)) → HasFault bytes f
+    over : (len : ℕ × List ℕ) → (rest ≡ big_bytes 4 len.0 ++ len.1) × (len.0 < 256 ^ 4) → ((ltb max_tx_bytes len.0 ≡ true) × (TxTooLong ≡ f)) ⊎ ((ltb max_tx_bytes len.0 ≡ false) × (bytes_at len.0 len.1 ≡ Err f)) → HasFault bytes f
     over len read (inl g) =
         subst (λ (g : BlockFault). HasFault bytes g) g.1 (h, n, txs, len.0, len.1, (reached, e ∙ ap (λ (t : List ℕ). (header_bytes h ++ txs_bytes n txs) ++ t) read.0), read.1, ltb-true _ _ g.0)
     over len read (inr g) =
-        let small : len.0 ≤ MAX_TX_BYTES = ltb-false _ _ g.0 in
+        let small : len.0 ≤ max_tx_bytes = ltb-false _ _ g.0 in
         let at : bytes ≡ (header_bytes h ++ txs_bytes n txs ++ big_bytes 4 len.0) ++ len.1 = two (header_bytes h ++ txs_bytes n txs) (big_bytes 4 len.0) len.1 bytes rest e read.0 in
         short bytes (tx h n txs len.0) len.1 f ((reached.0, reached.1, reached.2, reached.3, small), at) (bytes_fail len.0 len.1 f g.1)
 
@@ -155,7 +158,7 @@ pub block_fails : (bytes : List ℕ) (f : BlockFault) → IsBytes bytes → bloc
 unfolding block_at
 block_fails bytes f fits e = at_header (bind_err (header_at bytes) after_header f e)
   where
-    at_end : (h : Header) (n : ℕ) (r s : List ℕ) (x : Txs × List ℕ) → IsHeader h → n ≤ MAX_TXS → bytes ≡ header_bytes h ++ r → r ≡ big_bytes 4 n ++ s → AreTaken n s x.0 x.1
+    at_end : (h : Header) (n : ℕ) (r s : List ℕ) (x : Txs × List ℕ) → IsHeader h → n ≤ max_txs → bytes ≡ header_bytes h ++ r → r ≡ big_bytes 4 n ++ s → AreTaken n s x.0 x.1
         → ended h x ≡ Err f → HasFault bytes f
     at_end h n r s x fine few e d taken k =
         let g = taken_err (eqb (length x.1) 0) TrailingBytes f (record { header = h; txs = x.0 }) k in
@@ -167,11 +170,11 @@ block_fails bytes f fits e = at_header (bind_err (header_at bytes) after_header 
         let spells : Spells front (record { header = h; txs = x.0 }) = record { header = fine; count = omega (arith, taken.len); each = taken.each; fields = refl } in
         subst (λ (g : BlockFault). HasFault bytes g) g.1 (record { header = h; txs = x.0 }, front, x.1, spells, at, some)
 
-    at_tx : (h : Header) (n : ℕ) (r s : List ℕ) → IsHeader h → n ≤ MAX_TXS → bytes ≡ header_bytes h ++ r → r ≡ big_bytes 4 n ++ s → LacksOne n s f → HasFault bytes f
+    at_tx : (h : Header) (n : ℕ) (r s : List ℕ) → IsHeader h → n ≤ max_txs → bytes ≡ header_bytes h ++ r → r ≡ big_bytes 4 n ++ s → LacksOne n s f → HasFault bytes f
     at_tx h n r s fine few e d lacks =
         tx_fails bytes h n lacks.0 lacks.1 f lacks.5 (fine, few, lacks.2, lacks.3) (behind_header (header_bytes h) (big_bytes 4 n) (flat_map tx_bytes lacks.0) lacks.1 bytes r s e d lacks.4) lacks.6
 
-    at_txs : (h : Header) (r : List ℕ) (n : ℕ × List ℕ) → IsBytes n.1 → IsHeader h → n.0 ≤ MAX_TXS → bytes ≡ header_bytes h ++ r → r ≡ big_bytes 4 n.0 ++ n.1
+    at_txs : (h : Header) (r : List ℕ) (n : ℕ × List ℕ) → IsBytes n.1 → IsHeader h → n.0 ≤ max_txs → bytes ≡ header_bytes h ++ r → r ≡ big_bytes 4 n.0 ++ n.1
         → (txs_at n.0 n.1 ≡ Err f) ⊎ ((x : Txs × List ℕ) × (txs_at n.0 n.1 ≡ Ok x) × (ended h x ≡ Err f)) → HasFault bytes f
     at_txs h r n fits fine few e d (inl k) = at_tx h n.0 r n.1 fine few e d (txs_fail n.0 n.1 f fits k)
     at_txs h r n fits fine few e d (inr k) = at_end h n.0 r n.1 k.0 fine few e d (txs_taken n.0 n.1 k.0 fits k.1) k.2

@@ -8,7 +8,9 @@ use Rattle.byteorder.specs.Endian.{big_bytes}
 use Rattle.block.specs.declared.block.Header.{Header}
 use Rattle.block.specs.declared.block.Previous.{Previous}
 use Rattle.block.specs.declared.block.Previous.TheVariants.{Empty}
-use Rattle.block.specs.declared.block.TheConstants.{HASH_BYTES, MAX_TXS, MAX_TX_BYTES}
+use Rattle.values.specs.Hash.{hash_bytes}
+use Rattle.transaction.specs.Limits.{max_tx_bytes}
+use Rattle.block.specs.Limits.{max_txs}
 use Rattle.block.specs.declared.fault.BlockFault.{BlockFault}
 use Rattle.block.specs.declared.fault.BlockFault.TheVariants.{BadMagic, Truncated, PreviousLength, TooManyTxs, TxTooLong, TrailingBytes, Memory}
 use Rattle.block.specs.Grammar.{magic, previous_bytes, header_bytes, tx_bytes, txs_bytes, IsPrevious, IsHeader, IsTx}
@@ -45,7 +47,7 @@ at_count : (h : Header) (rest : List ℕ) → IsHeader h → block_at (header_by
 unfolding block_at
 at_count h rest fine = ap (λ (r : Read Header). r >>= after_header) (header_again h rest fine)
 
-at_txs : (h : Header) (n : ℕ) (rest : List ℕ) → IsHeader h → n ≤ MAX_TXS → block_at (header_bytes h ++ (big_bytes 4 n ++ rest)) ≡ after_count h (n, rest)
+at_txs : (h : Header) (n : ℕ) (rest : List ℕ) → IsHeader h → n ≤ max_txs → block_at (header_bytes h ++ (big_bytes 4 n ++ rest)) ≡ after_count h (n, rest)
 at_txs h n rest fine few = at_count h (big_bytes 4 n ++ rest) fine ∙ ap (λ (r : Read ℕ). r >>= after_count h) (count_again n rest few)
 
 txs_fail_again : (txs : Txs) (n : ℕ) (rest : List ℕ) (f : BlockFault) → length txs < n → AllByRecursion IsTx txs → tx_at rest ≡ Err f → txs_at n (flat_map tx_bytes txs ++ rest) ≡ Err f
@@ -67,18 +69,18 @@ at_tx h n txs rest f reached e =
 
 -- ---- fields that fewer bytes remain for
 
-hash_cut : (rest : List ℕ) → length rest < HASH_BYTES → previous_at (HASH_BYTES ∷ rest) ≡ Err Truncated
+hash_cut : (rest : List ℕ) → length rest < hash_bytes → previous_at (hash_bytes ∷ rest) ≡ Err Truncated
 unfolding previous_at
-hash_cut rest lt = ap (λ (r : Read (List ℕ)). r >>= as_hash) (bytes_fail_again HASH_BYTES rest lt)
+hash_cut rest lt = ap (λ (r : Read (List ℕ)). r >>= as_hash) (bytes_fail_again hash_bytes rest lt)
 
 none_left : (rest : List ℕ) → length rest < 1 → previous_at rest ≡ Err Truncated
 unfolding previous_at
 none_left rest lt = ap previous_at (nil_from_length rest (omega arith))
 
-tx_cut : (len : ℕ) (rest : List ℕ) → len ≤ MAX_TX_BYTES → length rest < len → tx_at (big_bytes 4 len ++ rest) ≡ Err Truncated
+tx_cut : (len : ℕ) (rest : List ℕ) → len ≤ max_tx_bytes → length rest < len → tx_at (big_bytes 4 len ++ rest) ≡ Err Truncated
 unfolding tx_at
 tx_cut len rest small lt =
-    ap (λ (r : Read ℕ). r >>= tx_or_fault) (number_again 4 len rest (omega arith)) ∙ ap (λ (b : Bool). cond b (Err TxTooLong) (bytes_at len rest)) (le-ltb MAX_TX_BYTES len small)
+    ap (λ (r : Read ℕ). r >>= tx_or_fault) (number_again 4 len rest (omega arith)) ∙ ap (λ (b : Bool). cond b (Err TxTooLong) (bytes_at len rest)) (le-ltb max_tx_bytes len small)
     ∙ bytes_fail_again len rest lt
 
 tx_length_cut : (rest : List ℕ) → length rest < 4 → tx_at rest ≡ Err Truncated
@@ -93,9 +95,9 @@ cut : (field : Field) (rest : List ℕ) → IsReached field → length rest < si
 cut number rest reached lt = at_number rest ∙ ap (λ (r : Read ℕ). (r >>= after_number) >>= after_header) (number_fails_again 8 rest lt)
 cut (previous_length n) rest reached lt = at_previous n rest reached ∙ ap (λ (r : Read Previous). (r >>= after_previous n) >>= after_header) (none_left rest lt)
 cut (previous_hash n) rest reached lt =
-    ap block_at (append_assoc (magic ++ big_bytes 8 n) (HASH_BYTES ∷ []) rest) ∙ at_previous n (HASH_BYTES ∷ rest) reached
+    ap block_at (append_assoc (magic ++ big_bytes 8 n) (hash_bytes ∷ []) rest) ∙ at_previous n (hash_bytes ∷ rest) reached
     ∙ ap (λ (r : Read Previous). (r >>= after_previous n) >>= after_header) (hash_cut rest lt)
-cut (data_hash n p) rest reached lt = at_data n p rest reached.0 reached.1 ∙ ap (λ (r : Read (List ℕ)). (r >>= as_header n p) >>= after_header) (bytes_fail_again HASH_BYTES rest lt)
+cut (data_hash n p) rest reached lt = at_data n p rest reached.0 reached.1 ∙ ap (λ (r : Read (List ℕ)). (r >>= as_header n p) >>= after_header) (bytes_fail_again hash_bytes rest lt)
 cut (count h) rest reached lt = at_count h rest reached ∙ ap (λ (r : Read ℕ). r >>= after_count h) (count_cut rest lt)
 cut (tx_length h n txs) rest reached lt = at_tx h n txs rest Truncated reached (tx_length_cut rest lt)
 cut (tx h n txs len) rest reached lt =
@@ -104,17 +106,17 @@ cut (tx h n txs len) rest reached lt =
 
 -- ---- fields over their limits
 
-other_length : (len : ℕ) (rest : List ℕ) → len ≢ 0 → len ≢ HASH_BYTES → previous_at (len ∷ rest) ≡ Err PreviousLength
+other_length : (len : ℕ) (rest : List ℕ) → len ≢ 0 → len ≢ hash_bytes → previous_at (len ∷ rest) ≡ Err PreviousLength
 unfolding previous_at
-other_length len rest not_0 not_32 = ap (λ (b : Bool). cond b (Ok (Empty, rest)) (hash_or_fault len rest)) (ne_eqb _ _ not_0) ∙ ap (λ (b : Bool). cond b (bytes_at HASH_BYTES rest >>= as_hash) (Err PreviousLength)) (ne_eqb _ _ not_32)
+other_length len rest not_0 not_32 = ap (λ (b : Bool). cond b (Ok (Empty, rest)) (hash_or_fault len rest)) (ne_eqb _ _ not_0) ∙ ap (λ (b : Bool). cond b (bytes_at hash_bytes rest >>= as_hash) (Err PreviousLength)) (ne_eqb _ _ not_32)
 
-count_over : (n : ℕ) (rest : List ℕ) → n < 2 ^ 32 → MAX_TXS < n → count_at (big_bytes 4 n ++ rest) ≡ Err TooManyTxs
+count_over : (n : ℕ) (rest : List ℕ) → n < 2 ^ 32 → max_txs < n → count_at (big_bytes 4 n ++ rest) ≡ Err TooManyTxs
 unfolding count_at
-count_over n rest lt over = ap (λ (r : Read ℕ). r >>= count_or_fault) (number_again 4 n rest lt) ∙ ap (λ (b : Bool). cond b (Err TooManyTxs) (Ok (n, rest))) (lt-ltb MAX_TXS n over)
+count_over n rest lt over = ap (λ (r : Read ℕ). r >>= count_or_fault) (number_again 4 n rest lt) ∙ ap (λ (b : Bool). cond b (Err TooManyTxs) (Ok (n, rest))) (lt-ltb max_txs n over)
 
-tx_over : (len : ℕ) (rest : List ℕ) → len < 2 ^ 32 → MAX_TX_BYTES < len → tx_at (big_bytes 4 len ++ rest) ≡ Err TxTooLong
+tx_over : (len : ℕ) (rest : List ℕ) → len < 2 ^ 32 → max_tx_bytes < len → tx_at (big_bytes 4 len ++ rest) ≡ Err TxTooLong
 unfolding tx_at
-tx_over len rest lt over = ap (λ (r : Read ℕ). r >>= tx_or_fault) (number_again 4 len rest lt) ∙ ap (λ (b : Bool). cond b (Err TxTooLong) (bytes_at len rest)) (lt-ltb MAX_TX_BYTES len over)
+tx_over len rest lt over = ap (λ (r : Read ℕ). r >>= tx_or_fault) (number_again 4 len rest lt) ∙ ap (λ (b : Bool). cond b (Err TxTooLong) (bytes_at len rest)) (lt-ltb max_tx_bytes len over)
 
 -- ---- all faults
 

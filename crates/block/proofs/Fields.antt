@@ -1,30 +1,14 @@
 -- Fields of a fixed size: what is read is what was spelled, what was spelled is read again, and too few bytes are refused.
 use Rattle.std.proofs.Common.{◌≡◌, ℕ, ◌+◌, ◌^◌, ◌<◌, ◌≤◌, false, ltb, List, ◌++◌, length, get_or, take, drop, Ok, Err, refl, sym, ap, subst, ◌∙◌, arith, inl, inr}
-use Rattle.std.proofs.lemmas.Bool.{cases_lt, ltb-false, ltb-true, le-ltb, lt-ltb}
-use Rattle.std.proofs.lemmas.List.{take_at, drop_at, take-append-drop, length-append, length-take, get_or-drop, get_or-take, get_or_past}
-use Rattle.std.proofs.lemmas.Nat.{be_bytes_4, be_bytes_8}
+use Rattle.std.proofs.lemmas.Bool.{ltb-false, ltb-true, le-ltb, lt-ltb}
+use Rattle.std.proofs.lemmas.List.{take_at, drop_at, take-append-drop, length-append, length-take}
 use Rattle.byteorder.specs.Endian.{big_bytes, big_number}
 use Rattle.byteorder.specs.Numbers.{big_number-reads_back, length-bytes_high_first, big_from-lt, big_from-take}
+use Rattle.values.proofs.Numbers.{IsBytes, IsBytes-take, IsWide}
 use Rattle.block.specs.declared.fault.BlockFault.{BlockFault}
 use Rattle.block.specs.declared.fault.BlockFault.TheVariants.{Truncated}
 use Rattle.block.specs.Reading.{bytes_at, number_at}
 use Rattle.block.proofs.Steps.{refused_ok, refused_err, ok_is, ok_not_err}
-
-abbrev pub IsBytes : List ℕ → Type 0
-IsBytes bytes = (i : ℕ) → get_or bytes i 0 < 256
-
-pub IsBytes-take : (n : ℕ) (bytes : List ℕ) → IsBytes bytes → IsBytes (take n bytes)
-IsBytes-take n bytes h i =
-    elim (cases_lt i n) [
-      | inl lt ↦ rw (get_or-take n bytes i 0 lt) (h i)
-      | inr le ↦ rw (get_or_past (take n bytes) i 0 (omega (arith, length-take n bytes))) (omega arith)
-    ]
-
--- what stands behind a front
-pub IsBytes-behind : (front rest bytes : List ℕ) → IsBytes bytes → bytes ≡ front ++ rest → IsBytes rest
-IsBytes-behind front rest bytes h e i =
-    let at : get_or (drop (length front) bytes) i 0 ≡ get_or rest i 0 = ap (λ (b : List ℕ). get_or (drop (length front) b) i 0) e ∙ ap (λ (b : List ℕ). get_or b i 0) (drop_at front rest (length front) refl) in
-    rw (← at, get_or-drop) (h (length front + i))
 
 -- ---- so many bytes
 
@@ -51,15 +35,6 @@ pub bytes_fail_again : (n : ℕ) (bytes : List ℕ) → length bytes < n → byt
 bytes_fail_again n bytes lt = rw (lt-ltb _ _ lt) refl
 
 -- ---- a number in so many bytes
-
-pub record IsWide (k : ℕ) : Type 0 where
-  pub back : (bytes : List ℕ) → length bytes ≡ k → IsBytes bytes → big_bytes k (big_number k bytes) ≡ bytes
-
-pub wide4 : IsWide 4
-wide4 = record { back = λ bytes len fits. be_bytes_4 bytes (big_number 4 bytes) len fits (omega arith) }
-
-pub wide8 : IsWide 8
-wide8 = record { back = λ bytes len fits. be_bytes_8 bytes (big_number 8 bytes) len fits (omega arith) }
 
 pub number_taken : (k : ℕ) (wide : IsWide k) (bytes : List ℕ) (x : ℕ × List ℕ) → IsBytes bytes → number_at k bytes ≡ Ok x → (bytes ≡ big_bytes k x.0 ++ x.1) × (x.0 < 256 ^ k)
 number_taken k wide bytes x fits e =

@@ -9,13 +9,14 @@ use Rattle.byteorder.specs.Endian.{big_bytes}
 use Rattle.block.specs.declared.block.Header.{Header}
 use Rattle.block.specs.declared.block.Previous.{Previous}
 use Rattle.block.specs.declared.block.Previous.TheVariants.{Empty, Hash}
-use Rattle.block.specs.declared.block.TheConstants.{HASH_BYTES}
+use Rattle.values.specs.Hash.{hash_bytes}
 use Rattle.block.specs.declared.fault.BlockFault.TheVariants.{BadMagic, Truncated, PreviousLength}
 use Rattle.block.specs.Grammar.{magic, previous_bytes, header_bytes, IsPrevious, IsHeader}
 use Rattle.block.specs.Reading.{◌>>=◌, Read, bytes_at, number_at, magic_at, previous_at, header_at}
 use Rattle.block.proofs.Steps.{bind_ok, taken_ok, ok_is, ok_not_err}
 use Rattle.block.proofs.Rests.{as_hash, hash_or_fault, as_header, after_previous, after_number, after_magic}
-use Rattle.block.proofs.Fields.{IsBytes, IsBytes-behind, bytes_taken, bytes_again, wide8, number_taken, number_again}
+use Rattle.values.proofs.Numbers.{IsBytes, IsBytes-behind, wide8}
+use Rattle.block.proofs.Fields.{bytes_taken, bytes_again, number_taken, number_again}
 
 pub magic_taken : (bytes rest : List ℕ) → magic_at bytes ≡ Ok rest → bytes ≡ magic ++ rest
 magic_taken bytes rest e =
@@ -31,18 +32,18 @@ previous_taken_len : (len : ℕ) (bytes : List ℕ) (x : Previous × List ℕ) �
 unfolding previous_at
 previous_taken_len len bytes x e = empty (eqb len 0) refl e
   where
-    hash : (b : Bool) → eqb len HASH_BYTES ≡ b → cond b (bytes_at HASH_BYTES bytes >>= as_hash) (Err PreviousLength) ≡ Ok x → (len ∷ bytes ≡ previous_bytes x.0 ++ x.1) × IsPrevious x.0
+    hash : (b : Bool) → eqb len hash_bytes ≡ b → cond b (bytes_at hash_bytes bytes >>= as_hash) (Err PreviousLength) ≡ Ok x → (len ∷ bytes ≡ previous_bytes x.0 ++ x.1) × IsPrevious x.0
     hash false t h = absurd (ok_not_err x PreviousLength (sym h))
     hash true t h =
-        let b = bind_ok (bytes_at HASH_BYTES bytes) as_hash x h in
-        let k = bytes_taken HASH_BYTES bytes b.0 b.1 in
-        let same : len ≡ HASH_BYTES = eqb-true _ _ t in
-        let whole : len ∷ bytes ≡ previous_bytes (Hash b.0.0) ++ b.0.1 = ap (λ (n : ℕ). n ∷ bytes) same ∙ ap (λ (t : List ℕ). HASH_BYTES ∷ t) k.0 in
+        let b = bind_ok (bytes_at hash_bytes bytes) as_hash x h in
+        let k = bytes_taken hash_bytes bytes b.0 b.1 in
+        let same : len ≡ hash_bytes = eqb-true _ _ t in
+        let whole : len ∷ bytes ≡ previous_bytes (Hash b.0.0) ++ b.0.1 = ap (λ (n : ℕ). n ∷ bytes) same ∙ ap (λ (t : List ℕ). hash_bytes ∷ t) k.0 in
         subst (λ (p : Previous × List ℕ). (len ∷ bytes ≡ previous_bytes p.0 ++ p.1) × IsPrevious p.0) (ok_is (Hash b.0.0, b.0.1) x b.2) (whole, k.1)
 
     empty : (b : Bool) → eqb len 0 ≡ b → cond b (Ok (Empty, bytes)) (hash_or_fault len bytes) ≡ Ok x → (len ∷ bytes ≡ previous_bytes x.0 ++ x.1) × IsPrevious x.0
     empty true t h = subst (λ (p : Previous × List ℕ). (len ∷ bytes ≡ previous_bytes p.0 ++ p.1) × IsPrevious p.0) (ok_is (Empty, bytes) x h) (ap (λ (n : ℕ). n ∷ bytes) (eqb-true _ _ t), tt)
-    empty false t h = hash (eqb len HASH_BYTES) refl h
+    empty false t h = hash (eqb len hash_bytes) refl h
 
 pub previous_taken : (bytes : List ℕ) (x : Previous × List ℕ) → previous_at bytes ≡ Ok x → (bytes ≡ previous_bytes x.0 ++ x.1) × IsPrevious x.0
 unfolding previous_at
@@ -52,7 +53,7 @@ previous_taken (len ∷ bytes) x e = previous_taken_len len bytes x e
 pub previous_again : (p : Previous) (rest : List ℕ) → IsPrevious p → previous_at (previous_bytes p ++ rest) ≡ Ok (p, rest)
 unfolding previous_at
 previous_again Empty rest h = refl
-previous_again (Hash hash) rest h = rw (bytes_again HASH_BYTES hash rest h) refl
+previous_again (Hash hash) rest h = rw (bytes_again hash_bytes hash rest h) refl
 
 -- four fields joined, from the left and from the right
 regroup : (a b c d rest : List ℕ) → (a ++ b ++ c ++ d) ++ rest ≡ a ++ (b ++ (c ++ (d ++ rest)))
@@ -71,11 +72,11 @@ header_taken bytes x fits e =
     let a = bind_ok (magic_at bytes) after_magic x e in
     let b = bind_ok (number_at 8 a.0) after_number x a.2 in
     let c = bind_ok (previous_at b.0.1) (after_previous b.0.0) x b.2 in
-    let d = bind_ok (bytes_at HASH_BYTES c.0.1) (as_header b.0.0 c.0.0) x c.2 in
+    let d = bind_ok (bytes_at hash_bytes c.0.1) (as_header b.0.0 c.0.0) x c.2 in
     let at_magic = magic_taken bytes a.0 a.1 in
     let at_number = number_taken 8 wide8 a.0 b.0 (IsBytes-behind magic a.0 bytes fits at_magic) b.1 in
     let at_previous = previous_taken b.0.1 c.0 c.1 in
-    let at_data = bytes_taken HASH_BYTES c.0.1 d.0 d.1 in
+    let at_data = bytes_taken hash_bytes c.0.1 d.0 d.1 in
     let h : Header = record { number = b.0.0; previous = c.0.0; data_hash = d.0.0 } in
     let whole : bytes ≡ header_bytes h ++ d.0.1 = four magic (big_bytes 8 b.0.0) (previous_bytes c.0.0) d.0.0 bytes a.0 b.0.1 c.0.1 d.0.1 at_magic at_number.0 at_previous.0 at_data.0 in
     let fine : IsHeader h = record { number = at_number.1; previous = at_previous.1; data_hash = at_data.1 } in
@@ -87,4 +88,4 @@ header_again h rest fine =
     ap header_at (header_regrouped h rest)
     ∙ ap (λ (r : Read ℕ). r >>= after_number) (number_again 8 h.number (previous_bytes h.previous ++ (h.data_hash ++ rest)) fine.number)
     ∙ ap (λ (r : Read Previous). r >>= after_previous h.number) (previous_again h.previous (h.data_hash ++ rest) fine.previous)
-    ∙ ap (λ (r : Read (List ℕ)). r >>= as_header h.number h.previous) (bytes_again HASH_BYTES h.data_hash rest fine.data_hash)
+    ∙ ap (λ (r : Read (List ℕ)). r >>= as_header h.number h.previous) (bytes_again hash_bytes h.data_hash rest fine.data_hash)

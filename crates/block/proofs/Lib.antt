@@ -7,12 +7,5 @@ pub mod Faulty
 pub mod FaultyAgain
 pub mod Answered
 pub mod Within
-pub mod FieldLoop
-pub mod FieldLaws
-pub mod TxLaws
-pub mod TxAnswered
-pub mod PutLoop
-pub mod SignedPart
-mod TxWorked
 mod Worked
 pub mod Transactions

@@ -5,7 +5,9 @@ use Rattle.byteorder.specs.Endian.{big_bytes}
 use Rattle.block.specs.declared.block.Block.{Block}
 use Rattle.block.specs.declared.block.Header.{Header}
 use Rattle.block.specs.declared.block.Previous.{Previous}
-use Rattle.block.specs.declared.block.TheConstants.{HASH_BYTES, MAX_TXS, MAX_TX_BYTES}
+use Rattle.values.specs.Hash.{hash_bytes}
+use Rattle.transaction.specs.Limits.{max_tx_bytes}
+use Rattle.block.specs.Limits.{max_txs}
 use Rattle.block.specs.declared.fault.BlockFault.{BlockFault}
 use Rattle.block.specs.declared.fault.BlockFault.TheVariants.{BadMagic, Truncated, PreviousLength, TooManyTxs, TxTooLong, TrailingBytes, Memory}
 use Rattle.block.specs.Grammar.{magic, previous_bytes, header_bytes, txs_bytes, IsPrevious, IsHeader, IsTx, Spells}
@@ -24,7 +26,7 @@ pub data Field : Type 0 where
 abbrev pub before : Field → List ℕ
 before number = magic
 before (previous_length n) = magic ++ big_bytes 8 n
-before (previous_hash n) = magic ++ big_bytes 8 n ++ HASH_BYTES ∷ []
+before (previous_hash n) = magic ++ big_bytes 8 n ++ hash_bytes ∷ []
 before (data_hash n p) = magic ++ big_bytes 8 n ++ previous_bytes p
 before (count h) = header_bytes h
 before (tx_length h n txs) = header_bytes h ++ txs_bytes n txs
@@ -34,8 +36,8 @@ before (tx h n txs len) = header_bytes h ++ txs_bytes n txs ++ big_bytes 4 len
 abbrev pub size : Field → ℕ
 size number = 8
 size (previous_length n) = 1
-size (previous_hash n) = HASH_BYTES
-size (data_hash n p) = HASH_BYTES
+size (previous_hash n) = hash_bytes
+size (data_hash n p) = hash_bytes
 size (count h) = 4
 size (tx_length h n txs) = 4
 size (tx h n txs len) = len
@@ -47,8 +49,8 @@ IsReached (previous_length n) = n < 2 ^ 64
 IsReached (previous_hash n) = n < 2 ^ 64
 IsReached (data_hash n p) = (n < 2 ^ 64) × IsPrevious p
 IsReached (count h) = IsHeader h
-IsReached (tx_length h n txs) = IsHeader h × (n ≤ MAX_TXS) × (length txs < n) × AllByRecursion IsTx txs
-IsReached (tx h n txs len) = IsHeader h × (n ≤ MAX_TXS) × (length txs < n) × AllByRecursion IsTx txs × (len ≤ MAX_TX_BYTES)
+IsReached (tx_length h n txs) = IsHeader h × (n ≤ max_txs) × (length txs < n) × AllByRecursion IsTx txs
+IsReached (tx h n txs len) = IsHeader h × (n ≤ max_txs) × (length txs < n) × AllByRecursion IsTx txs × (len ≤ max_tx_bytes)
 
 -- the bytes have this field, with rest from its first byte on
 abbrev pub Reaches : List ℕ → Field → List ℕ → Type 0
@@ -60,12 +62,12 @@ HasFault bytes BadMagic = (rest : List ℕ) → bytes ≢ magic ++ rest
 -- fewer bytes remain than the field has
 HasFault bytes Truncated = (field : Field) × (rest : List ℕ) × Reaches bytes field rest × (length rest < size field)
 -- the length of the previous hash is neither 0 nor that of a hash
-HasFault bytes PreviousLength = (n : ℕ) × (len : ℕ) × (rest : List ℕ) × Reaches bytes (previous_length n) (len ∷ rest) × (len ≢ 0) × (len ≢ HASH_BYTES)
+HasFault bytes PreviousLength = (n : ℕ) × (len : ℕ) × (rest : List ℕ) × Reaches bytes (previous_length n) (len ∷ rest) × (len ≢ 0) × (len ≢ hash_bytes)
 -- the count is over its limit, whatever follows
-HasFault bytes TooManyTxs = (h : Header) × (n : ℕ) × (rest : List ℕ) × Reaches bytes (count h) (big_bytes 4 n ++ rest) × (n < 2 ^ 32) × (MAX_TXS < n)
+HasFault bytes TooManyTxs = (h : Header) × (n : ℕ) × (rest : List ℕ) × Reaches bytes (count h) (big_bytes 4 n ++ rest) × (n < 2 ^ 32) × (max_txs < n)
 -- a transaction's length is over its limit, whatever follows
 HasFault bytes TxTooLong =
-    (h : Header) × (n : ℕ) × (txs : List (List ℕ)) × (len : ℕ) × (rest : List ℕ) × Reaches bytes (tx_length h n txs) (big_bytes 4 len ++ rest) × (len < 2 ^ 32) × (MAX_TX_BYTES < len)
+    (h : Header) × (n : ℕ) × (txs : List (List ℕ)) × (len : ℕ) × (rest : List ℕ) × Reaches bytes (tx_length h n txs) (big_bytes 4 len ++ rest) × (len < 2 ^ 32) × (max_tx_bytes < len)
 -- bytes remain behind a block
 HasFault bytes TrailingBytes = (b : Block) × (front : List ℕ) × (rest : List ℕ) × Spells front b × (bytes ≡ front ++ rest) × (0 < length rest)
 HasFault bytes Memory = ⊥

@@ -6,7 +6,9 @@ use Rattle.block.specs.declared.block.Block.{Block}
 use Rattle.block.specs.declared.block.Header.{Header}
 use Rattle.block.specs.declared.block.Previous.{Previous}
 use Rattle.block.specs.declared.block.Previous.TheVariants.{Empty, Hash}
-use Rattle.block.specs.declared.block.TheConstants.{HASH_BYTES, MAX_TXS, MAX_TX_BYTES}
+use Rattle.values.specs.Hash.{hash_bytes, IsHash}
+use Rattle.transaction.specs.Limits.{max_tx_bytes}
+use Rattle.block.specs.Limits.{max_txs}
 
 -- `FBK1`
 abbrev pub magic : List ℕ
@@ -15,7 +17,7 @@ magic = 0x46 ∷ 0x42 ∷ 0x4b ∷ 0x31 ∷ []
 -- a byte of length, and that many bytes
 abbrev pub previous_bytes : Previous → List ℕ
 previous_bytes Empty = 0 ∷ []
-previous_bytes (Hash h) = HASH_BYTES ∷ h
+previous_bytes (Hash h) = hash_bytes ∷ h
 
 -- magic, number, previous hash, data hash; numbers have the highest byte first
 abbrev pub header_bytes : Header → List ℕ
@@ -29,9 +31,6 @@ tx_bytes tx = big_bytes 4 (length tx) ++ tx
 abbrev pub txs_bytes : ℕ → List (List ℕ) → List ℕ
 txs_bytes count txs = big_bytes 4 count ++ flat_map tx_bytes txs
 
-abbrev pub IsHash : List ℕ → Type 0
-IsHash h = length h ≡ HASH_BYTES
-
 abbrev pub IsPrevious : Previous → Type 0
 IsPrevious Empty = Unit {0}
 IsPrevious (Hash h) = IsHash h
@@ -42,11 +41,11 @@ pub record IsHeader (h : Header) : Type 0 where
   pub data_hash : IsHash h.data_hash
 
 abbrev pub IsTx : List ℕ → Type 0
-IsTx tx = length tx ≤ MAX_TX_BYTES
+IsTx tx = length tx ≤ max_tx_bytes
 
 -- The bytes spell the block: header, count and transactions, each within its limits, and nothing behind them.
 pub record Spells (bytes : List ℕ) (b : Block) : Type 0 where
   pub header : IsHeader b.header
-  pub count : length b.txs ≤ MAX_TXS
+  pub count : length b.txs ≤ max_txs
   pub each : AllByRecursion IsTx b.txs
   pub fields : bytes ≡ header_bytes b.header ++ txs_bytes (length b.txs) b.txs

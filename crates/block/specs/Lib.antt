@@ -1,11 +1,4 @@
-pub mod BodyFields
-pub mod Combined
-pub mod Decoded
-pub mod Grammar
 pub mod Faults
+pub mod Grammar
 pub mod Limits
-pub mod Putting
 pub mod Reading
-pub mod Same
-pub mod TxGrammar
-pub mod TxReading

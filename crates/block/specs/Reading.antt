@@ -7,7 +7,9 @@ use Rattle.block.specs.declared.block.Block.{Block}
 use Rattle.block.specs.declared.block.Header.{Header}
 use Rattle.block.specs.declared.block.Previous.{Previous}
 use Rattle.block.specs.declared.block.Previous.TheVariants.{Empty, Hash}
-use Rattle.block.specs.declared.block.TheConstants.{HASH_BYTES, MAX_TXS, MAX_TX_BYTES}
+use Rattle.values.specs.Hash.{hash_bytes}
+use Rattle.transaction.specs.Limits.{max_tx_bytes}
+use Rattle.block.specs.Limits.{max_txs}
 use Rattle.block.specs.declared.fault.BlockFault.{BlockFault}
 use Rattle.block.specs.declared.fault.BlockFault.TheVariants.{BadMagic, Truncated, PreviousLength, TooManyTxs, TxTooLong, TrailingBytes, Memory}
 use Rattle.block.specs.Grammar.{magic}
@@ -48,7 +50,7 @@ unfoldable pub previous_at : List ℕ → Read Previous
 previous_at [] = Err Truncated
 previous_at (len ∷ bytes) =
     if len == 0 then Ok (Empty, bytes)
-    else if len == HASH_BYTES then (bytes_at HASH_BYTES bytes >>= λ h. Ok (Hash h.0, h.1))
+    else if len == hash_bytes then (bytes_at hash_bytes bytes >>= λ h. Ok (Hash h.0, h.1))
     else Err PreviousLength
 
 unfoldable pub header_at : List ℕ → Read Header
@@ -56,18 +58,18 @@ header_at bytes = do
   rest ← magic_at bytes
   number ← number_at 8 rest
   previous ← previous_at number.1
-  data_hash ← bytes_at HASH_BYTES previous.1
+  data_hash ← bytes_at hash_bytes previous.1
   Ok (record { number = number.0; previous = previous.0; data_hash = data_hash.0 }, data_hash.1)
 
 unfoldable pub count_at : List ℕ → Read ℕ
 count_at bytes = do
   n ← number_at 4 bytes
-  if nat_lt MAX_TXS n.0 then Err TooManyTxs else Ok n
+  if nat_lt max_txs n.0 then Err TooManyTxs else Ok n
 
 unfoldable pub tx_at : List ℕ → Read (List ℕ)
 tx_at bytes = do
   len ← number_at 4 bytes
-  if nat_lt MAX_TX_BYTES len.0 then Err TxTooLong else bytes_at len.0 len.1
+  if nat_lt max_tx_bytes len.0 then Err TxTooLong else bytes_at len.0 len.1
 
 unfoldable pub txs_at : ℕ → List ℕ → Read (List (List ℕ))
 txs_at zero bytes = Ok ([], bytes)

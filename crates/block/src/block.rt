@@ -1,21 +1,15 @@
-use values::{Bytes, Items};
+use values::{Hash, Items, Slice};
 
 pub(crate) const MAGIC: [u8; 4] = *b"FBK1";
 
-/// The bytes of a SHA-256 hash.
-pub const HASH_BYTES: usize = 32;
-
 /// The most transactions of a block.
 pub const MAX_TXS: usize = 4096;
-
-/// The most bytes of a transaction.
-pub const MAX_TX_BYTES: usize = 1_048_576;
 
 /// The header hash of the block before, or nothing at block 0.
 #[derive(Clone, Copy, Debug, PartialEq, Eq)]
 pub enum Previous {
     Empty,
-    Hash([u8; 32]),
+    Hash(Hash),
 }
 
 /// What a block's header hash covers.
@@ -23,12 +17,12 @@ pub enum Previous {
 pub struct Header {
     pub number: u64,
     pub previous: Previous,
-    pub data_hash: [u8; 32],
+    pub data_hash: Hash,
 }
 
-/// A header, and the bytes of each transaction in order.
+/// A header, and the bytes of each transaction in order, lent.
 #[derive(Debug, Drop)]
-pub struct Block {
+pub struct Block<'a> {
     pub header: Header,
-    pub txs: Items<Bytes>,
+    pub txs: Items<Slice<'a>>,
 }

@@ -1,6 +1,5 @@
 ghost use Rattle.std.specs.Prelude.{◌≡◌};
 ghost use Rattle.block.specs.declared.fault.BlockFault.TheVariants.{Memory};
-ghost use Rattle.block.specs.declared.fault.EncodeFault.TheVariants as encoding;
 
 use std::alloc::{AllocError, AllocFailed};
 use thiserror::Error;
@@ -37,22 +36,5 @@ impl<T: Drop> From<AllocFailed<T>> for BlockFault {
 
     fn from(_e: AllocFailed<T>) -> BlockFault {
         BlockFault::Memory
-    }
-}
-
-/// Why a value has no bytes.
-#[derive(Clone, Copy, Debug, PartialEq, Eq, Error)]
-pub enum EncodeFault {
-    #[error("too large to be spelled")]
-    TooLarge,
-    #[error("out of memory")]
-    Memory,
-}
-
-impl From<AllocError> for EncodeFault {
-    ghost from_gives = { λ _ e. e ≡ encoding.Memory };
-
-    fn from(_e: AllocError) -> EncodeFault {
-        EncodeFault::Memory
     }
 }

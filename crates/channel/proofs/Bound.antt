@@ -3,7 +3,8 @@ use Rattle.std.proofs.Common.{◌≡◌, ℕ, ◌+◌, ◌≤◌, ◌<◌, List,
 use Rattle.std.specs.FinMap.{empty, insert, len, contains_key, len-empty, len-insert}
 use Rattle.std.proofs.lemmas.Cmp.{nat_list_cmp_total}
 use Rattle.policy.specs.Tree.{Tree}
-use Rattle.policy.specs.Policies.{Policies, bytes_cmp}
+use Rattle.values.specs.Order.{bytes_cmp}
+use Rattle.policy.specs.Policies.{Policies}
 use Rattle.channel.specs.Configuration.{AreFew}
 
 pub few_at_first : (definitions : Policies) → definitions ≡ empty → AreFew definitions

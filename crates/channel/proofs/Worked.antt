@@ -6,7 +6,7 @@ use Rattle.std.proofs.lemmas.Cmp.{nat_list_cmp_total}
 use Rattle.policy.specs.declared.tree.PolicyRole.TheVariants.{Peer}
 use Rattle.policy.specs.Tree.{Tree, principal, gate, none, more}
 use Rattle.policy.specs.Fault.{syntax_fault, role_fault}
-use Rattle.policy.specs.Policies.{bytes_cmp}
+use Rattle.values.specs.Order.{bytes_cmp}
 use Rattle.policy.specs.Lexing.{front_at, quoted_at, principal_in, word_at, word_in, number_at}
 use Rattle.policy.specs.Reading.{policy_at, expression_by, gate_at, gate_by, members_by, head_at, opening_at, separator_at}
 use Rattle.channel.specs.Fault.{no_form, repeated, no_policy, no_channel}

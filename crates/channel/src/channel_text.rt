@@ -127,7 +127,7 @@ impl SoFar {
         ensures err { IfErr result (λ fault. Refuses fault (spec.said_by line self.old (spec.defines chaincode.now policy_text.now))) }
     {
         let chaincode = Name::from_slice(alloc, chaincode)?;
-        if self.definitions.of(&chaincode).is_some() {
+        if self.definitions.of(&chaincode.lend()).is_some() {
             return Err(ChannelFault::Repeated(line));
         }
         let policy = policy_of_line(alloc, line, policy_text)?;

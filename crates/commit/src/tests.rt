@@ -1,8 +1,9 @@
 use super::*;
-use block::{Block, BlockFault, Header, Identity, Previous, encode_block};
+use block::{Block, BlockFault, Header, Previous, encode_block};
 use policy_eval::Verify;
 use std::alloc::{AllocError, Global};
 use std::test::Fail;
+use transaction::Identity;
 use values::{Bytes, Items};
 
 // SHA-256 of no bytes and of `abc` (FIPS 180-4).

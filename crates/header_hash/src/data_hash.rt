@@ -1,4 +1,5 @@
 use sha2::{Digest, Sha256};
+use values::Hash;
 
 /// Makes a block's data hash: SHA-256 (FIPS 180-4) of its transactions' bytes, one after the other.
 #[derive(Debug, Drop)]
@@ -28,7 +29,7 @@ impl DataHasher {
     }
 
     /// The data hash of the transactions that were added.
-    pub fn finish(self) -> [u8; 32]
+    pub fn finish(self) -> Hash
         ensures { (m : List ℕ) → Holds self m → result ≡ sha256 m }
     {
         self.hasher.finalize()

@@ -5,10 +5,12 @@ use crate::der::header_der;
 use block::Header;
 use hex::encode_to_slice;
 use sha2::{Digest, Sha256};
+use transaction::{ID_BYTES, TxId};
+use values::Hash;
 
 /// The header hash: SHA-256 (FIPS 180-4) of the header's DER bytes. Takes no memory, and its time is
 /// bounded.
-pub fn header_hash(header: &Header) -> [u8; 32]
+pub fn header_hash(header: &Header) -> Hash
     ensures { result ≡ header_hash_of header.now }
 {
     Sha256::digest(header_der(header).as_slice())
@@ -16,13 +18,13 @@ pub fn header_hash(header: &Header) -> [u8; 32]
 
 /// The transaction id: SHA-256 (FIPS 180-4) of the nonce followed by the creator's identity bytes, as
 /// 64 lower case hexadecimal digits. Linear in the bytes of both, and takes no memory.
-pub fn tx_id(nonce: &[u8], creator: &[u8]) -> [u8; 64]
+pub fn tx_id(nonce: &[u8], creator: &[u8]) -> TxId
     ensures { result ≡ tx_id_of nonce.now creator.now }
 {
     let mut hasher = Sha256::new();
     hasher.update(nonce);
     hasher.update(creator);
-    let mut id = [0; 64];
+    let mut id = [0; ID_BYTES];
     // Two digits a byte fill it, so there is no other answer.
     encode_to_slice(hasher.finalize(), &mut id).unwrap();
     id

@@ -6,13 +6,13 @@ use Rattle.hex.specs.Hex.{decode_of}
 use Rattle.values.specs.Name.{is_name}
 use Rattle.text_lines.specs.Lines.{Statement, statements, first_part, after_first_part}
 use Rattle.text_lines.specs.Words.{word_bytes}
-use Rattle.block.specs.declared.identity.Identity.{Identity}
-use Rattle.block.specs.declared.identity.Role.{Role}
-use Rattle.block.specs.declared.identity.Role.TheVariants.{Admin, Client, Peer, Orderer}
+use Rattle.transaction.specs.declared.identity.Identity.{Identity}
+use Rattle.transaction.specs.declared.identity.Role.{Role}
+use Rattle.transaction.specs.declared.identity.Role.TheVariants.{Admin, Client, Peer, Orderer}
 use Rattle.key_book.specs.declared.fault.KeyBookFault.{KeyBookFault}
 use Rattle.key_book.specs.declared.fault.KeyBookFault.TheVariants.{Line}
 use Rattle.key_book.specs.Entry.{Entry}
-use Rattle.key_book.specs.Book.{key_of}
+use Rattle.key_book.specs.Book.{key_in_book}
 
 -- the bytes before the first `:`, and those behind it
 abbrev pub around_colon : List ℕ → Option (List ℕ × List ℕ)
@@ -54,7 +54,7 @@ entry_of line =
 abbrev pub with_entry : ℕ → List Entry → Option Entry → Result (List Entry) KeyBookFault
 with_entry n entries None = Err (Line n)
 with_entry n entries (Some entry) =
-    if is_some (key_of entry.identity entries) then Err (Line n) else Ok (entries ++ entry ∷ [])
+    if is_some (key_in_book entry.identity entries) then Err (Line n) else Ok (entries ++ entry ∷ [])
 
 infixl 10 ◌>>=◌
 abbrev pub ◌>>=◌ : Result (List Entry) KeyBookFault → (List Entry → Result (List Entry) KeyBookFault) → Result (List Entry) KeyBookFault

@@ -1,6 +1,6 @@
 -- An entry of a key book.
 use Rattle.std.specs.Prelude.{ℕ, ◌&&◌, nat_le, Bool, List, length}
-use Rattle.block.specs.declared.identity.Identity.{Identity}
+use Rattle.transaction.specs.declared.identity.Identity.{Identity}
 
 -- an identity and the key it signs with
 pub record Entry : Type 0 where

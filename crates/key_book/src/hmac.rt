@@ -2,6 +2,7 @@ ghost use Rattle.std.specs.Prelude.{◌≡◌, ◌≤◌, length};
 ghost use Rattle.key_book.specs.Hmac.{hmac, key_xor, padded_key};
 
 use sha2::{Digest, Sha256};
+use values::Hash;
 
 // RFC 2104, section 2: the block length of the hash function in bytes, and the two paddings' bytes.
 const BLOCK: usize = 64;
@@ -32,7 +33,7 @@ fn key_xor(key: &[u8], pad: u8) -> [u8; BLOCK]
 
 /// The 32 bytes of HMAC-SHA-256 (RFC 2104) of the message, under a key of up to 64 bytes. Linear in
 /// the message; takes no memory, and copies no part of the message but what SHA-256 buffers.
-pub fn hmac_sha256(key: &[u8], message: &[u8]) -> [u8; 32]
+pub fn hmac_sha256(key: &[u8], message: &[u8]) -> Hash
     requires { length key.now ≤ 64 }
     ensures { result ≡ hmac key.now message.now }
 {

@@ -1,9 +1,9 @@
 ghost use Rattle.std.specs.Prelude.{◌≡◌, ◌==◌, ◌<◌, length, position, IfOk, IfSome, option_map};
 ghost use Rattle.key_book.specs.BookText as spec;
 
-use block::{Identity, Role};
 use std::alloc::{AllocError, Global};
 use text_lines::read_word;
+use transaction::{OwnedIdentity, Role};
 use values::{Bytes, Name, is_name};
 
 const MAX_LABEL: usize = 255;
@@ -51,7 +51,7 @@ fn read_member(
     org: &[u8],
     role: &[u8],
     label: &[u8],
-) -> Result<Option<Identity>, AllocError>
+) -> Result<Option<OwnedIdentity>, AllocError>
     ensures { IfOk result (λ identity. identity ≡ spec.member_of org.now role.now label.now) }
 {
     if !is_name(org) {
@@ -64,13 +64,13 @@ fn read_member(
         return Ok(None);
     };
     let org = Name::from_slice(alloc, org)?;
-    Ok(Some(Identity { org, role, label }))
+    Ok(Some(OwnedIdentity::new(org, role, label)))
 }
 
 /// The identity that a text `ORG:ROLE:LABEL` names, or `None` where it has another form. ORG is a
 /// name, ROLE one of `admin`, `client`, `peer` and `orderer`, and LABEL, which may have `:` itself,
 /// a word that spells at most 255 bytes. Linear in the text, in time and memory.
-pub fn read_identity(alloc: Global, text: &[u8]) -> Result<Option<Identity>, AllocError>
+pub fn read_identity(alloc: Global, text: &[u8]) -> Result<Option<OwnedIdentity>, AllocError>
     ensures { IfOk result (λ identity. identity ≡ spec.identity_of text.now) }
 {
     let Some((org, rest)) = around_colon(text) else {

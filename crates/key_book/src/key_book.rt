@@ -4,34 +4,23 @@ ghost use Rattle.values.specs.Memory.{GivesUnless};
 ghost use Rattle.key_book.specs.BookText.{book_of};
 ghost use Rattle.key_book.specs.declared.fault.KeyBookFault.TheVariants.{Memory};
 ghost use Rattle.key_book.specs.Entry.{Entry};
-ghost use Rattle.key_book.specs.Book.{is_same_role, is_same_identity, key_of, signature_of, accepts};
+ghost use Rattle.key_book.specs.Book.{key_in_book, signature_of, accepts};
 
 use crate::fault::KeyBookFault;
 use crate::hmac::hmac_sha256;
 use crate::keyed::Keyed;
-use block::{Identity, Role};
 use policy_eval::Verify;
 use std::alloc::Global;
 use std::marker::Model;
 use text_lines::Statements;
+use transaction::Identity;
+use values::Hash;
 
-fn is_same_role(a: Role, b: Role) -> bool
-    ensures { result ≡ is_same_role a b }
-{
-    a == b
-}
-
-fn is_same_identity(a: &Identity, b: &Identity) -> bool
-    ensures { result ≡ is_same_identity a.now b.now }
-{
-    is_same_role(a.role, b.role) && a.label.is_same(&b.label) && a.org.is_same(&b.org)
-}
-
-fn entry_of<'a>(entries: &'a [Keyed], identity: &Identity) -> Option<&'a Keyed>
-    ensures { option_map (λ e. e.now.key) result ≡ key_of identity.now entries.now }
+fn entry_of<'a>(entries: &'a [Keyed], identity: &Identity<'_>) -> Option<&'a Keyed>
+    ensures { option_map (λ e. e.now.key) result ≡ key_in_book identity.now entries.now }
 {
     for entry in entries {
-        if is_same_identity(entry.identity(), identity) {
+        if entry.identity().is_same(identity) {
             return Some(entry);
         }
     }
@@ -47,7 +36,7 @@ fn read_entries(alloc: Global, text: &str) -> Result<Vec<Keyed>, KeyBookFault>
         let Some(entry) = Keyed::read(alloc, statement.bytes)? else {
             return Err(KeyBookFault::Line(statement.line));
         };
-        if entry_of(&entries, entry.identity()).is_some() {
+        if entry_of(&entries, &entry.identity()).is_some() {
             return Err(KeyBookFault::Line(statement.line));
         }
         entries.push(entry)?;
@@ -86,7 +75,7 @@ impl KeyBook {
     /// The 32 bytes by which the identity signs the message, its HMAC-SHA-256 (RFC 2104) under the
     /// identity's key, or `None` where the identity isn't in the book. Linear in the book's entries
     /// and the message; takes no memory.
-    pub fn sign(&self, identity: &Identity, message: &[u8]) -> Option<[u8; 32]>
+    pub fn sign(&self, identity: &Identity<'_>, message: &[u8]) -> Option<Hash>
         ensures value { result ≡ signature_of self.now identity.now message.now }
         ensures accepted { IfSome result
             (λ signed. IsTrue (accepts self.now identity.now message.now signed)) }
@@ -101,7 +90,7 @@ impl Verify for KeyBook {
 
     /// Whether the signature is the one that `sign` gives. Linear in the book's entries and the
     /// message; takes no memory. How long the comparison takes depends on the signature.
-    fn verify(&self, identity: &Identity, message: &[u8], signature: &[u8]) -> bool
+    fn verify(&self, identity: &Identity<'_>, message: &[u8], signature: &[u8]) -> bool
         ensures value { result ≡ accepts self.now identity.now message.now signature.now }
         ensures exactly { IsTrue result
             ↔ (signature_of self.now identity.now message.now ≡ Some signature.now) }

@@ -2,11 +2,11 @@ ghost use Rattle.std.specs.Prelude.{◌≡◌, ◌≤◌, length, IfOk};
 ghost use Rattle.key_book.specs.BookText.{key_of_digits};
 
 use crate::identity_text::read_identity;
-use block::Identity;
 use hex::FromHexError;
 use std::alloc::{AllocError, Global};
 use std::marker::Model;
 use text_lines::first_part;
+use transaction::{Identity, OwnedIdentity};
 use values::Bytes;
 
 // A key has 1 to 64 bytes, of two digits each.
@@ -30,7 +30,7 @@ fn read_key(alloc: Global, digits: &[u8]) -> Result<Option<Bytes>, AllocError>
 /// An identity, and the key of 1 to 64 bytes that it signs with.
 #[derive(Debug, Drop)]
 pub struct Keyed {
-    identity: Identity,
+    identity: OwnedIdentity,
     key: Bytes,
 }
 
@@ -62,10 +62,10 @@ impl Keyed {
         Ok(Some(Keyed { identity, key }))
     }
 
-    pub fn identity(&self) -> &Identity
-        ensures { result.now ≡ self.now.identity }
+    pub fn identity(&self) -> Identity<'_>
+        ensures { result ≡ self.now.identity }
     {
-        &self.identity
+        self.identity.lend()
     }
 
     pub fn key(&self) -> &[u8]

@@ -1,9 +1,9 @@
 use crate::{KeyBook, KeyBookFault, hmac_sha256, read_identity};
-use block::{Identity, Role};
 use policy_eval::Verify;
 use std::alloc::{AllocError, Global};
 use std::process::Abort;
 use std::test::Fail;
+use transaction::{Identity, Role};
 use values::{Bytes, Name, is_name};
 
 fn identity(

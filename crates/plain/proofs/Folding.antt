@@ -1,7 +1,7 @@
 -- What runs along in the code is what runs along in the definition.
 use Rattle.std.proofs.Common.{◌≡◌, ℕ, suc, ◌+◌, ◌<◌, cond, List, [], ◌∷◌, ◌++◌, length, get_or, map, sym, ap, ◌∙◌, add-one, arith}
 use Rattle.std.specs.List.{range_with_len}
-use Rattle.std.proofs.lemmas.List.{get_or-map}
+use Rattle.std.proofs.lemmas.List.{get_or-map, length-map}
 use Rattle.std.proofs.lemmas.List.FromFn.{map-range_with_len_more}
 use Rattle.policy.specs.Policies.{Policies}
 use Rattle.rules.specs.declared.flag.Flag.TheVariants.{BadPayload}
@@ -14,10 +14,11 @@ use Rattle.rules.specs.Fold.{running, endorsed, flag, changes_to, entries_to}
 use Rattle.rules.specs.Delta.{changes_in, entries_in}
 use Rattle.rules.proofs.Deltas.{changes_to-running}
 use Rattle.plain.specs.declared.candidate.Candidate.{Candidate}
+use Rattle.plain.specs.declared.fold.Folded.{Folded}
 use Rattle.plain.specs.declared.fold.Running.{Running}
 use Rattle.plain.specs.Keys.{keys_of}
 use Rattle.plain.specs.Seen.{seen, job_over}
-use Rattle.plain.specs.Taking.{state_in, endorsement_in, flag_in, IsRunning, IsTaken}
+use Rattle.plain.specs.Taking.{state_in, endorsement_in, flag_in, IsRunning, IsTaken, IsFolded}
 
 module _ (definitions : Policies) (w : World) (cs : List Candidate) where
   abbrev j : Job
@@ -39,12 +40,12 @@ module _ (definitions : Policies) (w : World) (cs : List Candidate) where
         ∙ ap (λ s. flag_by c (endorsed j i) (reads_by s c)) state-is
         ∙ ap (λ x. flag_by x (endorsed j i) (reads_by (running j i).state x)) (sym here)
 
-    touched-is : cond (endorsement_in definitions w.state old c) (touched_by c ++ keys_of old.touched.items) (keys_of old.touched.items) ≡ (running j (suc i)).touched
+    touched-is : cond (endorsement_in definitions w.state old c) (keys_of old.touched.items ++ touched_by c) (keys_of old.touched.items) ≡ (running j (suc i)).touched
     unfolding running
     touched-is =
-        ap (λ e. cond e (touched_by c ++ keys_of old.touched.items) (keys_of old.touched.items)) endorsement-is
-        ∙ ap (λ t. cond (endorsed j i) (touched_by c ++ t) t) before.touched
-        ∙ ap (λ x. cond (endorsed j i) (touched_by x ++ (running j i).touched) (running j i).touched) (sym here)
+        ap (λ e. cond e (keys_of old.touched.items ++ touched_by c) (keys_of old.touched.items)) endorsement-is
+        ∙ ap (λ t. cond (endorsed j i) (t ++ touched_by c) t) before.touched
+        ∙ ap (λ x. cond (endorsed j i) ((running j i).touched ++ touched_by x) (running j i).touched) (sym here)
 
     changes-is : changes_in old.changes.items ++ cond (is_valid (flag_in definitions w.state old c)) (changes_by (version_of j i) c (state_in w.state old)) [] ≡ changes_to j (suc i)
     unfolding changes_to
@@ -88,3 +89,12 @@ module _ (definitions : Policies) (w : World) (cs : List Candidate) where
     entries = ap entries_in entries;
     flags = flags;
   }
+
+  -- all candidates were taken
+  pub folded-all : (r : Running) (f : Folded) → IsRunning j (length cs) r → f.changes.items ≡ r.changes.items → f.entries.items ≡ r.entries.items → f.flags.items ≡ r.flags.items → IsFolded j f
+  folded-all r f all changes entries flags' =
+      let count : length cs ≡ length j.candidates = sym (length-map cs seen) in record {
+        changes = ap changes_in changes ∙ all.changes ∙ ap (changes_to j) count;
+        entries = ap entries_in entries ∙ all.entries ∙ ap (entries_to j) count;
+        flags = flags' ∙ all.flags ∙ ap (λ n. map (flag j) (range_with_len 0 n)) count;
+      }

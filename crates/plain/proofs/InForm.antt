@@ -5,9 +5,9 @@ use Rattle.std.specs.declared.cmp.Ordering.TheVariants.{Less, Equal, Greater}
 use Rattle.std.specs.Ordering.{is_lt, is_le, is_some_and, nat_cmp, as_partial_cmp}
 use Rattle.std.specs.Cmp.Lexicographic.{slice_partial_cmp, lists_agrees, nat_list_cmp_total}
 use Rattle.std.specs.FinMap.Entries.{below_all}
-use Rattle.block.specs.declared.transaction.Version.{Version}
-use Rattle.block.specs.declared.transaction.KeyVersion.{KeyVersion}
-use Rattle.policy.specs.Policies.{bytes_cmp}
+use Rattle.transaction.specs.declared.transaction.Version.{Version}
+use Rattle.transaction.specs.declared.transaction.KeyVersion.{KeyVersion}
+use Rattle.values.specs.Order.{bytes_cmp}
 use Rattle.plain.specs.Rising.{are_rising}
 
 -- the order of bytes, as the code compares them

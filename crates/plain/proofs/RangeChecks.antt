@@ -12,18 +12,18 @@ use Rattle.std.specs.FinMap.{get, find, empty, get-empty, is_sorted}
 use Rattle.std.specs.FinMap.Entries.{below_all}
 use Rattle.std.proofs.lemmas.List.{map-append}
 use Rattle.std.proofs.lemmas.List.Folds.{list_all-append}
-use Rattle.block.specs.declared.transaction.Version.{Version}
-use Rattle.block.specs.declared.transaction.Range.{Range}
-use Rattle.block.specs.declared.transaction.KeyVersion.{KeyVersion}
-use Rattle.block.specs.Same.{is_same_version}
-use Rattle.policy.specs.Policies.{bytes_cmp}
+use Rattle.transaction.specs.declared.transaction.Version.{Version}
+use Rattle.transaction.specs.declared.transaction.Range.{Range}
+use Rattle.transaction.specs.declared.transaction.KeyVersion.{KeyVersion}
+use Rattle.transaction.specs.Same.{is_same_version}
+use Rattle.values.specs.Order.{bytes_cmp}
 use Rattle.rules.specs.declared.delta.Change.{Change}
 use Rattle.rules.specs.declared.delta.Delta.{Delta}
 use Rattle.rules.specs.declared.row.Row.{Row}
 use Rattle.rules.specs.State.{State, StateKey, key_cmp, version_in, is_same_key, with_changes, set_at}
 use Rattle.rules.specs.Delta.{changes_in}
 use Rattle.rules.specs.Ranges.{is_within, is_compared, results_of, range_holds}
-use Rattle.rules.specs.ReadWriteSets.{has_sound_results}
+use Rattle.rules.specs.ReadWriteSets.{has_results_in_form}
 use Rattle.rules.specs.World.{World}
 use Rattle.rules.proofs.Keys.{bytes_ties, same_key_is}
 use Rattle.rules.proofs.Changes.{get-set_at, with_changes-append}
@@ -253,7 +253,7 @@ changes_of_deltas [] = refl
 changes_of_deltas (d ∷ ds) = map-append (λ (c : Change). ((c.namespace, c.key), c.row)) d.changes (changes_before ds) ∙ ap (λ l. changes_in d.changes ++ l) (changes_of_deltas ds)
 
 -- over a world that deltas made, and the changes since
-pub range_over_deltas : (w : World) (ds : List Delta) (changes : List Change) (s : State) (namespace : List ℕ) (r : Range) → w ≡ world_of ds → s ≡ with_changes w.state (changes_in changes) → IsTrue (has_sound_results r)
+pub range_over_deltas : (w : World) (ds : List Delta) (changes : List Change) (s : State) (namespace : List ℕ) (r : Range) → w ≡ world_of ds → s ≡ with_changes w.state (changes_in changes) → IsTrue (has_results_in_form r)
     → range_holds s namespace r ≡ (list_all (is_found s namespace r) r.results && (list_all (λ d. list_all (is_listed s namespace r) d.changes) ds && list_all (is_listed s namespace r) changes))
 range_over_deltas w ds changes s namespace r made now sound =
     range_by_checks s namespace r (changes_before ds ++ changes) all_made (both_true (is_sorted bytes_cmp (results_of r)) (list_all (λ x. is_within r.start r.end x.key) r.results) sound).0

@@ -1,5 +1,5 @@
 -- A block that was taken in, folded and kept is a step of the definition.
-use Rattle.std.proofs.Common.{◌≡◌, ℕ, List, [], length, map, Option, Ok, sym, ap, subst, ◌∙◌}
+use Rattle.std.proofs.Common.{◌≡◌, ℕ, List, [], length, map, Option, Ok, sym, ap, ◌∙◌}
 use Rattle.std.proofs.lemmas.List.{length-map}
 use Rattle.std.proofs.lemmas.List.FromFn.{length-map-range_with_len}
 use Rattle.block.specs.declared.block.Block.{Block}
@@ -21,9 +21,9 @@ use Rattle.rules.specs.World.{World}
 use Rattle.rules.proofs.Candidates.{length-candidates_from}
 use Rattle.rules.proofs.Deltas.{committed-by_delta}
 use Rattle.plain.specs.declared.candidate.Candidate.{Candidate}
-use Rattle.plain.specs.declared.fold.Running.{Running}
+use Rattle.plain.specs.declared.fold.Folded.{Folded}
 use Rattle.plain.specs.Seen.{seen, job_over}
-use Rattle.plain.specs.Taking.{IsRunning}
+use Rattle.plain.specs.Taking.{IsFolded}
 
 module _ (channel : Configuration) (accepts : Accepts) (w : World) (b : Block) where
   abbrev candidates : List rules.Candidate
@@ -42,36 +42,31 @@ module _ (channel : Configuration) (accepts : Accepts) (w : World) (b : Block) w
   pub count-ids : (ids : List (Option (List ℕ))) → ids ≡ map (rules.used_id channel accepts) (txs_of b) → length ids ≡ length b.txs
   count-ids ids are = ap length are ∙ length-map (txs_of b) _ ∙ length-map b.txs _
 
-  pub count-flags : (cs : List Candidate) (r : Running) → IsRunning (job_over channel.definitions w cs) (length cs) r → length r.flags.items ≡ length cs
-  count-flags cs r running = ap length running.flags ∙ length-map-range_with_len (flag (job_over channel.definitions w cs)) 0 (length cs)
+  -- the job of the candidates is the block's own
+  pub own_job : (cs : List Candidate) → map seen cs ≡ candidates → job_over channel.definitions w cs ≡ job
+  own_job cs are = ap (λ (l : List rules.Candidate). record { number = job.number; state = job.state; definitions = job.definitions; candidates = l }) are
 
-  -- what runs along at the end is that of the block's own job
-  ended : (cs : List Candidate) (r : Running) → map seen cs ≡ candidates → IsRunning (job_over channel.definitions w cs) (length cs) r → IsRunning job (length job.candidates) r
-  ended cs r are running =
-      let jobs : job_over channel.definitions w cs ≡ job = ap (λ (l : List rules.Candidate). record { number = job.number; state = job.state; definitions = job.definitions; candidates = l }) are in
-      let count : length cs ≡ length job.candidates = sym (length-map cs seen) ∙ ap length are in
-      subst (λ (n : ℕ). IsRunning job n r) count (subst (λ (j : Job). IsRunning j (length cs) r) jobs running)
+  pub count-flags : (cs : List Candidate) (f : Folded) → IsFolded (job_over channel.definitions w cs) f → length f.flags.items ≡ length cs
+  count-flags cs f folded = ap length folded.flags ∙ length-map-range_with_len (flag (job_over channel.definitions w cs)) 0 (length (map seen cs)) ∙ length-map cs seen
 
-  pub accepted-step : (bytes : List ℕ) (cs : List Candidate) (ids : List (Option (List ℕ))) (r : Running) (d : Delta) (answer : Accepted) (new : World)
-      → Spells bytes b → IsLinked w b → map seen cs ≡ candidates → ids ≡ map (rules.used_id channel accepts) (txs_of b)
-      → IsRunning (job_over channel.definitions w cs) (length cs) r
-      → ((j : Job) → j.number ≡ b.header.number → r.flags.items ≡ flags j → uses_in d.uses ≡ uses_from j 0 ids)
-      → d.changes ≡ r.changes.items → d.entries ≡ r.entries.items
-      → d.block ≡ record { bytes = bytes; header_hash = header_hash_of b.header; flags = r.flags.items }
-      → answer ≡ record { number = b.header.number; header_hash = header_hash_of b.header; flags = r.flags.items }
+  pub accepted-step : (bytes : List ℕ) (f : Folded) (d : Delta) (answer : Accepted) (new : World)
+      → Spells bytes b → IsLinked w b → IsFolded job f
+      → uses_in d.uses ≡ uses_from job 0 (map (rules.used_id channel accepts) (txs_of b))
+      → d.changes ≡ f.changes.items → d.entries ≡ f.entries.items
+      → d.block ≡ record { bytes = bytes; header_hash = header_hash_of b.header; flags = f.flags.items }
+      → answer ≡ record { number = b.header.number; header_hash = header_hash_of b.header; flags = f.flags.items }
       → new ≡ applied w d
       → Step channel accepts w bytes (Ok answer) new
-  accepted-step bytes cs ids r d answer new spells linked are ids_are running uses changes entries block answer_is new_is =
-      let end : IsRunning job (length job.candidates) r = ended cs r are running in
+  accepted-step bytes f d answer new spells linked folded uses changes entries block answer_is new_is =
       let after : world_after channel accepts w bytes b ≡ applied w d =
       committed-by_delta channel accepts w (txs_of b) (committed_of bytes b job) d
-      (ap changes_in changes ∙ end.changes)
-      (ap entries_in entries ∙ end.entries)
-      (uses job (sym linked.number) end.flags ∙ ap (uses_from job 0) ids_are)
-      (block ∙ ap (λ (fs : List Flag). record { bytes = bytes; header_hash = header_hash_of b.header; flags = fs }) end.flags) in (
+      (ap changes_in changes ∙ folded.changes)
+      (ap entries_in entries ∙ folded.entries)
+      uses
+      (block ∙ ap (λ (fs : List Flag). record { bytes = bytes; header_hash = header_hash_of b.header; flags = fs }) folded.flags) in (
         b,
         spells,
         linked,
-        answer_is ∙ ap (λ (fs : List Flag). record { number = b.header.number; header_hash = header_hash_of b.header; flags = fs }) end.flags,
+        answer_is ∙ ap (λ (fs : List Flag). record { number = b.header.number; header_hash = header_hash_of b.header; flags = fs }) folded.flags,
         new_is ∙ sym after,
       )

@@ -5,7 +5,7 @@ use Rattle.std.specs.FinMap.{get, find, empty, get-empty}
 use Rattle.std.specs.Ordering.{eq_by_cmp}
 use Rattle.std.specs.Option.{option_or}
 use Rattle.std.specs.Str.{bytes_eq}
-use Rattle.policy.specs.Policies.{bytes_cmp}
+use Rattle.values.specs.Order.{bytes_cmp}
 use Rattle.std.proofs.lemmas.List.{take_more, map_push, flat_map_more}
 use Rattle.rules.specs.declared.delta.Change.{Change}
 use Rattle.rules.specs.declared.delta.Delta.{Delta}

@@ -4,7 +4,7 @@ use Rattle.plain.specs.declared.state_key.StateKey.{StateKey}
 use Rattle.rules.specs.State as state
 
 abbrev pub key_of : StateKey → state.StateKey
-key_of k = (k.namespace.now, k.key.now)
+key_of k = (k.namespace, k.key)
 
 abbrev pub keys_of : List StateKey → List state.StateKey
 keys_of keys = map key_of keys

@@ -4,9 +4,9 @@ use Rattle.std.specs.List.{list_any}
 use Rattle.std.specs.Option.{option_eq}
 use Rattle.std.specs.Str.{bytes_eq}
 use Rattle.std.specs.FinMap.{get}
-use Rattle.block.specs.declared.transaction.Range.{Range}
-use Rattle.block.specs.declared.transaction.KeyVersion.{KeyVersion}
-use Rattle.block.specs.Same.{is_same_version}
+use Rattle.transaction.specs.declared.transaction.Range.{Range}
+use Rattle.transaction.specs.declared.transaction.KeyVersion.{KeyVersion}
+use Rattle.transaction.specs.Same.{is_same_version}
 use Rattle.rules.specs.declared.delta.Change.{Change}
 use Rattle.rules.specs.State.{State, version_in}
 use Rattle.rules.specs.Ranges.{is_compared}

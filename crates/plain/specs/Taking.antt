@@ -1,7 +1,7 @@
 -- What taking one candidate makes of what runs along in the code. No public contract cites this.
-use Rattle.std.specs.Prelude.{◌≡◌, ℕ, [], ◌++◌, Bool, if◌then◌else◌, map}
+use Rattle.std.specs.Prelude.{◌≡◌, ℕ, [], ◌++◌, length, Bool, if◌then◌else◌, map}
 use Rattle.std.specs.List.{range_with_len}
-use Rattle.block.specs.declared.transaction.Version.{Version}
+use Rattle.transaction.specs.declared.transaction.Version.{Version}
 use Rattle.policy.specs.Policies.{Policies}
 use Rattle.rules.specs.declared.flag.Flag.{Flag}
 use Rattle.rules.specs.Flags.{is_valid}
@@ -9,7 +9,8 @@ use Rattle.rules.specs.State.{State, with_changes}
 use Rattle.rules.specs.Delta.{changes_in, entries_in}
 use Rattle.rules.specs.Candidate.{Candidate}
 use Rattle.rules.specs.Job.{Job, touched_by, changes_by, entries_by, endorsement_by, reads_by, flag_by}
-use Rattle.rules.specs.Fold.{running, flag, changes_to, entries_to}
+use Rattle.rules.specs.Fold.{running, flag, flags, changes_to, entries_to}
+use Rattle.plain.specs.declared.fold.Folded.{Folded}
 use Rattle.plain.specs.declared.fold.Running.{Running}
 use Rattle.plain.specs.Keys.{keys_of}
 
@@ -19,6 +20,12 @@ pub record IsRunning (j : Job) (i : ℕ) (r : Running) : Type 0 where
   pub changes : changes_in r.changes.items ≡ changes_to j i
   pub entries : entries_in r.entries.items ≡ entries_to j i
   pub flags : r.flags.items ≡ map (flag j) (range_with_len 0 i)
+
+-- what all candidates of a job give
+pub record IsFolded (j : Job) (r : Folded) : Type 0 where
+  pub changes : changes_in r.changes.items ≡ changes_to j (length j.candidates)
+  pub entries : entries_in r.entries.items ≡ entries_to j (length j.candidates)
+  pub flags : r.flags.items ≡ flags j
 
 -- ---- one candidate more, over the state before the block
 
@@ -33,6 +40,6 @@ flag_in definitions before r c = flag_by c (endorsement_in definitions before r 
 
 -- its flag aside
 pub record IsTaken (definitions : Policies) (before : State) (v : Version) (c : Candidate) (old new : Running) : Type 0 where
-  pub touched : keys_of new.touched.items ≡ (if endorsement_in definitions before old c then touched_by c ++ keys_of old.touched.items else keys_of old.touched.items)
+  pub touched : keys_of new.touched.items ≡ (if endorsement_in definitions before old c then keys_of old.touched.items ++ touched_by c else keys_of old.touched.items)
   pub changes : changes_in new.changes.items ≡ changes_in old.changes.items ++ (if is_valid (flag_in definitions before old c) then changes_by v c (state_in before old) else [])
   pub entries : entries_in new.entries.items ≡ entries_in old.entries.items ++ (if is_valid (flag_in definitions before old c) then entries_by v c else [])

@@ -9,15 +9,16 @@ ghost use Rattle.rules.specs.History as history;
 ghost use Rattle.plain.specs.Keys.{key_of};
 ghost use Rattle.plain.specs.StateNow.{state_now};
 
+use crate::candidate::OpenTx;
 use crate::state::StateNow;
-use crate::state_key::{StateKey, written_keys};
-use block::{NsSet, PolicyWrite, Tx, Version, Write};
+use crate::state_key::StateKey;
 use policy::{Policy, PolicyFault};
 use rules::{Change, HistoryEntry, NewEntry, Row};
 use std::alloc::{AllocError, Global};
-use values::{Bytes, Key, Name};
+use transaction::{NsSet, PolicyWrite, Tx, Version, Write};
+use values::{Bytes, KeyRef, NameRef, Slice};
 
-fn set_of<'a>(tx: &'a Tx, namespace: &Name) -> Option<&'a NsSet>
+fn set_of<'a>(tx: &'a Tx<'a>, namespace: &NameRef<'_>) -> Option<&'a NsSet<'a>>
     ensures { option_copied result ≡ effect.set_of tx.now namespace.now }
 {
     tx.namespaces
@@ -26,33 +27,36 @@ fn set_of<'a>(tx: &'a Tx, namespace: &Name) -> Option<&'a NsSet>
         .find(|set| namespace.is_same(&set.name))
 }
 
-fn write_in<'a>(writes: &'a [Write], key: &Key) -> Option<&'a Write>
+fn write_in<'a>(writes: &'a [Write<'a>], key: &KeyRef<'_>) -> Option<&'a Write<'a>>
     ensures { option_copied result ≡ find (λ w. bytes_eq key.now w.key) writes.now }
 {
     writes.iter().find(|write| key.is_same(&write.key))
 }
 
-fn write_of<'a>(tx: &'a Tx, key: StateKey<'_>) -> Option<&'a Write>
-    ensures { option_copied result ≡ effect.write_of tx.now (key_of key.entry) }
+fn write_of<'a>(tx: &'a Tx<'a>, key: &StateKey<'_>) -> Option<&'a Write<'a>>
+    ensures { option_copied result ≡ effect.write_of tx.now (key_of key.now) }
 {
-    match set_of(tx, key.namespace) {
+    match set_of(tx, &key.namespace) {
         None => None,
-        Some(set) => write_in(set.writes.as_slice(), key.key),
+        Some(set) => write_in(set.writes.as_slice(), &key.key),
     }
 }
 
-fn policy_write_in<'a>(writes: &'a [PolicyWrite], key: &Key) -> Option<&'a PolicyWrite>
+fn policy_write_in<'a>(
+    writes: &'a [PolicyWrite<'a>],
+    key: &KeyRef<'_>,
+) -> Option<&'a PolicyWrite<'a>>
     ensures { option_copied result ≡ find (λ w. bytes_eq key.now w.key) writes.now }
 {
     writes.iter().find(|write| key.is_same(&write.key))
 }
 
-fn policy_write_of<'a>(tx: &'a Tx, key: StateKey<'_>) -> Option<&'a PolicyWrite>
-    ensures { option_copied result ≡ effect.policy_write_of tx.now (key_of key.entry) }
+fn policy_write_of<'a>(tx: &'a Tx<'a>, key: &StateKey<'_>) -> Option<&'a PolicyWrite<'a>>
+    ensures { option_copied result ≡ effect.policy_write_of tx.now (key_of key.now) }
 {
-    match set_of(tx, key.namespace) {
+    match set_of(tx, &key.namespace) {
         None => None,
-        Some(set) => policy_write_in(set.policy_writes.as_slice(), key.key),
+        Some(set) => policy_write_in(set.policy_writes.as_slice(), &key.key),
     }
 }
 
@@ -65,7 +69,7 @@ fn copy_policy(alloc: Global, policy: Option<&Policy>) -> Result<Option<Policy>,
     }
 }
 
-fn policy_left(alloc: Global, write: &PolicyWrite) -> Result<Option<Policy>, AllocError>
+fn policy_left(alloc: Global, write: &PolicyWrite<'_>) -> Result<Option<Policy>, AllocError>
     ensures { IfOk result (λ policy. policy ≡ effect.policy_left write.now) }
 {
     match &write.policy {
@@ -80,7 +84,7 @@ fn policy_left(alloc: Global, write: &PolicyWrite) -> Result<Option<Policy>, All
 
 fn policy_after(
     alloc: Global,
-    write: Option<&PolicyWrite>,
+    write: Option<&PolicyWrite<'_>>,
     row: Option<&Row>,
 ) -> Result<Option<Policy>, AllocError>
     ensures { IfOk result (λ policy. policy ≡ effect.policy_after (option_copied write.entry) (option_copied row.entry)) }
@@ -95,8 +99,8 @@ fn policy_after(
 fn value_written(
     alloc: Global,
     version: Version,
-    write: &Write,
-    policy_write: Option<&PolicyWrite>,
+    write: &Write<'_>,
+    policy_write: Option<&PolicyWrite<'_>>,
     row: Option<&Row>,
 ) -> Result<Option<Row>, AllocError>
     ensures { IfOk result (λ after. after ≡ effect.row_after version (Some write.now) (option_copied policy_write.entry) (option_copied row.entry)) }
@@ -114,7 +118,7 @@ fn value_written(
 fn policy_written(
     alloc: Global,
     version: Version,
-    policy_write: &PolicyWrite,
+    policy_write: &PolicyWrite<'_>,
     row: Option<&Row>,
 ) -> Result<Option<Row>, AllocError>
     ensures { IfOk result (λ after. after ≡ effect.row_after version None (Some policy_write.now) (option_copied row.entry)) }
@@ -146,11 +150,11 @@ fn copy_row(alloc: Global, row: Option<&Row>) -> Result<Option<Row>, AllocError>
 fn effect_at(
     alloc: Global,
     version: Version,
-    tx: &Tx,
-    key: StateKey<'_>,
+    tx: &Tx<'_>,
+    key: &StateKey<'_>,
     row: Option<&Row>,
 ) -> Result<Option<Row>, AllocError>
-    ensures { IfOk result (λ after. after ≡ effect.effect_at version tx.now (key_of key.entry) (option_copied row.entry)) }
+    ensures { IfOk result (λ after. after ≡ effect.effect_at version tx.now (key_of key.now) (option_copied row.entry)) }
 {
     let policy_write = policy_write_of(tx, key);
     match (write_of(tx, key), policy_write) {
@@ -163,12 +167,12 @@ fn effect_at(
 fn change_of(
     alloc: Global,
     version: Version,
-    tx: &Tx,
+    tx: &Tx<'_>,
     state: StateNow<'_>,
-    key: StateKey<'_>,
+    key: &StateKey<'_>,
 ) -> Result<Change, AllocError>
-    ensures key { IfOk result (λ c. (c.namespace, c.key) ≡ key_of key.entry) }
-    ensures row { IfOk result (λ c. c.row ≡ effect.effect_at version tx.now (key_of key.entry) (get (state_now state.entry) (key_of key.entry))) }
+    ensures key { IfOk result (λ c. (c.namespace, c.key) ≡ key_of key.now) }
+    ensures row { IfOk result (λ c. c.row ≡ effect.effect_at version tx.now (key_of key.now) (get (state_now state.entry) (key_of key.now))) }
 {
     Ok(Change {
         namespace: key.namespace.copy(alloc)?,
@@ -181,20 +185,19 @@ fn change_of(
 pub(crate) fn changes_of(
     alloc: Global,
     version: Version,
-    tx: &Tx,
+    open_tx: &OpenTx<'_>,
     state: StateNow<'_>,
 ) -> Result<Vec<Change>, AllocError>
-    ensures { IfOk result (λ changes. changes_in changes.items ≡ effect.changes_of version tx.now (state_now state.entry)) }
+    ensures { IfOk result (λ changes. changes_in changes.items ≡ effect.changes_of version open_tx.now.tx (state_now state.entry)) }
 {
-    let keys = written_keys(alloc, tx)?;
     let mut changes = Vec::new(alloc);
-    for key in &keys {
-        changes.push(change_of(alloc, version, tx, state, *key)?)?;
+    for key in &open_tx.written {
+        changes.push(change_of(alloc, version, &open_tx.tx, state, key)?)?;
     }
     Ok(changes)
 }
 
-fn copy_value(alloc: Global, value: &Option<Bytes>) -> Result<Option<Bytes>, AllocError>
+fn copy_value(alloc: Global, value: &Option<Slice<'_>>) -> Result<Option<Bytes>, AllocError>
     ensures { IfOk result (λ copied. copied ≡ value.now) }
 {
     match value {
@@ -206,9 +209,9 @@ fn copy_value(alloc: Global, value: &Option<Bytes>) -> Result<Option<Bytes>, All
 fn entry_of(
     alloc: Global,
     version: Version,
-    tx: &Tx,
-    namespace: &Name,
-    write: &Write,
+    tx: &Tx<'_>,
+    namespace: &NameRef<'_>,
+    write: &Write<'_>,
 ) -> Result<NewEntry, AllocError>
     ensures { IfOk result (λ e. e ≡ record { namespace = namespace.now; key = write.now.key; entry = record { version = version; id = tx.now.id; value = write.now.value } }) }
 {
@@ -227,8 +230,8 @@ fn add_entries(
     alloc: Global,
     entries: &mut Vec<NewEntry>,
     version: Version,
-    tx: &Tx,
-    set: &NsSet,
+    tx: &Tx<'_>,
+    set: &NsSet<'_>,
 ) -> Result<(), AllocError>
     ensures { OnOk result (entries_in entries.new.items ≡ entries_in entries.old.items ++ map (λ w. ((set.now.name, w.key), record { version = version; id = tx.now.id; value = w.value })) set.now.writes) }
 {
@@ -243,7 +246,7 @@ pub(crate) fn entries_of(
     alloc: Global,
     entries: &mut Vec<NewEntry>,
     version: Version,
-    tx: &Tx,
+    tx: &Tx<'_>,
 ) -> Result<(), AllocError>
     ensures { OnOk result (entries_in entries.new.items ≡ entries_in entries.old.items ++ history.entries_of version tx.now) }
 {

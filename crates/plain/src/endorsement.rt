@@ -1,5 +1,5 @@
 //! The endorsement rule.
-ghost use Rattle.std.specs.Prelude.{◌≡◌, IfOk};
+ghost use Rattle.std.specs.Prelude.{◌≡◌};
 ghost use Rattle.std.specs.List.{list_all, list_any};
 ghost use Rattle.std.specs.Str.{bytes_eq};
 ghost use Rattle.std.specs.Option.{option_copied};
@@ -7,15 +7,14 @@ ghost use Rattle.rules.specs.State.{is_among, policy_in};
 ghost use Rattle.rules.specs.Endorsement.{meets, governing, may_write, is_endorsed};
 ghost use Rattle.plain.specs.Keys.{key_of, keys_of};
 
-use crate::state_key::{StateKey, written_keys};
+use crate::candidate::OpenTx;
+use crate::state_key::StateKey;
 use crate::world::World;
-use block::Tx;
 use policy::{Definitions, Policy};
 use policy_eval::{Signers, satisfied};
-use std::alloc::{AllocError, Global};
-use values::Name;
+use values::NameRef;
 
-fn meets(signers: &Signers, policy: Option<&Policy>) -> bool
+fn meets(signers: &Signers<'_>, policy: Option<&Policy>) -> bool
     ensures { result ≡ meets signers.now (option_copied policy.entry) }
 {
     match policy {
@@ -28,23 +27,23 @@ fn meets(signers: &Signers, policy: Option<&Policy>) -> bool
 fn governing<'a>(
     definitions: &'a Definitions,
     world: &'a World,
-    key: StateKey<'_>,
+    key: &StateKey<'_>,
 ) -> Option<&'a Policy>
-    ensures { option_copied result ≡ governing definitions.now (key_of key.entry).0 (policy_in world.now.state (key_of key.entry)) }
+    ensures { option_copied result ≡ governing definitions.now (key_of key.now).0 (policy_in world.now.state (key_of key.now)) }
 {
     if let Some(row) = world.row_at(key) {
         if let Some(own) = &row.policy {
             return Some(own);
         }
     }
-    definitions.of(key.namespace)
+    definitions.of(&key.namespace)
 }
 
-fn is_among(key: StateKey<'_>, keys: &[StateKey<'_>]) -> bool
-    ensures { result ≡ is_among (key_of key.entry) (keys_of keys.now) }
+fn is_among(key: &StateKey<'_>, keys: &[StateKey<'_>]) -> bool
+    ensures { result ≡ is_among (key_of key.now) (keys_of keys.now) }
 {
     for other in keys {
-        if key.is_same(other.namespace, other.key) {
+        if key.is_same(other) {
             return true;
         }
     }
@@ -55,10 +54,10 @@ fn may_write(
     definitions: &Definitions,
     world: &World,
     touched: &[StateKey<'_>],
-    signers: &Signers,
-    key: StateKey<'_>,
+    signers: &Signers<'_>,
+    key: &StateKey<'_>,
 ) -> bool
-    ensures { result ≡ may_write definitions.now world.now.state (keys_of touched.now) signers.now (key_of key.entry) }
+    ensures { result ≡ may_write definitions.now world.now.state (keys_of touched.now) signers.now (key_of key.now) }
 {
     !is_among(key, touched) && meets(signers, governing(definitions, world, key))
 }
@@ -67,24 +66,24 @@ fn may_write_all(
     definitions: &Definitions,
     world: &World,
     touched: &[StateKey<'_>],
-    signers: &Signers,
+    signers: &Signers<'_>,
     keys: &[StateKey<'_>],
 ) -> bool
     ensures { result ≡ list_all (may_write definitions.now world.now.state (keys_of touched.now) signers.now) (keys_of keys.now) }
 {
     for key in keys {
-        if !may_write(definitions, world, touched, signers, *key) {
+        if !may_write(definitions, world, touched, signers, key) {
             return false;
         }
     }
     true
 }
 
-fn has_key_in(keys: &[StateKey<'_>], namespace: &Name) -> bool
+fn has_key_in(keys: &[StateKey<'_>], namespace: &NameRef<'_>) -> bool
     ensures { result ≡ list_any (λ k. bytes_eq namespace.now k.0) (keys_of keys.now) }
 {
     for key in keys {
-        if namespace.is_same(key.namespace) {
+        if namespace.is_same(&key.namespace) {
             return true;
         }
     }
@@ -94,19 +93,16 @@ fn has_key_in(keys: &[StateKey<'_>], namespace: &Name) -> bool
 /// Whether each written key may be written, and the named chaincode's policy is satisfied where that namespace
 /// has no writes.
 pub(crate) fn is_endorsed(
-    alloc: Global,
     definitions: &Definitions,
     world: &World,
     touched: &[StateKey<'_>],
-    tx: &Tx,
-    signers: &Signers,
-) -> Result<bool, AllocError>
-    ensures { IfOk result (λ endorsed. endorsed ≡ is_endorsed definitions.now world.now.state (keys_of touched.now) tx.now signers.now) }
+    open_tx: &OpenTx<'_>,
+) -> bool
+    ensures { result ≡ is_endorsed definitions.now world.now.state (keys_of touched.now) open_tx.now.tx open_tx.now.signers }
 {
-    let keys = written_keys(alloc, tx)?;
-    Ok(
-        may_write_all(definitions, world, touched, signers, keys.as_slice())
-            && (has_key_in(keys.as_slice(), &tx.chaincode)
-                || meets(signers, definitions.of(&tx.chaincode))),
-    )
+    let signers = &open_tx.signers;
+    let written = open_tx.written.as_slice();
+    let chaincode = &open_tx.tx.chaincode;
+    may_write_all(definitions, world, touched, signers, written)
+        && (has_key_in(written, chaincode) || meets(signers, definitions.of(chaincode)))
 }

@@ -10,27 +10,35 @@ ghost use Rattle.rules.specs.Reads as reads;
 ghost use Rattle.rules.specs.Flags.{is_valid};
 ghost use Rattle.plain.specs.Keys.{keys_of};
 ghost use Rattle.plain.specs.Seen.{seen, job_over};
-ghost use Rattle.plain.specs.Taking.{state_in, flag_in, IsRunning, IsTaken};
+ghost use Rattle.plain.specs.Taking.{state_in, flag_in, IsRunning, IsTaken, IsFolded};
 
 use crate::candidate::{Candidate, OpenTx};
 use crate::effect::{changes_of, entries_of};
 use crate::endorsement::is_endorsed;
 use crate::reads::read_verdict;
 use crate::state::StateNow;
-use crate::state_key::{StateKey, policy_keys};
+use crate::state_key::{StateKey, add_policy_keys};
 use crate::world::World;
-use block::{Tx, Version};
 use policy::Definitions;
 use rules::{Change, Flag, NewEntry, ReadVerdict};
 use std::alloc::{AllocError, Global};
+use transaction::{Tx, Version};
+
+/// What the candidates of a block have given.
+#[derive(Drop)]
+pub(crate) struct Folded {
+    pub changes: Vec<Change>,
+    pub entries: Vec<NewEntry>,
+    pub flags: Vec<Flag>,
+}
 
 /// What runs along: the keys whose policy was touched, and what the candidates so far have given.
 #[derive(Drop)]
 pub(crate) struct Running<'a> {
     touched: Vec<StateKey<'a>>,
-    pub changes: Vec<Change>,
-    pub entries: Vec<NewEntry>,
-    pub flags: Vec<Flag>,
+    changes: Vec<Change>,
+    entries: Vec<NewEntry>,
+    flags: Vec<Flag>,
 }
 
 fn read_flag(verdict: ReadVerdict) -> Flag
@@ -64,10 +72,10 @@ impl<'a> Running<'a> {
         alloc: Global,
         world: &World,
         version: Version,
-        tx: &Tx,
+        open_tx: &OpenTx<'_>,
     ) -> Result<(), AllocError>
-        ensures changes { OnOk result (changes_in self.new.changes.items ≡ changes_in self.old.changes.items ++ effect.changes_of version tx.now (state_in world.now.state self.old)) }
-        ensures entries { OnOk result (entries_in self.new.entries.items ≡ entries_in self.old.entries.items ++ history.entries_of version tx.now) }
+        ensures changes { OnOk result (changes_in self.new.changes.items ≡ changes_in self.old.changes.items ++ effect.changes_of version open_tx.now.tx (state_in world.now.state self.old)) }
+        ensures entries { OnOk result (entries_in self.new.entries.items ≡ entries_in self.old.entries.items ++ history.entries_of version open_tx.now.tx) }
         ensures touched { OnOk result (self.new.touched.items ≡ self.old.touched.items) }
         ensures flags { OnOk result (self.new.flags.items ≡ self.old.flags.items) }
     {
@@ -75,22 +83,19 @@ impl<'a> Running<'a> {
             world,
             changes: self.changes.as_slice(),
         };
-        let mut changes = changes_of(alloc, version, tx, state)?;
+        let mut changes = changes_of(alloc, version, open_tx, state)?;
         self.changes.append(&mut changes)?;
-        entries_of(alloc, &mut self.entries, version, tx)
+        entries_of(alloc, &mut self.entries, version, &open_tx.tx)
     }
 
     /// The keys whose policy the transaction writes are touched from now on.
-    fn touch(&mut self, alloc: Global, tx: &'a Tx) -> Result<(), AllocError>
-        ensures touched { OnOk result (keys_of self.new.touched.items ≡ effect.policy_keys tx.now ++ keys_of self.old.touched.items) }
+    fn touch(&mut self, tx: &Tx<'a>) -> Result<(), AllocError>
+        ensures touched { OnOk result (keys_of self.new.touched.items ≡ keys_of self.old.touched.items ++ effect.policy_keys tx.now) }
         ensures changes { OnOk result (self.new.changes.items ≡ self.old.changes.items) }
         ensures entries { OnOk result (self.new.entries.items ≡ self.old.entries.items) }
         ensures flags { OnOk result (self.new.flags.items ≡ self.old.flags.items) }
     {
-        let mut touched = policy_keys(alloc, tx)?;
-        touched.extend_from_slice(self.touched.as_slice())?;
-        self.touched = touched;
-        Ok(())
+        add_policy_keys(&mut self.touched, tx)
     }
 
     /// What an open transaction's reads say, which is applied where they are good.
@@ -99,7 +104,7 @@ impl<'a> Running<'a> {
         alloc: Global,
         world: &World,
         version: Version,
-        open_tx: &OpenTx,
+        open_tx: &OpenTx<'_>,
     ) -> Result<Flag, AllocError>
         ensures flag { IfOk result (λ flag. flag ≡ job.read_flag (reads.read_verdict (state_in world.now.state self.old) open_tx.now.tx)) }
         ensures changes { IfOk result (λ flag. changes_in self.new.changes.items ≡ changes_in self.old.changes.items ++ (if is_valid flag then effect.changes_of version open_tx.now.tx (state_in world.now.state self.old) else [])) }
@@ -113,7 +118,7 @@ impl<'a> Running<'a> {
         };
         let flag = read_flag(read_verdict(state, &open_tx.tx));
         if flag.is_valid() {
-            self.apply(alloc, world, version, &open_tx.tx)?;
+            self.apply(alloc, world, version, open_tx)?;
         }
         Ok(flag)
     }
@@ -124,25 +129,17 @@ impl<'a> Running<'a> {
         definitions: &Definitions,
         world: &World,
         version: Version,
-        open_tx: &'a OpenTx,
+        open_tx: &OpenTx<'a>,
     ) -> Result<Flag, AllocError>
         ensures flag { IfOk result (λ flag. flag ≡ flag_in definitions.now world.now.state self.old (rules.opened open_tx.now.tx open_tx.now.signers)) }
         ensures taken { OnOk result (IsTaken definitions.now world.now.state version (rules.opened open_tx.now.tx open_tx.now.signers) self.old self.new) }
         ensures flags { OnOk result (self.new.flags.items ≡ self.old.flags.items) }
     {
-        let touched = self.touched.as_slice();
-        if !is_endorsed(
-            alloc,
-            definitions,
-            world,
-            touched,
-            &open_tx.tx,
-            &open_tx.signers,
-        )? {
+        if !is_endorsed(definitions, world, self.touched.as_slice(), open_tx) {
             return Ok(Flag::EndorsementPolicyFailure);
         }
         let flag = self.read(alloc, world, version, open_tx)?;
-        self.touch(alloc, &open_tx.tx)?;
+        self.touch(&open_tx.tx)?;
         Ok(flag)
     }
 
@@ -153,7 +150,7 @@ impl<'a> Running<'a> {
         definitions: &Definitions,
         world: &World,
         version: Version,
-        candidate: &'a Candidate,
+        candidate: &Candidate<'a>,
     ) -> Result<(), AllocError>
         ensures taken { OnOk result (IsTaken definitions.now world.now.state version (seen candidate.now) self.old self.new) }
         ensures flags { OnOk result (self.new.flags.items ≡ self.old.flags.items ++ flag_in definitions.now world.now.state self.old (seen candidate.now) ∷ []) }
@@ -171,17 +168,29 @@ impl<'a> Running<'a> {
         self.flags.push(flag)?;
         Ok(())
     }
+
+    fn folded(self) -> Folded
+        ensures changes { result.changes.items ≡ self.entry.changes.items }
+        ensures entries { result.entries.items ≡ self.entry.entries.items }
+        ensures flags { result.flags.items ≡ self.entry.flags.items }
+    {
+        Folded {
+            changes: self.changes,
+            entries: self.entries,
+            flags: self.flags,
+        }
+    }
 }
 
 /// Takes the candidates of the next block of the world.
-pub(crate) fn fold<'a>(
+pub(crate) fn fold(
     alloc: Global,
     definitions: &Definitions,
     world: &World,
-    candidates: &'a [Candidate],
-) -> Result<Running<'a>, AllocError>
+    candidates: &[Candidate<'_>],
+) -> Result<Folded, AllocError>
     requires { length candidates.now < 2 ^ 32 }
-    ensures { IfOk result (λ r. IsRunning (job_over definitions.now world.now candidates.now) (length candidates.now) r) }
+    ensures { IfOk result (λ r. IsFolded (job_over definitions.now world.now candidates.now) r) }
 {
     let mut running = Running::new(alloc);
     let block = world.height();
@@ -192,5 +201,5 @@ pub(crate) fn fold<'a>(
         };
         running.take(alloc, definitions, world, version, candidate)?;
     }
-    Ok(running)
+    Ok(running.folded())
 }

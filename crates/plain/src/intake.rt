@@ -1,34 +1,34 @@
 //! From a block's transactions to candidates.
-ghost use Rattle.std.specs.Prelude.{◌≡◌, ◌≤◌, map, length, Some, option_to_list, [], List, ℕ, IfOk, IfSome};
+ghost use Rattle.std.specs.Prelude.{◌≡◌, ◌&&◌, ◌++◌, map, option_to_list, Some, [], IfOk, OnOk};
 ghost use Rattle.std.specs.List.{list_all};
 ghost use Rattle.std.specs.FinMap.{contains_key};
-ghost use Rattle.block.specs.Decoded.{tx_of};
+ghost use Rattle.transaction.specs.Decoded.{tx_of};
 ghost use Rattle.std.specs.List.{list_any};
 ghost use Rattle.std.specs.Str.{bytes_eq};
-ghost use Rattle.policy_eval.specs.Signers.{signers_of, IsSpelled};
-ghost use Rattle.block.specs.TxGrammar.{identity_bytes, SpellsTx};
+ghost use Rattle.policy_eval.specs.Signers.{signers_of};
+ghost use Rattle.transaction.specs.Grammar.{identity_bytes, signed_bytes};
+ghost use Rattle.transaction.specs.Spelled.{IsSpelled};
 ghost use Rattle.header_hash.specs.Hashes.{tx_id_of};
 ghost use Rattle.rules.specs.Candidate as rules;
 ghost use Rattle.plain.specs.Keys.{keys_of};
 ghost use Rattle.plain.specs.Seen.{seen};
 
 use crate::candidate::{Candidate, OpenTx};
-use crate::sets::is_sound;
+use crate::sets::is_in_form;
 use crate::state_key::{StateKey, written_keys};
 use crate::world::World;
-use block::{EncodeFault, ID_BYTES, Tx, TxFault, creator_message, decode_tx, encode_identity};
 use channel::Channel;
 use header_hash::tx_id;
 use policy::Definitions;
 use policy_eval::{Verify, signers};
 use rules::Flag;
 use std::alloc::{AllocError, Global};
-use values::{Bytes, Name};
+use transaction::{SpelledTx, Tx, TxFault, TxId, decode_tx};
+use values::{NameRef, Slice};
 
 /// The transaction that the bytes spell, or none.
-fn decoded_tx(alloc: Global, bytes: &[u8]) -> Result<Option<Tx>, AllocError>
-    ensures value { IfOk result (λ tx. tx ≡ tx_of bytes.now) }
-    ensures spelled { IfOk result (λ tx. IfSome tx (λ t. SpellsTx bytes.now t)) }
+fn decoded_tx(alloc: Global, bytes: &[u8]) -> Result<Option<SpelledTx<'_>>, AllocError>
+    ensures { IfOk result (λ tx. tx ≡ tx_of bytes.now) }
 {
     match decode_tx(alloc, bytes) {
         Ok(tx) => Ok(Some(tx)),
@@ -38,42 +38,39 @@ fn decoded_tx(alloc: Global, bytes: &[u8]) -> Result<Option<Tx>, AllocError>
 }
 
 /// Whether its id is that of its nonce and creator.
-fn has_own_id(alloc: Global, tx: &Tx) -> Result<bool, AllocError>
-    requires { IsSpelled tx.now }
-    ensures { IfOk result (λ own. own ≡ bytes_eq tx.now.id (tx_id_of tx.now.nonce (identity_bytes tx.now.creator))) }
+fn has_own_id(tx: &SpelledTx<'_>) -> bool
+    ensures { result ≡ bytes_eq tx.now.id (tx_id_of tx.now.nonce (identity_bytes tx.now.creator)) }
 {
-    match encode_identity(alloc, &tx.creator) {
-        Ok(creator) => Ok(tx.id == tx_id(tx.nonce.as_slice(), creator.as_slice())),
-        Err(EncodeFault::Memory) => Err(AllocError),
-        Err(EncodeFault::TooLarge) => unreachable!(),
-    }
+    tx.tx().id == tx_id(tx.tx().nonce.as_slice(), tx.creator_bytes())
 }
 
-/// A fault in where the transaction of these bytes comes from.
-fn origin_fault<V: Verify>(
-    alloc: Global,
-    channel: &Channel,
-    verifier: &V,
-    tx: &Tx,
-    bytes: &[u8],
-) -> Result<Option<Flag>, AllocError>
-    requires { SpellsTx bytes.now tx.now }
-    ensures { IfOk result (λ fault. fault ≡ rules.origin_fault channel.now (V.accepts verifier.now) tx.now) }
+fn is_signed<V: Verify>(verifier: &V, tx: &SpelledTx<'_>) -> bool
+    ensures { result ≡ V.accepts verifier.now tx.now.creator (signed_bytes tx.now) tx.now.signature }
 {
-    if !tx.channel.is_same(channel.name()) {
-        return Ok(Some(Flag::TargetChainNotFound));
-    }
-    let message = creator_message(tx, bytes);
-    if !verifier.verify(&tx.creator, message, tx.signature.as_slice()) {
-        return Ok(Some(Flag::BadCreatorSignature));
-    }
-    if !has_own_id(alloc, tx)? {
-        return Ok(Some(Flag::BadProposalTxId));
-    }
-    Ok(None)
+    verifier.verify(
+        &tx.tx().creator,
+        tx.creator_message(),
+        tx.tx().signature.as_slice(),
+    )
 }
 
-fn is_defined(definitions: &Definitions, namespace: &Name) -> bool
+/// A fault in where the transaction comes from.
+fn origin_fault<V: Verify>(channel: &Channel, verifier: &V, tx: &SpelledTx<'_>) -> Option<Flag>
+    ensures { result ≡ rules.origin_fault channel.now (V.accepts verifier.now) tx.now }
+{
+    if !tx.tx().channel.is_same(&channel.name().lend()) {
+        return Some(Flag::TargetChainNotFound);
+    }
+    if !is_signed(verifier, tx) {
+        return Some(Flag::BadCreatorSignature);
+    }
+    if !has_own_id(tx) {
+        return Some(Flag::BadProposalTxId);
+    }
+    None
+}
+
+fn is_defined(definitions: &Definitions, namespace: &NameRef<'_>) -> bool
     ensures { result ≡ rules.is_defined definitions.now namespace.now }
 {
     definitions.of(namespace).is_some()
@@ -83,45 +80,53 @@ fn are_defined(definitions: &Definitions, keys: &[StateKey<'_>]) -> bool
     ensures { result ≡ list_all (λ k. rules.is_defined definitions.now k.0) (keys_of keys.now) }
 {
     for key in keys {
-        if !is_defined(definitions, key.namespace) {
+        if !is_defined(definitions, &key.namespace) {
             return false;
         }
     }
     true
 }
 
-fn is_all_defined(alloc: Global, definitions: &Definitions, tx: &Tx) -> Result<bool, AllocError>
-    ensures { IfOk result (λ defined. defined ≡ rules.is_all_defined definitions.now tx.now) }
+fn is_all_defined(
+    definitions: &Definitions,
+    chaincode: &NameRef<'_>,
+    written: &[StateKey<'_>],
+) -> bool
+    ensures { result ≡ (rules.is_defined definitions.now chaincode.now && list_all (λ k. rules.is_defined definitions.now k.0) (keys_of written.now)) }
 {
-    let keys = written_keys(alloc, tx)?;
-    Ok(is_defined(definitions, &tx.chaincode) && are_defined(definitions, keys.as_slice()))
+    is_defined(definitions, chaincode) && are_defined(definitions, written)
 }
 
 /// What the rules that ask for no row say of a transaction whose origin is good.
-fn checked<V: Verify>(
+fn checked<'a, V: Verify>(
     alloc: Global,
     channel: &Channel,
     verifier: &V,
     used: bool,
-    tx: Tx,
-) -> Result<Candidate, AllocError>
+    tx: Tx<'a>,
+) -> Result<Candidate<'a>, AllocError>
     requires { IsSpelled tx }
-    ensures { IfOk result (λ c. seen c ≡ rules.flagged_or (rules.content_fault channel.now used tx) (rules.opened tx (signers_of (V.accepts verifier.now) tx))) }
+    ensures { IfOk result (λ c. seen c ≡ rules.flagged_or (rules.content_fault channel.now used tx.entry) (rules.opened tx.entry (signers_of (V.accepts verifier.now) tx.entry))) }
 {
     if used {
         return Ok(Candidate::Flagged(Flag::DuplicateTxId));
     }
-    if !is_sound(alloc, &tx)? {
+    if !is_in_form(alloc, &tx)? {
         return Ok(Candidate::Flagged(Flag::BadRwset));
     }
-    if !is_all_defined(alloc, channel.definitions(), &tx)? {
+    let written = written_keys(alloc, &tx)?;
+    if !is_all_defined(channel.definitions(), &tx.chaincode, written.as_slice()) {
         return Ok(Candidate::Flagged(Flag::InvalidChaincode));
     }
     let signers = signers(alloc, &tx, verifier)?;
-    Ok(Candidate::Open(OpenTx { tx, signers }))
+    Ok(Candidate::Open(OpenTx {
+        tx,
+        signers,
+        written,
+    }))
 }
 
-fn contains(ids: &[[u8; ID_BYTES]], id: &[u8; ID_BYTES]) -> bool
+fn contains(ids: &[TxId], id: &TxId) -> bool
     ensures { result ≡ list_any (bytes_eq id.now) ids.now }
 {
     for other in ids {
@@ -132,7 +137,7 @@ fn contains(ids: &[[u8; ID_BYTES]], id: &[u8; ID_BYTES]) -> bool
     false
 }
 
-fn is_used(world: &World, earlier: &[[u8; ID_BYTES]], id: &[u8; ID_BYTES]) -> bool
+fn is_used(world: &World, earlier: &[TxId], id: &TxId) -> bool
     ensures { result ≡ rules.is_used world.now.first_uses earlier.now (Some id.now) }
 {
     world.first_use(id).is_some() || contains(earlier, id)
@@ -140,20 +145,20 @@ fn is_used(world: &World, earlier: &[[u8; ID_BYTES]], id: &[u8; ID_BYTES]) -> bo
 
 /// A candidate, with the id that its transaction uses.
 #[derive(Drop)]
-struct Place {
-    candidate: Candidate,
-    id: Option<[u8; ID_BYTES]>,
+struct Place<'a> {
+    candidate: Candidate<'a>,
+    id: Option<TxId>,
 }
 
 /// The candidate of one place, behind places that use the earlier ids.
-fn place_of<V: Verify>(
+fn place_of<'a, V: Verify>(
     alloc: Global,
     channel: &Channel,
     verifier: &V,
     world: &World,
-    earlier: &[[u8; ID_BYTES]],
-    bytes: &[u8],
-) -> Result<Place, AllocError>
+    earlier: &[TxId],
+    bytes: &'a [u8],
+) -> Result<Place<'a>, AllocError>
     ensures id { IfOk result (λ t. t.id ≡ rules.used_id channel.now (V.accepts verifier.now) (tx_of bytes.now)) }
     ensures candidate { IfOk result (λ t. seen t.candidate ≡ rules.candidate_of channel.now (V.accepts verifier.now) (rules.is_used world.now.first_uses earlier.now t.id) (tx_of bytes.now)) }
 {
@@ -163,35 +168,44 @@ fn place_of<V: Verify>(
             id: None,
         });
     };
-    if let Some(flag) = origin_fault(alloc, channel, verifier, &tx, bytes)? {
+    if let Some(flag) = origin_fault(channel, verifier, &tx) {
         return Ok(Place {
             candidate: Candidate::Flagged(flag),
             id: None,
         });
     }
-    let id = tx.id;
+    let id = tx.tx().id;
     let used = is_used(world, earlier, &id);
     Ok(Place {
-        candidate: checked(alloc, channel, verifier, used, tx)?,
+        candidate: checked(alloc, channel, verifier, used, tx.into_tx())?,
         id: Some(id),
     })
 }
 
+fn add_id(ids: &mut Vec<TxId>, id: Option<TxId>) -> Result<(), AllocError>
+    ensures { OnOk result (ids.new.items ≡ ids.old.items ++ option_to_list id) }
+{
+    if let Some(id) = id {
+        ids.push(id)?;
+    }
+    Ok(())
+}
+
 /// The candidates of a block, and the id that each place uses.
 #[derive(Drop)]
-pub(crate) struct Intake {
-    pub candidates: Vec<Candidate>,
-    pub ids: Vec<Option<[u8; ID_BYTES]>>,
+pub(crate) struct Intake<'a> {
+    pub candidates: Vec<Candidate<'a>>,
+    pub ids: Vec<Option<TxId>>,
 }
 
 /// Takes the transactions of a block in order.
-pub(crate) fn take_in<V: Verify>(
+pub(crate) fn take_in<'a, V: Verify>(
     alloc: Global,
     channel: &Channel,
     verifier: &V,
     world: &World,
-    txs: &[Bytes],
-) -> Result<Intake, AllocError>
+    txs: &[Slice<'a>],
+) -> Result<Intake<'a>, AllocError>
     ensures candidates { IfOk result (λ r. map seen r.candidates.items ≡ rules.candidates_from channel.now (V.accepts verifier.now) world.now.first_uses [] (map tx_of txs.now)) }
     ensures ids { IfOk result (λ r. r.ids.items ≡ map (rules.used_id channel.now (V.accepts verifier.now)) (map tx_of txs.now)) }
 {
@@ -209,9 +223,7 @@ pub(crate) fn take_in<V: Verify>(
         )?;
         candidates.push(taken.candidate)?;
         ids.push(taken.id)?;
-        if let Some(id) = taken.id {
-            earlier.push(id)?;
-        }
+        add_id(&mut earlier, taken.id)?;
     }
     Ok(Intake { candidates, ids })
 }

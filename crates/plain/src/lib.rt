@@ -18,6 +18,3 @@ mod world;
 
 pub use step::submit;
 pub use world::World;
-
-#[cfg(test)]
-mod tests;

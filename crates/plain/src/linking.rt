@@ -10,10 +10,10 @@ use block::{Block, BlockFault, Previous, decode_block};
 use header_hash::DataHasher;
 use rules::Refused;
 use std::alloc::Global;
-use values::Bytes;
+use values::{Hash, Slice};
 
 /// The block that the bytes spell, or why they spell none.
-pub(crate) fn decoded(alloc: Global, bytes: &[u8]) -> Result<Block, Refused>
+pub(crate) fn decoded(alloc: Global, bytes: &[u8]) -> Result<Block<'_>, Refused>
     ensures { MatchResult result (λ b. Spells bytes.now b) (λ r. (w : rules.World) → IsRefused w bytes.now r) }
 {
     match decode_block(alloc, bytes) {
@@ -33,7 +33,7 @@ fn previous_hash(world: &World) -> Previous
     }
 }
 
-fn data_hash(txs: &[Bytes]) -> [u8; 32]
+fn data_hash(txs: &[Slice<'_>]) -> Hash
     ensures { result ≡ data_hash_of txs.now }
 {
     let mut hasher = DataHasher::new();
@@ -44,7 +44,7 @@ fn data_hash(txs: &[Bytes]) -> [u8; 32]
 }
 
 /// Whether the block is the next one of the world; else the first reason why it isn't.
-pub(crate) fn check_linked(world: &World, block: &Block) -> Result<(), Refused>
+pub(crate) fn check_linked(world: &World, block: &Block<'_>) -> Result<(), Refused>
     ensures { MatchResult result (λ _. IsLinked world.now block.now) (IsUnlinked world.now block.now) }
 {
     let want = world.height();

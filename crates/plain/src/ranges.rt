@@ -3,18 +3,18 @@ ghost use Rattle.std.specs.Prelude.{◌≡◌, None, IsTrue};
 ghost use Rattle.std.specs.List.{last_or, list_all, list_any};
 ghost use Rattle.std.specs.Str.{bytes_eq};
 ghost use Rattle.rules.specs.Ranges.{is_up_to, is_compared, range_holds};
-ghost use Rattle.rules.specs.ReadWriteSets.{has_sound_results};
+ghost use Rattle.rules.specs.ReadWriteSets.{has_results_in_form};
 ghost use Rattle.plain.specs.RangeChecks.{is_found, is_listed};
 ghost use Rattle.plain.specs.StateNow.{state_now};
 
 use crate::sets::{is_at_most, is_within};
 use crate::state::StateNow;
 use crate::state_key::StateKey;
-use block::{KeyVersion, Range};
 use rules::{Change, Delta};
-use values::{Key, Name};
+use transaction::{KeyVersion, Range};
+use values::{KeyRef, NameRef};
 
-fn is_up_to_last(range: &Range, key: &Key) -> bool
+fn is_up_to_last(range: &Range<'_>, key: &KeyRef<'_>) -> bool
     ensures { result ≡ is_up_to key.now (last_or None range.now.results) }
 {
     match range.results.last() {
@@ -24,13 +24,13 @@ fn is_up_to_last(range: &Range, key: &Key) -> bool
 }
 
 /// Whether the key lies in the part that is compared.
-fn is_compared(range: &Range, key: &Key) -> bool
+fn is_compared(range: &Range<'_>, key: &KeyRef<'_>) -> bool
     ensures { result ≡ is_compared range.now key.now }
 {
     is_within(&range.start, &range.end, key) && (range.exhausted || is_up_to_last(range, key))
 }
 
-fn is_result(range: &Range, key: &Key) -> bool
+fn is_result(range: &Range<'_>, key: &KeyRef<'_>) -> bool
     ensures { result ≡ list_any (λ x. bytes_eq key.now x.key) range.now.results }
 {
     range
@@ -41,31 +41,41 @@ fn is_result(range: &Range, key: &Key) -> bool
 }
 
 /// Whether a result is a row of the compared part, with its version.
-fn is_found(state: StateNow<'_>, namespace: &Name, range: &Range, found: &KeyVersion) -> bool
+fn is_found(
+    state: StateNow<'_>,
+    namespace: &NameRef<'_>,
+    range: &Range<'_>,
+    found: &KeyVersion<'_>,
+) -> bool
     ensures { result ≡ is_found (state_now state.entry) namespace.now range.now found.now }
 {
-    let key = StateKey {
-        namespace,
-        key: &found.key,
-    };
-    is_compared(range, &found.key) && state.version(key) == Some(found.version)
+    let key = StateKey::new(namespace, &found.key);
+    is_compared(range, &found.key) && state.version(&key) == Some(found.version)
 }
 
 /// Whether the row of a changed key is a result, where the key has one in the compared part.
-fn is_listed(state: StateNow<'_>, namespace: &Name, range: &Range, change: &Change) -> bool
+fn is_listed(
+    state: StateNow<'_>,
+    namespace: &NameRef<'_>,
+    range: &Range<'_>,
+    change: &Change,
+) -> bool
     ensures { result ≡ is_listed (state_now state.entry) namespace.now range.now change.now }
 {
-    let key = StateKey {
-        namespace,
-        key: &change.key,
-    };
-    !change.namespace.is_same(namespace)
-        || !is_compared(range, &change.key)
-        || state.row(key).is_none()
-        || is_result(range, &change.key)
+    let changed = change.key.lend();
+    let key = StateKey::new(namespace, &changed);
+    !change.namespace.lend().is_same(namespace)
+        || !is_compared(range, &changed)
+        || state.row(&key).is_none()
+        || is_result(range, &changed)
 }
 
-fn are_listed(state: StateNow<'_>, namespace: &Name, range: &Range, changes: &[Change]) -> bool
+fn are_listed(
+    state: StateNow<'_>,
+    namespace: &NameRef<'_>,
+    range: &Range<'_>,
+    changes: &[Change],
+) -> bool
     ensures { result ≡ list_all (is_listed (state_now state.entry) namespace.now range.now) changes.now }
 {
     for change in changes {
@@ -76,7 +86,7 @@ fn are_listed(state: StateNow<'_>, namespace: &Name, range: &Range, changes: &[C
     true
 }
 
-fn are_found(state: StateNow<'_>, namespace: &Name, range: &Range) -> bool
+fn are_found(state: StateNow<'_>, namespace: &NameRef<'_>, range: &Range<'_>) -> bool
     ensures { result ≡ list_all (is_found (state_now state.entry) namespace.now range.now) range.now.results }
 {
     for found in range.results.as_slice() {
@@ -88,7 +98,12 @@ fn are_found(state: StateNow<'_>, namespace: &Name, range: &Range) -> bool
 }
 
 /// Whether `are_listed` holds for the changes of every block before this one.
-fn are_all_listed(state: StateNow<'_>, namespace: &Name, range: &Range, deltas: &[Delta]) -> bool
+fn are_all_listed(
+    state: StateNow<'_>,
+    namespace: &NameRef<'_>,
+    range: &Range<'_>,
+    deltas: &[Delta],
+) -> bool
     ensures { result ≡ list_all (λ d. list_all (is_listed (state_now state.entry) namespace.now range.now) d.changes) deltas.now }
 {
     for delta in deltas {
@@ -101,8 +116,8 @@ fn are_all_listed(state: StateNow<'_>, namespace: &Name, range: &Range, deltas: 
 
 /// Whether the range query, executed again over the state, gives the same keys and versions: each result is a
 /// row of the compared part, and each such row is a result.
-pub(crate) fn range_holds(state: StateNow<'_>, namespace: &Name, range: &Range) -> bool
-    requires { IsTrue (has_sound_results range.now) }
+pub(crate) fn range_holds(state: StateNow<'_>, namespace: &NameRef<'_>, range: &Range<'_>) -> bool
+    requires { IsTrue (has_results_in_form range.now) }
     ensures { result ≡ range_holds (state_now state.entry) namespace.now range.now }
 {
     let deltas = state.world.deltas();

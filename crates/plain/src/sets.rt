@@ -3,15 +3,15 @@ ghost use Rattle.std.specs.Prelude.{◌≡◌, map, List, ℕ, IfOk};
 ghost use Rattle.std.specs.List.{list_all, list_any};
 ghost use Rattle.std.specs.Ordering.{is_lt, is_le};
 ghost use Rattle.std.specs.Str.{bytes_eq};
-ghost use Rattle.policy.specs.Policies.{bytes_cmp};
+ghost use Rattle.values.specs.Order.{bytes_cmp};
 ghost use Rattle.rules.specs.Ranges.{is_within};
-ghost use Rattle.rules.specs.ReadWriteSets.{are_distinct, has_sound_results, has_sound_policy, is_sound_set, is_sound};
+ghost use Rattle.rules.specs.ReadWriteSets.{are_distinct, has_results_in_form, has_policy_in_form, is_set_in_form, is_in_form};
 ghost use Rattle.plain.specs.Rising.{are_rising};
 
-use block::{KeyVersion, NsSet, PolicyWrite, Range, Read, Tx, Write};
 use policy::{Policy, PolicyFault};
 use std::alloc::{AllocError, Global};
-use values::{Bound, Key};
+use transaction::{KeyVersion, NsSet, PolicyWrite, Range, Read, Tx, Write};
+use values::{BoundRef, KeyRef};
 
 fn is_before(bytes: &[u8], others: &[u8]) -> bool
     ensures { result ≡ is_lt (bytes_cmp bytes.now others.now) }
@@ -48,48 +48,58 @@ fn are_distinct(texts: &[&[u8]]) -> bool
     true
 }
 
-fn have_distinct_names(alloc: Global, sets: &[NsSet]) -> Result<bool, AllocError>
-    ensures { IfOk result (λ distinct. distinct ≡ are_distinct (map (λ n. n.name) sets.now)) }
-{
-    let mut names = Vec::new(alloc);
-    for set in sets {
-        names.push(set.name.as_slice())?;
-    }
-    Ok(are_distinct(names.as_slice()))
+/// What has a name or a key, by which a list tells its items apart.
+trait Labelled {
+    ghost label: { Self → List ℕ };
+
+    fn label(&self) -> &[u8]
+        ensures { result.now ≡ label self.now };
 }
 
-fn have_distinct_reads(alloc: Global, reads: &[Read]) -> Result<bool, AllocError>
-    ensures { IfOk result (λ distinct. distinct ≡ are_distinct (map (λ r. r.key) reads.now)) }
-{
-    let mut keys = Vec::new(alloc);
-    for read in reads {
-        keys.push(read.key.as_slice())?;
+impl Labelled for NsSet<'_> {
+    ghost label = { λ set. set.name };
+
+    fn label(&self) -> &[u8] {
+        self.name.as_slice()
     }
-    Ok(are_distinct(keys.as_slice()))
 }
 
-fn have_distinct_writes(alloc: Global, writes: &[Write]) -> Result<bool, AllocError>
-    ensures { IfOk result (λ distinct. distinct ≡ are_distinct (map (λ w. w.key) writes.now)) }
-{
-    let mut keys = Vec::new(alloc);
-    for write in writes {
-        keys.push(write.key.as_slice())?;
+impl Labelled for Read<'_> {
+    ghost label = { λ read. read.key };
+
+    fn label(&self) -> &[u8] {
+        self.key.as_slice()
     }
-    Ok(are_distinct(keys.as_slice()))
 }
 
-fn have_distinct_policy_writes(alloc: Global, writes: &[PolicyWrite]) -> Result<bool, AllocError>
-    ensures { IfOk result (λ distinct. distinct ≡ are_distinct (map (λ w. w.key) writes.now)) }
-{
-    let mut keys = Vec::new(alloc);
-    for write in writes {
-        keys.push(write.key.as_slice())?;
+impl Labelled for Write<'_> {
+    ghost label = { λ write. write.key };
+
+    fn label(&self) -> &[u8] {
+        self.key.as_slice()
     }
-    Ok(are_distinct(keys.as_slice()))
+}
+
+impl Labelled for PolicyWrite<'_> {
+    ghost label = { λ write. write.key };
+
+    fn label(&self) -> &[u8] {
+        self.key.as_slice()
+    }
+}
+
+fn have_distinct_labels<T: Labelled>(alloc: Global, items: &[T]) -> Result<bool, AllocError>
+    ensures { IfOk result (λ distinct. distinct ≡ are_distinct (map T.label items.now)) }
+{
+    let mut labels = Vec::new(alloc);
+    for item in items {
+        labels.push(item.label())?;
+    }
+    Ok(are_distinct(labels.as_slice()))
 }
 
 /// From the start to before the end, which is no bound where it is empty.
-pub(crate) fn is_within(start: &Bound, end: &Bound, key: &Key) -> bool
+pub(crate) fn is_within(start: &BoundRef<'_>, end: &BoundRef<'_>, key: &KeyRef<'_>) -> bool
     ensures { result ≡ is_within start.now end.now key.now }
 {
     let end = end.as_slice();
@@ -97,10 +107,10 @@ pub(crate) fn is_within(start: &Bound, end: &Bound, key: &Key) -> bool
         && (end.is_empty() || is_before(key.as_slice(), end))
 }
 
-fn are_rising(results: &[KeyVersion]) -> bool
+fn are_rising(results: &[KeyVersion<'_>]) -> bool
     ensures { result ≡ are_rising results.now }
 {
-    let mut last: Option<&Key> = None;
+    let mut last: Option<&KeyRef<'_>> = None;
     for found in results {
         if let Some(last) = last {
             if !is_before(last.as_slice(), found.key.as_slice()) {
@@ -113,8 +123,8 @@ fn are_rising(results: &[KeyVersion]) -> bool
 }
 
 /// Whether the keys strictly rise, and none leaves the range.
-fn has_sound_results(range: &Range) -> bool
-    ensures { result ≡ has_sound_results range.now }
+fn has_results_in_form(range: &Range<'_>) -> bool
+    ensures { result ≡ has_results_in_form range.now }
 {
     let results = range.results.as_slice();
     if !are_rising(results) {
@@ -129,8 +139,8 @@ fn has_sound_results(range: &Range) -> bool
 }
 
 /// Whether a policy that is written can be read.
-fn has_sound_policy(alloc: Global, write: &PolicyWrite) -> Result<bool, AllocError>
-    ensures { IfOk result (λ sound. sound ≡ has_sound_policy write.now) }
+fn has_policy_in_form(alloc: Global, write: &PolicyWrite<'_>) -> Result<bool, AllocError>
+    ensures { IfOk result (λ fine. fine ≡ has_policy_in_form write.now) }
 {
     match &write.policy {
         None => Ok(true),
@@ -142,45 +152,45 @@ fn has_sound_policy(alloc: Global, write: &PolicyWrite) -> Result<bool, AllocErr
     }
 }
 
-fn have_sound_policies(alloc: Global, writes: &[PolicyWrite]) -> Result<bool, AllocError>
-    ensures { IfOk result (λ sound. sound ≡ list_all has_sound_policy writes.now) }
+fn have_policies_in_form(alloc: Global, writes: &[PolicyWrite<'_>]) -> Result<bool, AllocError>
+    ensures { IfOk result (λ fine. fine ≡ list_all has_policy_in_form writes.now) }
 {
     for write in writes {
-        if !has_sound_policy(alloc, write)? {
+        if !has_policy_in_form(alloc, write)? {
             return Ok(false);
         }
     }
     Ok(true)
 }
 
-fn have_sound_results(ranges: &[Range]) -> bool
-    ensures { result ≡ list_all has_sound_results ranges.now }
+fn have_results_in_form(ranges: &[Range<'_>]) -> bool
+    ensures { result ≡ list_all has_results_in_form ranges.now }
 {
-    ranges.iter().all(has_sound_results)
+    ranges.iter().all(has_results_in_form)
 }
 
-fn is_sound_set(alloc: Global, set: &NsSet) -> Result<bool, AllocError>
-    ensures { IfOk result (λ sound. sound ≡ is_sound_set set.now) }
+fn is_set_in_form(alloc: Global, set: &NsSet<'_>) -> Result<bool, AllocError>
+    ensures { IfOk result (λ fine. fine ≡ is_set_in_form set.now) }
 {
     Ok(
-        have_distinct_reads(alloc, set.reads.as_slice())?
-            && have_distinct_writes(alloc, set.writes.as_slice())?
-            && have_distinct_policy_writes(alloc, set.policy_writes.as_slice())?
-            && have_sound_results(set.ranges.as_slice())
-            && have_sound_policies(alloc, set.policy_writes.as_slice())?,
+        have_distinct_labels(alloc, set.reads.as_slice())?
+            && have_distinct_labels(alloc, set.writes.as_slice())?
+            && have_distinct_labels(alloc, set.policy_writes.as_slice())?
+            && have_results_in_form(set.ranges.as_slice())
+            && have_policies_in_form(alloc, set.policy_writes.as_slice())?,
     )
 }
 
 /// Whether the read and write sets are in form.
-pub(crate) fn is_sound(alloc: Global, tx: &Tx) -> Result<bool, AllocError>
-    ensures { IfOk result (λ sound. sound ≡ is_sound tx.now) }
+pub(crate) fn is_in_form(alloc: Global, tx: &Tx<'_>) -> Result<bool, AllocError>
+    ensures { IfOk result (λ fine. fine ≡ is_in_form tx.now) }
 {
     let sets = tx.namespaces.as_slice();
-    if !have_distinct_names(alloc, sets)? {
+    if !have_distinct_labels(alloc, sets)? {
         return Ok(false);
     }
     for set in sets {
-        if !is_sound_set(alloc, set)? {
+        if !is_set_in_form(alloc, set)? {
             return Ok(false);
         }
     }

@@ -7,8 +7,8 @@ ghost use Rattle.plain.specs.StateNow.{state_now};
 
 use crate::state_key::StateKey;
 use crate::world::{World, row_after};
-use block::Version;
 use rules::{Change, Row};
+use transaction::Version;
 
 /// The state within a block: that of the world before it, and the changes since.
 #[derive(Clone, Copy)]
@@ -18,14 +18,14 @@ pub(crate) struct StateNow<'a> {
 }
 
 impl<'a> StateNow<'a> {
-    pub fn row(self, key: StateKey<'_>) -> Option<&'a Row>
-        ensures { option_copied result ≡ get (state_now self.entry) (key_of key.entry) }
+    pub fn row(self, key: &StateKey<'_>) -> Option<&'a Row>
+        ensures { option_copied result ≡ get (state_now self.entry) (key_of key.now) }
     {
         row_after(self.world.row_at(key), self.changes, key)
     }
 
-    pub fn version(self, key: StateKey<'_>) -> Option<Version>
-        ensures { result ≡ version_in (state_now self.entry) (key_of key.entry) }
+    pub fn version(self, key: &StateKey<'_>) -> Option<Version>
+        ensures { result ≡ version_in (state_now self.entry) (key_of key.now) }
     {
         match self.row(key) {
             None => None,

@@ -3,68 +3,88 @@ ghost use Rattle.rules.specs.State.{is_same_key};
 ghost use Rattle.rules.specs.Effect as effect;
 ghost use Rattle.plain.specs.Keys.{key_of, keys_of};
 
-use block::{NsSet, Tx};
 use std::alloc::{AllocError, Global};
-use values::{Key, Name};
+use transaction::{NsSet, Tx};
+use values::{Key, KeyRef, Name, NameRef};
 
 /// A namespace, and a key in it, lent.
-#[derive(Clone, Copy)]
+#[derive(Drop)]
 pub(crate) struct StateKey<'a> {
-    pub namespace: &'a Name,
-    pub key: &'a Key,
+    pub namespace: NameRef<'a>,
+    pub key: KeyRef<'a>,
 }
 
-impl StateKey<'_> {
-    pub fn is_same(self, namespace: &Name, key: &Key) -> bool
-        ensures { result ≡ is_same_key (key_of self.entry) (namespace.now, key.now) }
+impl<'a> StateKey<'a> {
+    pub fn new(namespace: &NameRef<'a>, key: &KeyRef<'a>) -> StateKey<'a>
+        ensures { key_of result ≡ (namespace.now, key.now) }
     {
-        self.namespace.is_same(namespace) && self.key.is_same(key)
+        StateKey {
+            namespace: namespace.again(),
+            key: key.again(),
+        }
+    }
+
+    pub fn lent(namespace: &'a Name, key: &'a Key) -> StateKey<'a>
+        ensures { key_of result ≡ (namespace.now, key.now) }
+    {
+        StateKey {
+            namespace: namespace.lend(),
+            key: key.lend(),
+        }
+    }
+
+    pub fn is_same(&self, other: &StateKey<'_>) -> bool
+        ensures { result ≡ is_same_key (key_of self.now) (key_of other.now) }
+    {
+        self.namespace.is_same(&other.namespace) && self.key.is_same(&other.key)
+    }
+
+    pub fn is_owned(&self, namespace: &Name, key: &Key) -> bool
+        ensures { result ≡ is_same_key (key_of self.now) (namespace.now, key.now) }
+    {
+        self.namespace.is_same(&namespace.lend()) && self.key.is_same(&key.lend())
     }
 }
 
-fn add_value_keys<'a>(keys: &mut Vec<StateKey<'a>>, set: &'a NsSet) -> Result<(), AllocError>
+fn add_value_keys<'a>(keys: &mut Vec<StateKey<'a>>, set: &NsSet<'a>) -> Result<(), AllocError>
     ensures { OnOk result (keys_of keys.new.items ≡ keys_of keys.old.items ++ effect.value_keys_in set.now) }
 {
     for write in set.writes.as_slice() {
-        keys.push(StateKey {
-            namespace: &set.name,
-            key: &write.key,
-        })?;
+        keys.push(StateKey::new(&set.name, &write.key))?;
     }
     Ok(())
 }
 
-fn add_policy_keys<'a>(keys: &mut Vec<StateKey<'a>>, set: &'a NsSet) -> Result<(), AllocError>
+fn add_policy_keys_in<'a>(keys: &mut Vec<StateKey<'a>>, set: &NsSet<'a>) -> Result<(), AllocError>
     ensures { OnOk result (keys_of keys.new.items ≡ keys_of keys.old.items ++ effect.policy_keys_in set.now) }
 {
     for write in set.policy_writes.as_slice() {
-        keys.push(StateKey {
-            namespace: &set.name,
-            key: &write.key,
-        })?;
+        keys.push(StateKey::new(&set.name, &write.key))?;
     }
     Ok(())
 }
 
-/// The keys whose policy the transaction writes.
-pub(crate) fn policy_keys(alloc: Global, tx: &Tx) -> Result<Vec<StateKey<'_>>, AllocError>
-    ensures { IfOk result (λ keys. keys_of keys.items ≡ effect.policy_keys tx.now) }
+/// Adds the keys whose policy the transaction writes.
+pub(crate) fn add_policy_keys<'a>(
+    keys: &mut Vec<StateKey<'a>>,
+    tx: &Tx<'a>,
+) -> Result<(), AllocError>
+    ensures { OnOk result (keys_of keys.new.items ≡ keys_of keys.old.items ++ effect.policy_keys tx.now) }
 {
-    let mut keys = Vec::new(alloc);
     for set in tx.namespaces.as_slice() {
-        add_policy_keys(&mut keys, set)?;
+        add_policy_keys_in(keys, set)?;
     }
-    Ok(keys)
+    Ok(())
 }
 
 /// The keys that it writes, by value, delete or policy.
-pub(crate) fn written_keys(alloc: Global, tx: &Tx) -> Result<Vec<StateKey<'_>>, AllocError>
+pub(crate) fn written_keys<'a>(alloc: Global, tx: &Tx<'a>) -> Result<Vec<StateKey<'a>>, AllocError>
     ensures { IfOk result (λ keys. keys_of keys.items ≡ effect.written_keys tx.now) }
 {
     let mut keys = Vec::new(alloc);
     for set in tx.namespaces.as_slice() {
         add_value_keys(&mut keys, set)?;
-        add_policy_keys(&mut keys, set)?;
+        add_policy_keys_in(&mut keys, set)?;
     }
     Ok(keys)
 }

@@ -1,27 +1,32 @@
-ghost use Rattle.std.specs.Prelude.{◌≡◌, ◌<◌, ◌^◌, length, IfOk};
-ghost use Rattle.rules.specs.Commit.{uses_from};
+ghost use Rattle.std.specs.Prelude.{◌≡◌, ◌<◌, ◌≤◌, ◌^◌, length, map, IfOk};
+ghost use Rattle.block.specs.Limits.{max_txs};
+ghost use Rattle.rules.specs.Candidate.{used_id};
+ghost use Rattle.rules.specs.Commit.{txs_of, job_of, uses_from};
 ghost use Rattle.rules.specs.Delta.{uses_in};
 ghost use Rattle.rules.specs.Fold as fold;
 ghost use Rattle.rules.specs.Job.{Job};
 ghost use Rattle.rules.specs.Step.{Step};
+ghost use Rattle.rules.specs.World.{height_of};
+ghost use Rattle.plain.specs.Taking.{IsFolded};
 
-use crate::fold::fold;
+use crate::fold::{Folded, fold};
 use crate::intake::take_in;
 use crate::linking::{check_linked, decoded};
 use crate::world::World;
-use block::ID_BYTES;
+use block::Block;
 use channel::Channel;
 use header_hash::header_hash;
 use policy_eval::Verify;
 use rules::{Accepted, CommittedBlock, Delta, FirstUse, Flag, NewUse, Refused};
 use std::alloc::{AllocError, Global};
+use transaction::TxId;
 use values::{Bytes, Items};
 
 /// Where the ids of a block's places are used, each with the place's flag.
 fn uses_of(
     alloc: Global,
     block: u64,
-    ids: &[Option<[u8; ID_BYTES]>],
+    ids: &[Option<TxId>],
     flags: &[Flag],
 ) -> Result<Vec<NewUse>, AllocError>
     requires same { length ids.now ≡ length flags.now }
@@ -40,6 +45,35 @@ fn uses_of(
         }
     }
     Ok(uses)
+}
+
+/// What the transactions of the next block give, and where their ids are used.
+fn taken<V: Verify>(
+    alloc: Global,
+    channel: &Channel,
+    verifier: &V,
+    world: &World,
+    block: &Block<'_>,
+) -> Result<(Folded, Vec<NewUse>), AllocError>
+    requires number { block.now.header.number ≡ height_of world.now }
+    requires few { length block.now.txs ≤ max_txs }
+    ensures folded { IfOk result (λ r. IsFolded (job_of channel.now (V.accepts verifier.now) world.now (txs_of block.now)) r.0) }
+    ensures uses { IfOk result (λ r. uses_in r.1.items ≡ uses_from (job_of channel.now (V.accepts verifier.now) world.now (txs_of block.now)) 0 (map (used_id channel.now (V.accepts verifier.now)) (txs_of block.now))) }
+{
+    let intake = take_in(alloc, channel, verifier, world, block.txs.as_slice())?;
+    let folded = fold(
+        alloc,
+        channel.definitions(),
+        world,
+        intake.candidates.as_slice(),
+    )?;
+    let uses = uses_of(
+        alloc,
+        block.header.number,
+        intake.ids.as_slice(),
+        folded.flags.as_slice(),
+    )?;
+    Ok((folded, uses))
 }
 
 /// Takes the bytes of the next block of a channel: accepts them, or refuses them and changes nothing.
@@ -61,19 +95,7 @@ pub fn submit<V: Verify>(
     check_linked(world, &block)?;
     let number = block.header.number;
     let header_hash = header_hash(&block.header);
-    let intake = take_in(alloc, channel, verifier, world, block.txs.as_slice())?;
-    let folded = fold(
-        alloc,
-        channel.definitions(),
-        world,
-        intake.candidates.as_slice(),
-    )?;
-    let uses = uses_of(
-        alloc,
-        number,
-        intake.ids.as_slice(),
-        folded.flags.as_slice(),
-    )?;
+    let (folded, uses) = taken(alloc, channel, verifier, world, &block)?;
     let flags = Items::from_vec(folded.flags);
     let accepted = Accepted {
         number,

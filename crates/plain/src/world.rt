@@ -1,7 +1,7 @@
 ghost use Rattle.std.specs.Prelude.{◌≡◌, ◌++◌, map, List, IfOk, OnOk, OnErr};
 ghost use Rattle.std.specs.Option.{option_copied};
 ghost use Rattle.std.specs.FinMap.{get, find};
-ghost use Rattle.policy.specs.Policies.{bytes_cmp};
+ghost use Rattle.values.specs.Order.{bytes_cmp};
 ghost use Rattle.rules.specs.State.{State, with_changes};
 ghost use Rattle.rules.specs.Delta.{changes_in, uses_in, applied};
 ghost use Rattle.rules.specs.World.{empty_world, height_of, last_header_hash};
@@ -10,11 +10,11 @@ ghost use Rattle.plain.specs.Keys.{key_of};
 ghost use Rattle.plain.specs.Deltas.{world_of, entries_for};
 
 use crate::state_key::StateKey;
-use block::ID_BYTES;
 use rules::{Change, CommittedBlock, Delta, FirstUse, HistoryEntry, NewEntry, NewUse, Row};
 use std::alloc::{AllocError, Global};
 use std::marker::Model;
-use values::{Items, Key, Name};
+use transaction::TxId;
+use values::{Hash, Items, Key, Name};
 
 /// What a ledger holds, as the list of its blocks' deltas. A contract sees the world that they make.
 #[derive(Drop)]
@@ -39,13 +39,13 @@ impl Model for World {
 pub(crate) fn row_after<'a>(
     before: Option<&'a Row>,
     changes: &'a [Change],
-    wanted: StateKey<'_>,
+    wanted: &StateKey<'_>,
 ) -> Option<&'a Row>
-    ensures { (s : State) → option_copied before.entry ≡ get s (key_of wanted.entry) → option_copied result ≡ get (with_changes s (changes_in changes.now)) (key_of wanted.entry) }
+    ensures { (s : State) → option_copied before.entry ≡ get s (key_of wanted.now) → option_copied result ≡ get (with_changes s (changes_in changes.now)) (key_of wanted.now) }
 {
     let mut row = before;
     for change in changes {
-        if wanted.is_same(&change.namespace, &change.key) {
+        if wanted.is_owned(&change.namespace, &change.key) {
             row = change.row.as_ref();
         }
     }
@@ -53,7 +53,7 @@ pub(crate) fn row_after<'a>(
 }
 
 /// The first of the uses of an id.
-fn use_in(uses: &[NewUse], id: &[u8; ID_BYTES]) -> Option<FirstUse>
+fn use_in(uses: &[NewUse], id: &TxId) -> Option<FirstUse>
     ensures { result ≡ find bytes_cmp id.now (uses_in uses.now) }
 {
     for used in uses {
@@ -68,12 +68,12 @@ fn use_in(uses: &[NewUse], id: &[u8; ID_BYTES]) -> Option<FirstUse>
 fn add_entries<'a>(
     found: &mut Vec<&'a HistoryEntry>,
     entries: &'a [NewEntry],
-    wanted: StateKey<'_>,
+    wanted: &StateKey<'_>,
 ) -> Result<(), AllocError>
-    ensures { OnOk result (map (λ e. e.now) found.new.items ≡ map (λ e. e.now) found.old.items ++ entries_for (key_of wanted.entry) entries.now) }
+    ensures { OnOk result (map (λ e. e.now) found.new.items ≡ map (λ e. e.now) found.old.items ++ entries_for (key_of wanted.now) entries.now) }
 {
     for entry in entries {
-        if wanted.is_same(&entry.namespace, &entry.key) {
+        if wanted.is_owned(&entry.namespace, &entry.key) {
             found.push(&entry.entry)?;
         }
     }
@@ -98,7 +98,7 @@ impl World {
     }
 
     /// The header hash of the last block, or none at height 0. Constant time.
-    pub fn header_hash(&self) -> Option<[u8; 32]>
+    pub fn header_hash(&self) -> Option<Hash>
         ensures { result ≡ last_header_hash self.now }
     {
         match self.deltas.last() {
@@ -121,11 +121,11 @@ impl World {
     pub fn row(&self, namespace: &Name, key: &Key) -> Option<&Row>
         ensures { option_copied result ≡ row_answer self.now (namespace.now, key.now) }
     {
-        self.row_at(StateKey { namespace, key })
+        self.row_at(&StateKey::lent(namespace, key))
     }
 
-    pub(crate) fn row_at(&self, wanted: StateKey<'_>) -> Option<&Row>
-        ensures { option_copied result ≡ get self.now.state (key_of wanted.entry) }
+    pub(crate) fn row_at(&self, wanted: &StateKey<'_>) -> Option<&Row>
+        ensures { option_copied result ≡ get self.now.state (key_of wanted.now) }
     {
         let mut row = None;
         for delta in self.deltas.as_slice() {
@@ -135,7 +135,7 @@ impl World {
     }
 
     /// Where an id was used first. Linear in all ids.
-    pub fn first_use(&self, id: &[u8; ID_BYTES]) -> Option<FirstUse>
+    pub fn first_use(&self, id: &TxId) -> Option<FirstUse>
         ensures { result ≡ first_use_answer self.now id.now }
     {
         let mut first = None;
@@ -155,7 +155,16 @@ impl World {
     ) -> Result<Vec<&HistoryEntry>, AllocError>
         ensures { IfOk result (λ entries. map (λ e. e.now) entries.items ≡ history_answer self.now (namespace.now, key.now)) }
     {
-        let wanted = StateKey { namespace, key };
+        self.history_at(alloc, &StateKey::lent(namespace, key))
+    }
+
+    fn history_at(
+        &self,
+        alloc: Global,
+        wanted: &StateKey<'_>,
+    ) -> Result<Vec<&HistoryEntry>, AllocError>
+        ensures { IfOk result (λ entries. map (λ e. e.now) entries.items ≡ history_answer self.now (key_of wanted.now)) }
+    {
         let mut entries = Vec::new(alloc);
         for delta in self.deltas.as_slice() {
             add_entries(&mut entries, delta.entries.as_slice(), wanted)?;

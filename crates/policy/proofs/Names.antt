@@ -15,7 +15,8 @@ use Rattle.std.proofs.lemmas.Cmp.{nat_list_cmp_total}
 use Rattle.std.proofs.lemmas.Map.Text.{is_eq-slice_cmp}
 use Rattle.std.proofs.lemmas.Slice.Eq.{bytes_eq-Decides}
 use Rattle.policy.specs.Tree.{Tree}
-use Rattle.policy.specs.Policies.{Policies, bytes_cmp, by_name}
+use Rattle.values.specs.Order.{bytes_cmp}
+use Rattle.policy.specs.Policies.{Policies, by_name}
 
 -- the map of the code
 abbrev pub Names : Type 0

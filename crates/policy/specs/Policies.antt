@@ -1,15 +1,10 @@
 -- The policies of chaincodes.
 use Rattle.std.specs.Prelude.{ℕ, List, map, Vec}
 use Rattle.std.specs.declared.alloc.Global.{Global}
-use Rattle.std.specs.declared.cmp.Ordering.{Ordering}
-use Rattle.std.specs.Ordering.{nat_cmp}
 use Rattle.std.specs.Coded.{Coded, coded_list, coded_ℕ}
-use Rattle.std.specs.Cmp.Lexicographic.{slice_cmp}
 use Rattle.std.specs.FinMap.{FinMap, code}
+use Rattle.values.specs.Order.{bytes_cmp}
 use Rattle.policy.specs.Tree.{Tree, tree_code}
-
-abbrev pub bytes_cmp : List ℕ → List ℕ → Ordering
-bytes_cmp = slice_cmp nat_cmp
 
 -- a map from the bytes of a chaincode's name to the tree of its policy
 abbrev pub Policies : Type 0

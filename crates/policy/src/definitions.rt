@@ -6,7 +6,7 @@ use crate::policy::Policy;
 use std::alloc::{AllocError, Global};
 use std::collections::BTreeMap;
 use std::marker::Model;
-use values::Name;
+use values::{Name, NameRef};
 
 /// The policies of chaincodes. A contract sees a map from the bytes of a name to a tree.
 #[derive(Drop)]
@@ -39,7 +39,7 @@ impl Definitions {
     }
 
     /// The policy of a chaincode. Logarithmic in the number of chaincodes.
-    pub fn of(&self, name: &Name) -> Option<&Policy>
+    pub fn of(&self, name: &NameRef<'_>) -> Option<&Policy>
         ensures { option_copied result ≡ map.get self.now name.now }
     {
         self.policies.get(name.as_slice())

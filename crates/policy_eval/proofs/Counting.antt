@@ -1,6 +1,6 @@
 -- A walk over the members of a gate, one after another.
 use Rattle.std.proofs.Common.{◌≡◌, ℕ, zero, suc, ◌+◌, ◌<◌, ◌≤◌, List, [], ◌∷◌, ◌++◌, append_assoc, Bool, true, false, length, get_or, drop, ap, sym, ◌∙◌, arith, drop-cons, cond}
-use Rattle.block.specs.declared.identity.Identity.{Identity}
+use Rattle.transaction.specs.declared.identity.Identity.{Identity}
 use Rattle.policy.specs.Tree.{Tree, size_of, size_of_all, leaves, all_leaves}
 use Rattle.policy.specs.View.{trees}
 use Rattle.policy_eval.specs.Evaluating.{evaluate, evaluate_all, counted}

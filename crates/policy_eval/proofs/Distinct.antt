@@ -3,13 +3,13 @@ use Rattle.std.proofs.Common.{◌≡◌, ◌≢◌, ℕ, zero, suc, ◌<◌, Lis
 use Rattle.std.specs.Prelude.{◌⊎◌, ◌↔◌, not, filter, ◌==◌, AllPairs}
 use Rattle.std.specs.List.{AllByRecursion, Contains}
 use Rattle.std.proofs.lemmas.Slice.Eq.{bytes_eq-Decides}
-use Rattle.block.specs.declared.identity.Identity.{Identity}
-use Rattle.block.specs.declared.identity.Role.{Role}
-use Rattle.block.specs.declared.identity.Role.TheVariants.{Admin, Client, Peer, Orderer}
-use Rattle.block.specs.declared.transaction.Endorsement.{Endorsement}
-use Rattle.block.specs.declared.transaction.Tx.{Tx}
-use Rattle.block.specs.TxGrammar.{role_byte}
-use Rattle.block.specs.Same.{is_same_identity}
+use Rattle.transaction.specs.declared.identity.Identity.{Identity}
+use Rattle.transaction.specs.declared.identity.Role.{Role}
+use Rattle.transaction.specs.declared.identity.Role.TheVariants.{Admin, Client, Peer, Orderer}
+use Rattle.transaction.specs.declared.transaction.Endorsement.{Endorsement}
+use Rattle.transaction.specs.declared.transaction.Tx.{Tx}
+use Rattle.transaction.specs.Grammar.{role_byte}
+use Rattle.transaction.specs.Same.{is_same_identity}
 use Rattle.policy_eval.specs.Accepts.{Accepts}
 use Rattle.policy_eval.specs.Signers.{each_once, is_accepted, signers_of, HasSigned}
 use Rattle.policy_eval.proofs.Once.{same_is, differs}

@@ -1,7 +1,7 @@
 -- A mark that is set stays set, and one that isn't set after wasn't before.
 use Rattle.std.proofs.Common.{◌≡◌, ℕ, zero, suc, List, [], ◌∷◌, Bool, true, false, cond, Option, Some, None, refl}
 use Rattle.std.specs.Prelude.{slice_get, slice_set}
-use Rattle.block.specs.declared.identity.Identity.{Identity}
+use Rattle.transaction.specs.declared.identity.Identity.{Identity}
 use Rattle.policy.specs.Tree.{Tree, Trees, principal, gate, none, more}
 use Rattle.policy_eval.specs.Evaluation.{first_free}
 use Rattle.policy_eval.specs.Evaluating.{taken, evaluate, evaluate_all}

@@ -2,7 +2,7 @@
 use Rattle.std.proofs.Common.{◌≡◌, ℕ, zero, suc, ◌+◌, ◌<◌, ◌≤◌, List, [], ◌∷◌, ◌++◌, length, Bool, true, false, cond, Option, Some, None, refl, sym, ap, subst, ◌∙◌, arith, zero-add}
 use Rattle.std.specs.Prelude.{slice_set, option_map}
 use Rattle.std.proofs.lemmas.Option.{slice_get_within}
-use Rattle.block.specs.declared.identity.Identity.{Identity}
+use Rattle.transaction.specs.declared.identity.Identity.{Identity}
 use Rattle.policy.specs.declared.tree.PolicyRole.{PolicyRole}
 use Rattle.policy.specs.Tree.{Trees, principal, gate, none, more}
 use Rattle.policy_eval.specs.Evaluation.{first_free, none_used, Satisfied}

@@ -4,15 +4,15 @@ use Rattle.std.specs.Prelude.{not, filter, ◌||◌, ◌&&◌, ◌==◌}
 use Rattle.std.specs.List.{list_any}
 use Rattle.std.specs.Str.{bytes_eq}
 use Rattle.std.proofs.lemmas.Slice.Eq.{bytes_eq-Decides}
-use Rattle.block.specs.declared.identity.Identity.{Identity}
-use Rattle.block.specs.declared.identity.Role.{Role}
-use Rattle.block.specs.declared.identity.Role.TheVariants.{Admin, Client, Peer, Orderer}
-use Rattle.block.specs.TxGrammar.{role_byte, body_bytes, identity_bytes}
-use Rattle.block.specs.Same.{is_same_identity}
+use Rattle.transaction.specs.declared.identity.Identity.{Identity}
+use Rattle.transaction.specs.declared.identity.Role.{Role}
+use Rattle.transaction.specs.declared.identity.Role.TheVariants.{Admin, Client, Peer, Orderer}
+use Rattle.transaction.specs.Grammar.{role_byte, body_bytes, identity_bytes}
+use Rattle.transaction.specs.Same.{is_same_identity}
 use Rattle.policy_eval.specs.Signers.{each_once, is_accepted}
 use Rattle.policy_eval.specs.Accepts.{Accepts}
-use Rattle.block.specs.declared.transaction.Endorsement.{Endorsement}
-use Rattle.block.specs.declared.transaction.Tx.{Tx}
+use Rattle.transaction.specs.declared.transaction.Endorsement.{Endorsement}
+use Rattle.transaction.specs.declared.transaction.Tx.{Tx}
 use Rattle.std.proofs.lemmas.List.Elements.{filter-append}
 use Rattle.std.proofs.lemmas.List.{append-nil, map-append}
 use Rattle.std.proofs.Math.Seq.{take-suc}

@@ -3,7 +3,7 @@ use Rattle.std.proofs.Common.{◌≡◌, ℕ, suc, ◌+◌, List, [], ◌∷◌,
 use Rattle.std.specs.Prelude.{not, ◌&&◌, nat_lt, option_map, slice_get, position}
 use Rattle.std.specs.List.{zip, position_or_len}
 use Rattle.std.proofs.lemmas.Bool.Decides.{nat_tests}
-use Rattle.block.specs.declared.identity.Identity.{Identity}
+use Rattle.transaction.specs.declared.identity.Identity.{Identity}
 use Rattle.policy.specs.declared.tree.PolicyRole.{PolicyRole}
 use Rattle.policy_eval.specs.Evaluation.{satisfies, first_free}
 

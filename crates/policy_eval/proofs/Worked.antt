@@ -2,11 +2,11 @@
 use Rattle.std.proofs.Common.{◌≡◌, ℕ, false, List, [], ◌∷◌, ◌++◌, Some, refl}
 use Rattle.std.specs.Prelude.{codes, replicate}
 use Rattle.std.specs.Str.{bytes_eq}
-use Rattle.block.specs.declared.identity.Identity.{Identity}
-use Rattle.block.specs.declared.identity.Role.{Role}
-use Rattle.block.specs.declared.identity.Role.TheVariants.{Peer, Admin}
-use Rattle.block.specs.declared.transaction.Endorsement.{Endorsement}
-use Rattle.block.specs.declared.transaction.Tx.{Tx}
+use Rattle.transaction.specs.declared.identity.Identity.{Identity}
+use Rattle.transaction.specs.declared.identity.Role.{Role}
+use Rattle.transaction.specs.declared.identity.Role.TheVariants.{Peer, Admin}
+use Rattle.transaction.specs.declared.transaction.Endorsement.{Endorsement}
+use Rattle.transaction.specs.declared.transaction.Tx.{Tx}
 use Rattle.policy.specs.declared.tree.PolicyRole.TheVariants as wanted
 use Rattle.policy.specs.Tree.{Tree, Trees, principal, gate, none, more}
 use Rattle.policy_eval.specs.Accepts.{Accepts}

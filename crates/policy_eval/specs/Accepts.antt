@@ -1,6 +1,6 @@
 -- What a verifier accepts.
 use Rattle.std.specs.Prelude.{ℕ, List, Bool}
-use Rattle.block.specs.declared.identity.Identity.{Identity}
+use Rattle.transaction.specs.declared.identity.Identity.{Identity}
 
 -- whether a signature is one of an identity over a message: identity, message, signature
 abbrev pub Accepts : Type 0

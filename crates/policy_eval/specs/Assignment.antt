@@ -1,7 +1,7 @@
 -- Which signer each principal of a satisfied policy took.
 use Rattle.std.specs.Prelude.{◌≡◌, ◌≢◌, ℕ, ◌+◌, ◌<◌, List, [], ◌∷◌, ◌++◌, Bool, if◌then◌else◌, map, Option, Some, None, option_to_list, slice_get, AllPairs, IsTrue}
 use Rattle.std.specs.List.{AllByRecursion}
-use Rattle.block.specs.declared.identity.Identity.{Identity}
+use Rattle.transaction.specs.declared.identity.Identity.{Identity}
 use Rattle.policy.specs.declared.tree.PolicyRole.{PolicyRole}
 use Rattle.policy.specs.Tree.{Tree, Trees, principal, gate, none, more, leaves}
 use Rattle.policy_eval.specs.Evaluation.{satisfies, first_free, none_used}

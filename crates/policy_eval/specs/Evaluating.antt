@@ -1,6 +1,6 @@
 -- Evaluation as a function: it answers what the relation does, as `policy_eval::one_evaluation` says.
 use Rattle.std.specs.Prelude.{ℕ, ◌+◌, nat_le, List, Bool, true, false, if◌then◌else◌, Option, Some, None, slice_set}
-use Rattle.block.specs.declared.identity.Identity.{Identity}
+use Rattle.transaction.specs.declared.identity.Identity.{Identity}
 use Rattle.policy.specs.Tree.{Tree, Trees, principal, gate, none, more}
 use Rattle.policy_eval.specs.Evaluation.{first_free, none_used}
 

@@ -3,9 +3,9 @@
 use Rattle.std.specs.Prelude.{◌≡◌, ℕ, ◌+◌, ◌<◌, ◌≤◌, List, length, Bool, true, false, not, ◌&&◌, if◌then◌else◌, Option, Some, None, slice_set, replicate, position}
 use Rattle.std.specs.Str.{bytes_eq}
 use Rattle.std.specs.List.{zip}
-use Rattle.block.specs.declared.identity.Role.{Role}
-use Rattle.block.specs.declared.identity.Role.TheVariants as held
-use Rattle.block.specs.declared.identity.Identity.{Identity}
+use Rattle.transaction.specs.declared.identity.Role.{Role}
+use Rattle.transaction.specs.declared.identity.Role.TheVariants as held
+use Rattle.transaction.specs.declared.identity.Identity.{Identity}
 use Rattle.policy.specs.declared.tree.PolicyRole.{PolicyRole}
 use Rattle.policy.specs.declared.tree.PolicyRole.TheVariants as wanted
 use Rattle.policy.specs.Tree.{Tree, Trees, principal, gate, none, more}

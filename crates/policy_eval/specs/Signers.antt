@@ -1,11 +1,11 @@
 -- Who signed a transaction.
 use Rattle.std.specs.Prelude.{◌≡◌, ℕ, List, [], ◌∷◌, ◌++◌, Bool, not, map, filter, IsTrue}
 use Rattle.std.specs.List.{Contains}
-use Rattle.block.specs.declared.identity.Identity.{Identity}
-use Rattle.block.specs.declared.transaction.Endorsement.{Endorsement}
-use Rattle.block.specs.declared.transaction.Tx.{Tx}
-use Rattle.block.specs.TxGrammar.{body_bytes, identity_bytes, SpellsTx}
-use Rattle.block.specs.Same.{is_same_identity}
+use Rattle.transaction.specs.declared.identity.Identity.{Identity}
+use Rattle.transaction.specs.declared.transaction.Endorsement.{Endorsement}
+use Rattle.transaction.specs.declared.transaction.Tx.{Tx}
+use Rattle.transaction.specs.Grammar.{body_bytes, identity_bytes}
+use Rattle.transaction.specs.Same.{is_same_identity}
 use Rattle.policy_eval.specs.Accepts.{Accepts}
 
 -- an endorser signs the body followed by its own identity bytes
@@ -24,8 +24,3 @@ signers_of accepts tx = each_once (map (λ e. e.endorser) (filter (is_accepted a
 -- an endorsement of the identity is accepted
 abbrev pub HasSigned : Accepts → Tx → Identity → Type 0
 HasSigned accepts tx identity = (e : Endorsement) × Contains tx.endorsements e × (e.endorser ≡ identity) × IsTrue (is_accepted accepts tx e)
-
--- Some bytes spell the transaction.
-pub record IsSpelled (tx : Tx) : Type 0 where
-  pub bytes : List ℕ
-  pub spelled : SpellsTx bytes tx

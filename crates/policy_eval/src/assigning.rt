@@ -7,9 +7,9 @@ ghost use Rattle.policy_eval.specs.Assignment.{assigned, assigned_all, assignmen
 
 use crate::evaluation::take_signer;
 use crate::signer_list::Signers;
-use block::{Identity, MAX_ENDORSEMENTS};
 use policy::{Expression, Node, Policy, Principal};
 use std::alloc::{AllocError, Global};
+use transaction::{Identity, MAX_ENDORSEMENTS};
 
 /// What an evaluation has assigned so far.
 #[derive(Drop)]
@@ -21,7 +21,7 @@ struct Assigned {
 
 fn assign_principal(
     wanted: &Principal,
-    signers: &[Identity],
+    signers: &[Identity<'_>],
     used: &mut [bool],
     so_far: &mut Assigned,
 ) -> Result<bool, AllocError>
@@ -45,7 +45,7 @@ fn assign_principal(
 #[cycle(assign)]
 fn assign(
     expression: &Expression,
-    signers: &[Identity],
+    signers: &[Identity<'_>],
     used: &mut [bool],
     so_far: &mut Assigned,
 ) -> Result<bool, AllocError>
@@ -77,7 +77,7 @@ fn assign(
 #[cycle(assign)]
 fn assign_members(
     members: &[Expression],
-    signers: &[Identity],
+    signers: &[Identity<'_>],
     used: &mut [bool],
     so_far: &mut Assigned,
 ) -> Result<usize, AllocError>
@@ -105,7 +105,7 @@ fn assign_members(
 pub fn assignment(
     alloc: Global,
     policy: &Policy,
-    signers: &Signers,
+    signers: &Signers<'_>,
 ) -> Result<Option<Vec<(u32, u32)>>, AllocError>
     ensures value { IfOk result (λ answer. option_map (λ pairs. pairs.items) answer ≡ assignment_of policy.now signers.now) }
     ensures served { IfOk result (λ answer. IfSome answer (λ pairs. IsAssignment policy.now signers.now pairs.items)) }

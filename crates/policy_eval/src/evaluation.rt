@@ -4,8 +4,8 @@ ghost use Rattle.policy_eval.specs.Evaluation.{fills, satisfies, first_free, Sat
 ghost use Rattle.policy_eval.specs.Evaluating.{evaluate, evaluate_all, is_satisfied, taken};
 
 use crate::signer_list::Signers;
-use block::{Identity, MAX_ENDORSEMENTS, Role};
 use policy::{Expression, Node, Policy, PolicyRole, Principal};
+use transaction::{Identity, MAX_ENDORSEMENTS, Role};
 
 fn fills(wanted: PolicyRole, held: Role) -> bool
     ensures { result ≡ fills wanted held }
@@ -20,13 +20,13 @@ fn fills(wanted: PolicyRole, held: Role) -> bool
     }
 }
 
-fn satisfies(principal: &Principal, identity: &Identity) -> bool
+fn satisfies(principal: &Principal, identity: &Identity<'_>) -> bool
     ensures { result ≡ satisfies principal.now.org principal.now.role identity.now }
 {
-    principal.org.is_same(&identity.org) && fills(principal.role, identity.role)
+    principal.org.lend().is_same(&identity.org) && fills(principal.role, identity.role)
 }
 
-fn first_free(principal: &Principal, signers: &[Identity], used: &[bool]) -> Option<usize>
+fn first_free(principal: &Principal, signers: &[Identity<'_>], used: &[bool]) -> Option<usize>
     ensures place { result ≡ first_free principal.now.org principal.now.role signers.now used.now }
     ensures inside { IfSome result (λ place. (place < length used.now) × (place < length signers.now)) }
 {
@@ -39,7 +39,7 @@ fn first_free(principal: &Principal, signers: &[Identity], used: &[bool]) -> Opt
 /// Marks the first free signer that satisfies the principal, and gives its place.
 pub(crate) fn take_signer(
     principal: &Principal,
-    signers: &[Identity],
+    signers: &[Identity<'_>],
     used: &mut [bool],
 ) -> Option<usize>
     ensures place { result ≡ first_free principal.now.org principal.now.role signers.now used.old }
@@ -52,7 +52,7 @@ pub(crate) fn take_signer(
 }
 
 #[cycle(evaluate)]
-fn evaluate(expression: &Expression, signers: &[Identity], used: &mut [bool]) -> bool
+fn evaluate(expression: &Expression, signers: &[Identity<'_>], used: &mut [bool]) -> bool
     requires { length used.old ≤ MAX_ENDORSEMENTS }
     ensures { evaluate expression.now signers.now used.old ≡ (result, used.new) }
 {
@@ -72,7 +72,7 @@ fn evaluate(expression: &Expression, signers: &[Identity], used: &mut [bool]) ->
 }
 
 #[cycle(evaluate)]
-fn count_satisfied(members: &[Expression], signers: &[Identity], used: &mut [bool]) -> usize
+fn count_satisfied(members: &[Expression], signers: &[Identity<'_>], used: &mut [bool]) -> usize
     requires { length used.old ≤ MAX_ENDORSEMENTS }
     ensures { evaluate_all (trees members.now) signers.now used.old ≡ (result, used.new) }
 {
@@ -90,7 +90,7 @@ fn count_satisfied(members: &[Expression], signers: &[Identity], used: &mut [boo
 /// At most as many steps as the policy's principals times the signers, each a comparison of an identity with
 /// a principal, and for each gate a copy of the marks of used signers. No memory is asked for; recursion is
 /// two frames for each nested gate, with 64 bytes of marks.
-pub fn satisfied(policy: &Policy, signers: &Signers) -> bool
+pub fn satisfied(policy: &Policy, signers: &Signers<'_>) -> bool
     ensures value { result ≡ is_satisfied policy.now signers.now }
     ensures relation { IsTrue result ↔ Satisfied policy.now signers.now }
 {

@@ -1,7 +1,7 @@
 ghost use Rattle.std.specs.Prelude.{◌≡◌, ◌≢◌, ◌↔◌, ◌++◌, ℕ, List, Bool, AllPairs};
 ghost use Rattle.std.specs.List.{Contains};
-ghost use Rattle.block.specs.declared.identity.Identity.{Identity};
-ghost use Rattle.block.specs.declared.transaction.Tx.{Tx};
+ghost use Rattle.transaction.specs.declared.identity.Identity.{Identity};
+ghost use Rattle.transaction.specs.declared.transaction.Tx.{Tx};
 ghost use Rattle.policy.specs.Tree.{Tree, Trees, gate};
 ghost use Rattle.policy_eval.specs.Accepts.{Accepts};
 ghost use Rattle.policy_eval.specs.Signers.{signers_of, HasSigned};

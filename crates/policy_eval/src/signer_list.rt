@@ -1,30 +1,31 @@
 ghost use Rattle.std.specs.Prelude.{◌≡◌, ◌==◌, ◌≤◌, List, length};
+ghost use Rattle.transaction.specs.Limits.{max_endorsements};
 
-use block::{Identity, MAX_ENDORSEMENTS};
 use std::marker::Model;
+use transaction::Identity;
 
 /// The identities that signed a transaction, at most 64. A contract sees the list of them.
 #[derive(Debug, Drop)]
-pub struct Signers {
-    pub(crate) identities: Vec<Identity>,
+pub struct Signers<'a> {
+    pub(crate) identities: Vec<Identity<'a>>,
 }
 
-impl Model for Signers {
+impl<'a> Model for Signers<'a> {
     ghost use Rattle.std.specs.Prelude.{◌≤◌, List, length};
-    ghost use Rattle.block.specs.declared.transaction.TheConstants.{MAX_ENDORSEMENTS};
-    ghost use Rattle.block.specs.declared.identity.Identity.{Identity};
+    ghost use Rattle.transaction.specs.Limits.{max_endorsements};
+    ghost use Rattle.transaction.specs.declared.identity.Identity.{Identity};
 
     ghost Value = { List Identity };
 
     ghost view = { λ s. s.identities.items };
 
-    ghost invariant = { λ s. length s.identities.items ≤ MAX_ENDORSEMENTS };
+    ghost invariant = { λ s. length s.identities.items ≤ max_endorsements };
 }
 
-impl Signers {
-    pub fn as_slice(&self) -> &[Identity]
+impl<'a> Signers<'a> {
+    pub fn as_slice(&self) -> &[Identity<'a>]
         ensures value { result.now ≡ self.now }
-        ensures bound { length self.now ≤ MAX_ENDORSEMENTS }
+        ensures bound { length self.now ≤ max_endorsements }
     {
         self.identities.as_slice()
     }

@@ -1,20 +1,21 @@
 ghost use Rattle.std.specs.Prelude.{◌≡◌, ◌≤◌, ◌++◌, length, take, IfOk, OnOk};
 ghost use Rattle.std.specs.List.{list_any};
-ghost use Rattle.block.specs.Same.{is_same_identity};
-ghost use Rattle.block.specs.TxGrammar.{body_bytes, identity_bytes, IsIdentity};
-ghost use Rattle.policy_eval.specs.Signers.{signers_of, IsSpelled};
+ghost use Rattle.transaction.specs.Same.{is_same_identity};
+ghost use Rattle.transaction.specs.Grammar.{body_bytes, identity_bytes, IsIdentity};
+ghost use Rattle.transaction.specs.Spelled.{IsSpelled};
+ghost use Rattle.policy_eval.specs.Signers.{signers_of};
 
 use crate::signer_list::Signers;
 use crate::verify::Verify;
-use block::{EncodeFault, Endorsement, Identity, Tx};
 use std::alloc::{AllocError, Global};
+use transaction::{EncodeFault, Endorsement, Identity, Tx};
 
 /// The bytes of the body, with which each endorser's message begins.
-fn body(alloc: Global, tx: &Tx) -> Result<Vec<u8>, AllocError>
+fn body(alloc: Global, tx: &Tx<'_>) -> Result<Vec<u8>, AllocError>
     requires { IsSpelled tx.now }
     ensures { IfOk result (λ bytes. bytes.items ≡ body_bytes tx.now) }
 {
-    match block::encode_body(alloc, tx) {
+    match transaction::encode_body(alloc, tx) {
         Ok(bytes) => Ok(bytes.into_vec()),
         Err(EncodeFault::Memory) => Err(AllocError),
         Err(EncodeFault::TooLarge) => unreachable!(),
@@ -22,19 +23,23 @@ fn body(alloc: Global, tx: &Tx) -> Result<Vec<u8>, AllocError>
 }
 
 /// Puts the identity's bytes in the place of all that follows the body.
-fn address(message: &mut Vec<u8>, body_len: usize, identity: &Identity) -> Result<(), AllocError>
+fn address(
+    message: &mut Vec<u8>,
+    body_len: usize,
+    identity: &Identity<'_>,
+) -> Result<(), AllocError>
     requires { IsIdentity identity.now }
     ensures { OnOk result (message.new.items ≡ take body_len message.old.items ++ identity_bytes identity.now) }
 {
     message.truncate(body_len);
-    match block::append_identity(message, identity) {
+    match transaction::append_identity(message, identity) {
         Ok(()) => Ok(()),
         Err(EncodeFault::Memory) => Err(AllocError),
         Err(EncodeFault::TooLarge) => unreachable!(),
     }
 }
 
-fn contains(signers: &[Identity], identity: &Identity) -> bool
+fn contains(signers: &[Identity<'_>], identity: &Identity<'_>) -> bool
     ensures { result ≡ list_any (λ signer. is_same_identity signer identity.now) signers.now }
 {
     signers.iter().any(|signer| signer.is_same(identity))
@@ -42,7 +47,7 @@ fn contains(signers: &[Identity], identity: &Identity) -> bool
 
 /// Whether the verifier accepts the endorser's signature over the body and the endorser's bytes.
 fn has_signed<V: Verify>(
-    endorsement: &Endorsement,
+    endorsement: &Endorsement<'_>,
     message: &mut Vec<u8>,
     body_len: usize,
     verifier: &V,
@@ -67,7 +72,11 @@ fn has_signed<V: Verify>(
 /// Encodes the body once, calls the verifier at most once for each endorsement, and not at all for one
 /// whose endorser has signed already. Besides, time is linear in the body, and each endorser is compared
 /// with the signers so far. Memory: one buffer of the body and the longest identity, and the signers.
-pub fn signers<V: Verify>(alloc: Global, tx: &Tx, verifier: &V) -> Result<Signers, AllocError>
+pub fn signers<'a, V: Verify>(
+    alloc: Global,
+    tx: &Tx<'a>,
+    verifier: &V,
+) -> Result<Signers<'a>, AllocError>
     requires { IsSpelled tx.now }
     ensures { IfOk result (λ signers. signers ≡ signers_of (V.accepts verifier.now) tx.now) }
 {
@@ -78,7 +87,7 @@ pub fn signers<V: Verify>(alloc: Global, tx: &Tx, verifier: &V) -> Result<Signer
         if !contains(identities.as_slice(), &endorsement.endorser)
             && has_signed(endorsement, &mut message, body_len, verifier)?
         {
-            identities.push(endorsement.endorser.copy(alloc)?)?;
+            identities.push(endorsement.endorser.again())?;
         }
     }
     Ok(Signers { identities })

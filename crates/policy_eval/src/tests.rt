@@ -1,12 +1,12 @@
 //! Expected values were worked out by hand from the definitions.
 
 ghost use Rattle.std.specs.Prelude.{IfOk};
-ghost use Rattle.policy_eval.specs.Signers.{IsSpelled};
+ghost use Rattle.transaction.specs.Spelled.{IsSpelled};
 
 use crate::{Signers, Verify};
-use block::{Identity, Tx, append_identity, decode_tx};
 use std::alloc::{AllocError, Global};
 use std::test::Fail;
+use transaction::{Identity, Tx, append_identity, decode_tx};
 
 mod limits;
 mod memory;

@@ -18,7 +18,7 @@ state_under-valid j (suc i) = ap (λ (s : State). if valid j i then state_after 
 pub touched_under-endorsed : (j : Job) (i : ℕ) → touched_under j (endorsed j) i ≡ (running j i).touched
 unfolding running touched_under
 touched_under-endorsed j zero = refl
-touched_under-endorsed j (suc i) = ap (λ (t : List StateKey). if endorsed j i then touched_by (candidate_at j i) ++ t else t) (touched_under-endorsed j i)
+touched_under-endorsed j (suc i) = ap (λ (t : List StateKey). if endorsed j i then t ++ touched_by (candidate_at j i) else t) (touched_under-endorsed j i)
 
 pub endorsement_under-endorsed : (j : Job) (i : ℕ) → endorsement_under j (endorsed j) i ≡ endorsed j i
 endorsement_under-endorsed j i = ap (endorsement j i) (touched_under-endorsed j i)

@@ -1,7 +1,7 @@
 -- The candidates and the used ids of a block's transactions, list by list.
-use Rattle.std.proofs.Common.{◌≡◌, ℕ, suc, ◌+◌, List, [], ◌∷◌, ◌++◌, length, map, Option, refl, sym, ap, ◌∙◌, append_assoc, append-nil, arith}
+use Rattle.std.proofs.Common.{◌≡◌, ℕ, suc, ◌+◌, List, [], ◌∷◌, ◌++◌, length, map, Option, Some, None, refl, sym, ap, ◌∙◌, append_assoc, append-nil, arith}
 use Rattle.std.specs.Prelude.{option_to_list}
-use Rattle.block.specs.declared.transaction.Tx.{Tx}
+use Rattle.transaction.specs.declared.transaction.Tx.{Tx}
 use Rattle.policy_eval.specs.Accepts.{Accepts}
 use Rattle.channel.specs.Configuration.{Configuration}
 use Rattle.rules.specs.declared.first_use.FirstUse.{FirstUse}
@@ -43,3 +43,13 @@ uses_from-append j i (id ∷ ids) others =
     let place : suc i + length ids ≡ i + length (id ∷ ids) = omega arith in
     ap (λ (us : List (List ℕ × FirstUse)). own ++ us) (uses_from-append j (suc i) ids others ∙ ap (λ (n : ℕ). uses_from j (suc i) ids ++ uses_from j n others) place)
     ∙ sym (append_assoc own (uses_from j (suc i) ids) (uses_from j (i + length (id ∷ ids)) others))
+
+-- the ids of the uses, in order
+pub uses_from-ids : (channel : Configuration) (accepts : Accepts) (j : Job) (i : ℕ) (txs : List (Option Tx)) → map (λ u. u.0) (uses_from j i (map (used_id channel accepts) txs)) ≡ ids_of channel accepts txs
+uses_from-ids channel accepts j i [] = refl
+uses_from-ids channel accepts j i (tx ∷ txs) = by (used_id channel accepts tx) (uses_from-ids channel accepts j (suc i) txs)
+  where
+    by : (o : Option (List ℕ)) → map (λ u. u.0) (uses_from j (suc i) (map (used_id channel accepts) txs)) ≡ ids_of channel accepts txs
+        → map (λ u. u.0) (uses_from j i (o ∷ map (used_id channel accepts) txs)) ≡ option_to_list o ++ ids_of channel accepts txs
+    by None rest = rest
+    by (Some id) rest = ap (λ (ids : List (List ℕ)). id ∷ ids) rest

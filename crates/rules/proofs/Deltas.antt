@@ -1,23 +1,40 @@
 -- A block's changes, entries and uses are its whole effect on a world.
-use Rattle.std.proofs.Common.{◌≡◌, ℕ, zero, suc, Bool, true, false, List, [], ◌∷◌, ◌++◌, length, map, Option, refl, sym, ap, ◌∙◌}
+use Rattle.std.proofs.Common.{◌≡◌, ◌⊎◌, inl, inr, ℕ, zero, suc, ◌<◌, Bool, true, false, cond, List, [], ◌∷◌, ◌++◌, length, map, Option, refl, sym, ap, subst, ◌∙◌, arith}
 use Rattle.std.specs.Prelude.{if◌then◌else◌}
-use Rattle.block.specs.declared.transaction.Tx.{Tx}
+use Rattle.std.specs.FinMap.{get, same_map}
+use Rattle.std.proofs.lemmas.List.{append_cancel_left, length-map}
+use Rattle.block.specs.declared.block.Block.{Block}
+use Rattle.block.specs.Grammar.{Spells}
+use Rattle.transaction.specs.Decoded.{tx_of}
+use Rattle.transaction.specs.declared.transaction.Tx.{Tx}
+use Rattle.header_hash.specs.Hashes.{header_hash_of}
 use Rattle.policy_eval.specs.Accepts.{Accepts}
 use Rattle.channel.specs.Configuration.{Configuration}
 use Rattle.rules.specs.declared.committed.CommittedBlock.{CommittedBlock}
 use Rattle.rules.specs.declared.delta.Delta.{Delta}
+use Rattle.rules.specs.declared.first_use.FirstUse.{FirstUse}
+use Rattle.rules.specs.declared.flag.Flag.{Flag}
+use Rattle.rules.specs.declared.flag.Flag.TheVariants.{Valid}
 use Rattle.rules.specs.declared.row.Row.{Row}
 use Rattle.rules.specs.Flags.{is_valid}
-use Rattle.rules.specs.State.{State, ChangeOf, with_changes}
+use Rattle.rules.specs.State.{StateKey, State, ChangeOf, is_among, with_changes}
 use Rattle.rules.specs.History.{with_entries}
 use Rattle.rules.specs.FirstUses.{with_uses}
-use Rattle.rules.specs.Job.{Job, candidate_at, version_of, changes_by}
+use Rattle.rules.specs.Job.{Job, candidate_at, version_of, operated_by, changes_by}
 use Rattle.rules.specs.Fold.{running, flag, final_state, changes_to, entries_to}
 use Rattle.rules.specs.World.{World}
 use Rattle.rules.specs.Candidate.{used_id}
-use Rattle.rules.specs.Commit.{job_of, uses_from, committed}
+use Rattle.rules.specs.Commit.{txs_of, job_of, uses_from, committed_of, committed}
 use Rattle.rules.specs.Delta.{changes_in, entries_in, uses_in, applied, IsDelta}
-use Rattle.rules.proofs.Changes.{with_changes-append, with_changes-none}
+use Rattle.rules.specs.Linked.{IsLinked, IsLinkedDelta}
+use Rattle.rules.specs.Listings.{AreSingleChanges, AreNetChanges, new_uses, IsListing}
+use Rattle.rules.proofs.Keys.{key_cmp_total, key_cmp-IsAntisymmetric}
+use Rattle.rules.proofs.Changes.{with_changes-append, with_changes-none, each_to, get-with_changes}
+use Rattle.rules.proofs.PerKey.{row_under-still, row_under-first, get-state_under}
+use Rattle.rules.proofs.Bridge.{valid, state_under-valid}
+use Rattle.rules.proofs.IdUses.{with_uses-new}
+use Rattle.rules.proofs.BlockFlags.{length-flags}
+use Rattle.rules.proofs.Candidates.{length-candidates_from}
 
 -- ---- changes
 
@@ -67,6 +84,96 @@ committed-by_delta channel accepts w txs kept d changes entries uses block =
     (ap (with_uses w.first_uses) uses)
     block
 
+-- ---- a delta, by what it makes of the world
+
 pub committed-is_delta : (channel : Configuration) (accepts : Accepts) (w : World) (txs : List (Option Tx)) (kept : CommittedBlock) (d : Delta)
     → IsDelta channel accepts w txs kept d → committed channel accepts w txs kept ≡ applied w d
-committed-is_delta channel accepts w txs kept d is = committed-by_delta channel accepts w txs kept d is.changes is.entries is.uses is.block
+committed-is_delta channel accepts w txs kept d is = committed-by_parts channel accepts w txs kept d is.state is.history is.first_uses is.block
+
+last_same : (bs : List CommittedBlock) (a b : CommittedBlock) → bs ++ a ∷ [] ≡ bs ++ b ∷ [] → a ≡ b
+last_same bs a b e = let ends : a ∷ [] ≡ b ∷ [] = append_cancel_left bs (a ∷ []) (b ∷ []) e in cc
+
+pub delta-is_committed : (channel : Configuration) (accepts : Accepts) (w : World) (txs : List (Option Tx)) (kept : CommittedBlock) (d : Delta)
+    → committed channel accepts w txs kept ≡ applied w d → IsDelta channel accepts w txs kept d
+delta-is_committed channel accepts w txs kept d e = record {
+  state = ap (λ (x : World). x.state) (sym e);
+  history = ap (λ (x : World). x.history) (sym e);
+  first_uses = ap (λ (x : World). x.first_uses) (sym e);
+  block = last_same w.blocks d.block kept (ap (λ (x : World). x.blocks) (sym e));
+}
+
+-- ---- lists of what a block changes
+
+valid_only : (f : Flag) → is_valid f ≡ true → f ≡ Valid
+valid_only Valid e = refl
+valid_only _ e = absurd cc
+
+-- a key that no valid candidate writes has after the block what it had before
+row-unwritten : (j : Job) (k : StateKey) → ((i : ℕ) → i < length j.candidates → is_among k (operated_by (candidate_at j i)) ≡ true → valid j i ≡ false) → get (final_state j) k ≡ get j.state k
+row-unwritten j k none =
+    ap (λ (s : State). get s k) (sym (state_under-valid j (length j.candidates)))
+    ∙ get-state_under j (valid j) (length j.candidates) k
+    ∙ row_under-still j (valid j) k zero (length j.candidates) (omega arith) (λ h lo hi writes. none h hi writes)
+    ∙ row_under-first j (valid j) k
+
+map-map : {A B C : Type 0} (g : B → C) (f : A → B) (xs : List A) → map g (map f xs) ≡ map (λ x. g (f x)) xs
+map-map g f [] = refl
+map-map {A} {B} {C} g f (x ∷ xs) = ap (λ (l : List C). g (f x) ∷ l) (map-map g f xs)
+
+pub net_changes-final_state : (j : Job) (cs : List (ChangeOf Row)) → AreNetChanges j cs → with_changes j.state cs ≡ final_state j
+net_changes-final_state j cs net =
+    ap (with_changes j.state) (net.rows ∙ sym (map-map (λ (k : StateKey). (k, get (final_state j) k)) (λ (c : ChangeOf Row). c.0) cs))
+    ∙ same_map key_cmp_total key_cmp-IsAntisymmetric (with_changes j.state (each_to (get (final_state j)) ks)) (final_state j) (λ k.
+    get-with_changes (get (final_state j)) j.state ks k ∙ by k (is_among k ks) refl)
+  where
+    ks : List StateKey
+    ks = map (λ c. c.0) cs
+
+    apart : (k : StateKey) → is_among k ks ≡ false → (i : ℕ) → i < length j.candidates → is_among k (operated_by (candidate_at j i)) ≡ true → (b : Bool) → valid j i ≡ b → b ≡ false
+    apart k none i lt writes true is = let wrong : true ≡ false = sym (net.keys i k lt (valid_only (flag j i) is) writes) ∙ none in absurd cc
+    apart k none i lt writes false is = refl
+
+    by : (k : StateKey) (b : Bool) → is_among k ks ≡ b → cond b (get (final_state j) k) (get j.state k) ≡ get (final_state j) k
+    by k true e = refl
+    by k false e = sym (row-unwritten j k (λ i lt writes. apart k e i lt writes (valid j i) refl))
+
+module _ (channel : Configuration) (accepts : Accepts) (w : World) (txs : List (Option Tx)) (kept : CommittedBlock) (d : Delta) where
+  listed_changes : AreSingleChanges (job_of channel accepts w txs) (changes_in d.changes) ⊎ AreNetChanges (job_of channel accepts w txs) (changes_in d.changes)
+      → with_changes w.state (changes_in d.changes) ≡ final_state (job_of channel accepts w txs)
+  listed_changes (inl single) = ap (with_changes w.state) single ∙ sym (final_state-by_changes (job_of channel accepts w txs))
+  listed_changes (inr net) = net_changes-final_state (job_of channel accepts w txs) (changes_in d.changes) net
+
+  abbrev all_uses : List (List ℕ × FirstUse)
+  all_uses = uses_from (job_of channel accepts w txs) 0 (map (used_id channel accepts) txs)
+
+  listed_uses : (uses_in d.uses ≡ all_uses) ⊎ (uses_in d.uses ≡ new_uses w.first_uses all_uses) → with_uses w.first_uses (uses_in d.uses) ≡ with_uses w.first_uses all_uses
+  listed_uses (inl all) = ap (with_uses w.first_uses) all
+  listed_uses (inr new) = ap (with_uses w.first_uses) new ∙ with_uses-new w.first_uses all_uses
+
+  pub listed-is_delta : IsListing channel accepts w txs kept d → IsDelta channel accepts w txs kept d
+  listed-is_delta lists = record {
+    state = listed_changes lists.changes;
+    history = ap (with_entries w.history) lists.entries;
+    first_uses = listed_uses lists.uses;
+    block = lists.block;
+  }
+
+-- ---- the delta of a linked block
+
+pub delta-is_linked : (channel : Configuration) (accepts : Accepts) (w : World) (bytes : List ℕ) (b : Block) (d : Delta) → Spells bytes b → IsLinked w b
+    → IsDelta channel accepts w (txs_of b) (committed_of bytes b (job_of channel accepts w (txs_of b))) d → IsLinkedDelta w d
+delta-is_linked channel accepts w bytes b d spelled linked is =
+    let j = job_of channel accepts w (txs_of b) in record {
+      block = b;
+      spelled = subst (λ (x : List ℕ). Spells x b) (sym (ap (λ (x : CommittedBlock). x.bytes) is.block)) spelled;
+      linked = linked;
+      header_hash = ap (λ (x : CommittedBlock). x.header_hash) is.block;
+      flags = ap (λ (x : CommittedBlock). length x.flags) is.block ∙ length-flags j ∙ length-candidates_from channel accepts w.first_uses [] (txs_of b) ∙ length-map b.txs tx_of;
+    }
+
+-- what is said of the block of a linked delta
+abbrev IsKeptOf : World → Delta → Block → Type 0
+IsKeptOf w d b = IsLinked w b × (d.block.header_hash ≡ header_hash_of b.header) × (length d.block.flags ≡ length b.txs)
+
+pub block_of_linked : (w : World) (b : Block) (d : Delta) (linked : IsLinkedDelta w d) → linked.block ≡ b → IsLinked w b × (d.block.header_hash ≡ header_hash_of b.header) × (length d.block.flags ≡ length b.txs)
+block_of_linked w b d linked same = subst (λ (x : Block). IsKeptOf w d x) same (linked.linked, linked.header_hash, linked.flags)

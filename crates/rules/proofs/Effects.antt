@@ -5,11 +5,11 @@ use Rattle.std.specs.Str.{bytes_eq}
 use Rattle.std.specs.FinMap.{get}
 use Rattle.std.proofs.lemmas.List.Folds.{list_any-append}
 use Rattle.std.proofs.lemmas.List.Concat.{flat_map-cons}
-use Rattle.block.specs.declared.transaction.Version.{Version}
-use Rattle.block.specs.declared.transaction.Write.{Write}
-use Rattle.block.specs.declared.transaction.PolicyWrite.{PolicyWrite}
-use Rattle.block.specs.declared.transaction.NsSet.{NsSet}
-use Rattle.block.specs.declared.transaction.Tx.{Tx}
+use Rattle.transaction.specs.declared.transaction.Version.{Version}
+use Rattle.transaction.specs.declared.transaction.Write.{Write}
+use Rattle.transaction.specs.declared.transaction.PolicyWrite.{PolicyWrite}
+use Rattle.transaction.specs.declared.transaction.NsSet.{NsSet}
+use Rattle.transaction.specs.declared.transaction.Tx.{Tx}
 use Rattle.rules.specs.declared.row.Row.{Row}
 use Rattle.rules.specs.State.{StateKey, State, is_same_key, is_among}
 use Rattle.rules.specs.Effect.{write_of, policy_write_of, value_keys_in, policy_keys_in, written_keys, effect_at, effect}
@@ -21,28 +21,28 @@ pub same_in_namespace : (k : StateKey) (namespace key : List ℕ) → bytes_eq k
 same_in_namespace k namespace key same = ap (λ (b : Bool). b && bytes_eq k.1 key) same
 
 -- a key that isn't among those of a list under one namespace isn't found in it
-module _ {W : Type 0} (key_of : W → List ℕ) where
-  unfound : (namespace : List ℕ) (ws : List W) (k : StateKey) → bytes_eq k.0 namespace ≡ true → is_among k (map (λ w. (namespace, key_of w)) ws) ≡ false
-      → find (λ w. bytes_eq k.1 (key_of w)) ws ≡ None
+module _ {W : Type 0} (own_key : W → List ℕ) where
+  unfound : (namespace : List ℕ) (ws : List W) (k : StateKey) → bytes_eq k.0 namespace ≡ true → is_among k (map (λ w. (namespace, own_key w)) ws) ≡ false
+      → find (λ w. bytes_eq k.1 (own_key w)) ws ≡ None
   unfound namespace [] k same none = refl
   unfound namespace (w ∷ ws) k same none =
-      let n = neither (is_same_key k (namespace, key_of w)) (is_among k (map (λ x. (namespace, key_of x)) ws)) none in
-      let apart : bytes_eq k.1 (key_of w) ≡ false = sym (same_in_namespace k namespace (key_of w) same) ∙ n.0 in
+      let n = neither (is_same_key k (namespace, own_key w)) (is_among k (map (λ x. (namespace, own_key x)) ws)) none in
+      let apart : bytes_eq k.1 (own_key w) ≡ false = sym (same_in_namespace k namespace (own_key w) same) ∙ n.0 in
       rw apart (unfound namespace ws k same n.1)
 
   -- nor in any namespace
   nowhere : (rows : NsSet → List W) (all : NsSet → List StateKey) (sets : List NsSet) (k : StateKey)
-      → ((n : NsSet) → is_among k (all n) ≡ false → is_among k (map (λ w. (n.name, key_of w)) (rows n)) ≡ false)
+      → ((n : NsSet) → is_among k (all n) ≡ false → is_among k (map (λ w. (n.name, own_key w)) (rows n)) ≡ false)
       → is_among k (flat_map all sets) ≡ false
-      → option_and_then (λ n. find (λ w. bytes_eq k.1 (key_of w)) (rows n)) (find (λ n. bytes_eq k.0 n.name) sets) ≡ None
+      → option_and_then (λ n. find (λ w. bytes_eq k.1 (own_key w)) (rows n)) (find (λ n. bytes_eq k.0 n.name) sets) ≡ None
   nowhere rows all [] k part none = refl
   nowhere rows all (n ∷ sets) k part none =
       let h = neither (is_among k (all n)) (is_among k (flat_map all sets)) (sym (list_any-append (is_same_key k) (all n) (flat_map all sets)) ∙ ap (is_among k) (sym (flat_map-cons all n sets)) ∙ none) in
       by h.0 (nowhere rows all sets k part h.1) (bytes_eq k.0 n.name) refl
     where
-      by : is_among k (all n) ≡ false → option_and_then (λ x. find (λ w. bytes_eq k.1 (key_of w)) (rows x)) (find (λ x. bytes_eq k.0 x.name) sets) ≡ None
+      by : is_among k (all n) ≡ false → option_and_then (λ x. find (λ w. bytes_eq k.1 (own_key w)) (rows x)) (find (λ x. bytes_eq k.0 x.name) sets) ≡ None
           → (b : Bool) → bytes_eq k.0 n.name ≡ b
-          → option_and_then (λ x. find (λ w. bytes_eq k.1 (key_of w)) (rows x)) (cond b (Some n) (find (λ x. bytes_eq k.0 x.name) sets)) ≡ None
+          → option_and_then (λ x. find (λ w. bytes_eq k.1 (own_key w)) (rows x)) (cond b (Some n) (find (λ x. bytes_eq k.0 x.name) sets)) ≡ None
       by here later true e = unfound n.name (rows n) k e (part n here)
       by here later false e = later
 

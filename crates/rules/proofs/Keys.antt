@@ -5,7 +5,7 @@ use Rattle.std.specs.Ordering.{nat_cmp, is_eq, eq_by_cmp}
 use Rattle.std.specs.Cmp.{IsTotalOrder, then_total, on_total, both_tied, unsigned_ties}
 use Rattle.std.specs.Cmp.Lexicographic.{nat_list_cmp_total, lists_ties, bytes_decides}
 use Rattle.std.specs.FinMap.{IsAntisymmetric}
-use Rattle.policy.specs.Policies.{bytes_cmp}
+use Rattle.values.specs.Order.{bytes_cmp}
 use Rattle.rules.specs.State.{StateKey, key_cmp, is_same_key}
 use Rattle.rules.proofs.Booleans.{both_true}
 

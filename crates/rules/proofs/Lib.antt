@@ -15,6 +15,7 @@ pub mod Deltas
 pub mod Invalid
 pub mod BlockFlags
 pub mod Runs
+pub mod InOrder
 pub mod Touched
 pub mod Certainty
 pub mod Candidates

@@ -4,8 +4,8 @@ use Rattle.std.specs.Prelude.{option_to_list, is_none, if◌then◌else◌}
 use Rattle.std.specs.Str.{bytes_eq}
 use Rattle.std.specs.List.{list_any}
 use Rattle.std.specs.FinMap.{contains_key}
-use Rattle.block.specs.declared.identity.Identity.{Identity}
-use Rattle.block.specs.declared.transaction.Tx.{Tx}
+use Rattle.transaction.specs.declared.identity.Identity.{Identity}
+use Rattle.transaction.specs.declared.transaction.Tx.{Tx}
 use Rattle.policy_eval.specs.Accepts.{Accepts}
 use Rattle.channel.specs.Configuration.{Configuration}
 use Rattle.rules.specs.declared.flag.Flag.{Flag}

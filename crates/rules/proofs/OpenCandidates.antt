@@ -3,47 +3,47 @@ use Rattle.std.proofs.Common.{◌≡◌, Bool, true, false, not, cond, Option, S
 use Rattle.std.specs.Prelude.{IsTrue}
 use Rattle.std.specs.List.{list_all}
 use Rattle.std.specs.FinMap.{is_sorted}
-use Rattle.block.specs.declared.identity.Identity.{Identity}
-use Rattle.block.specs.declared.transaction.Range.{Range}
-use Rattle.block.specs.declared.transaction.Tx.{Tx}
-use Rattle.policy.specs.Policies.{bytes_cmp}
+use Rattle.transaction.specs.declared.identity.Identity.{Identity}
+use Rattle.transaction.specs.declared.transaction.Range.{Range}
+use Rattle.transaction.specs.declared.transaction.Tx.{Tx}
+use Rattle.values.specs.Order.{bytes_cmp}
 use Rattle.policy_eval.specs.Accepts.{Accepts}
 use Rattle.policy_eval.specs.Signers.{signers_of}
 use Rattle.channel.specs.Configuration.{Configuration}
 use Rattle.rules.specs.declared.flag.Flag.{Flag}
 use Rattle.rules.specs.declared.flag.Flag.TheVariants.{DuplicateTxId, BadRwset, InvalidChaincode}
 use Rattle.rules.specs.Ranges.{results_of}
-use Rattle.rules.specs.ReadWriteSets.{has_sound_results, is_sound_set, is_sound}
+use Rattle.rules.specs.ReadWriteSets.{has_results_in_form, is_set_in_form, is_in_form}
 use Rattle.rules.specs.Candidate.{opened, is_all_defined, origin_fault, content_fault, flagged_or, candidate_of}
 use Rattle.rules.proofs.Booleans.{both_true}
 
 -- ---- its sets are in form
 
 -- the results of a range in form strictly rise
-pub rising_results : (r : Range) → IsTrue (has_sound_results r) → IsTrue (is_sorted bytes_cmp (results_of r))
-rising_results r sound = (both_true (is_sorted bytes_cmp (results_of r)) _ sound).0
+pub rising_results : (r : Range) → IsTrue (has_results_in_form r) → IsTrue (is_sorted bytes_cmp (results_of r))
+rising_results r in_form = (both_true (is_sorted bytes_cmp (results_of r)) _ in_form).0
 
-pub sound_sets : (tx : Tx) → IsTrue (is_sound tx) → IsTrue (list_all is_sound_set tx.namespaces)
-sound_sets tx sound = (both_true _ (list_all is_sound_set tx.namespaces) sound).1
+pub sets_in_form : (tx : Tx) → IsTrue (is_in_form tx) → IsTrue (list_all is_set_in_form tx.namespaces)
+sets_in_form tx in_form = (both_true _ (list_all is_set_in_form tx.namespaces) in_form).1
 
 -- ---- when a candidate is open
 
 -- three tests that all pass
 pub record HasNoContentFault (channel : Configuration) (used : Bool) (tx : Tx) : Type 0 where
   pub is_new : used ≡ false
-  pub is_sound : is_sound tx ≡ true
+  pub is_in_form : is_in_form tx ≡ true
   pub is_defined : is_all_defined channel.definitions tx ≡ true
 
-three_tests : (used sound defined : Bool) → cond (not used) (cond sound (cond defined None (Some InvalidChaincode)) (Some BadRwset)) (Some DuplicateTxId) ≡ None → (used ≡ false) × (sound ≡ true) × (defined ≡ true)
+three_tests : (used in_form defined : Bool) → cond (not used) (cond in_form (cond defined None (Some InvalidChaincode)) (Some BadRwset)) (Some DuplicateTxId) ≡ None → (used ≡ false) × (in_form ≡ true) × (defined ≡ true)
 three_tests false true true e = (refl, refl, refl)
 three_tests false true false e = absurd cc
 three_tests false false defined e = absurd cc
-three_tests true sound defined e = absurd cc
+three_tests true in_form defined e = absurd cc
 
 pub no_content_fault : (channel : Configuration) (used : Bool) (tx : Tx) → content_fault channel used tx ≡ None → HasNoContentFault channel used tx
 no_content_fault channel used tx e =
-    let tests = three_tests used (is_sound tx) (is_all_defined channel.definitions tx) e in
-    record { is_new = tests.0; is_sound = tests.1; is_defined = tests.2 }
+    let tests = three_tests used (is_in_form tx) (is_all_defined channel.definitions tx) e in
+    record { is_new = tests.0; is_in_form = tests.1; is_defined = tests.2 }
 
 -- an open candidate is its transaction with its signers, without a fault
 pub record IsOpenOf (channel : Configuration) (accepts : Accepts) (used : Bool) (tx t : Tx) (ss : List Identity) : Type 0 where

@@ -3,7 +3,7 @@ use Rattle.std.proofs.Common.{◌≡◌, ◌⊎◌, ℕ, zero, suc, ◌<◌, ◌
 use Rattle.std.proofs.lemmas.Bool.Decides.{leb_tells}
 use Rattle.std.specs.Prelude.{if◌then◌else◌, option_map}
 use Rattle.std.specs.FinMap.{get}
-use Rattle.block.specs.declared.transaction.Version.{Version}
+use Rattle.transaction.specs.declared.transaction.Version.{Version}
 use Rattle.rules.specs.declared.row.Row.{Row}
 use Rattle.rules.specs.State.{StateKey, State, is_among}
 use Rattle.rules.specs.Effect.{effect_at}

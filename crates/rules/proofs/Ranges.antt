@@ -8,10 +8,10 @@ use Rattle.std.specs.Cmp.Lexicographic.{pointwise_decides, bytes_decides, nat_li
 use Rattle.std.specs.Cmp.{tied_itself}
 use Rattle.std.specs.FinMap.{entries, entries_sorted, get-entries, find, is_sorted, slice_cmp-IsAntisymmetric, nat_cmp-IsAntisymmetric}
 use Rattle.std.specs.FinMap.Entries.{below_all, same_entries}
-use Rattle.block.specs.declared.transaction.Version.{Version}
-use Rattle.block.specs.declared.transaction.Range.{Range}
-use Rattle.block.specs.Same.{is_same_version}
-use Rattle.policy.specs.Policies.{bytes_cmp}
+use Rattle.transaction.specs.declared.transaction.Version.{Version}
+use Rattle.transaction.specs.declared.transaction.Range.{Range}
+use Rattle.transaction.specs.Same.{is_same_version}
+use Rattle.values.specs.Order.{bytes_cmp}
 use Rattle.rules.specs.declared.row.Row.{Row}
 use Rattle.rules.specs.State.{StateKey, State, key_cmp, version_in}
 use Rattle.rules.specs.Ranges.{is_compared, versions_now, results_of, is_same_result, range_holds}

@@ -186,3 +186,13 @@ pub reads_decide : (j : Job) (i : ℕ) (b c : Board) → i < length j.candidates
     → ((h : ℕ) → ReadsDepend j i h → IsSome (known b.flags h)) → MachineStep j (Reads i) b c → IsSome (known c.flags i)
 reads_decide j i b c inside lt some all (inl s) = reads_decide-by_cell j i (known b.flags i) (known b.endorsements i) b c refl some lt all s.1
 reads_decide j i b c inside lt some all (inr s) = absurd (s.0 inside)
+
+-- where the endorsement is no, whatever else is known
+pub reads_decide-refused : (j : Job) (i : ℕ) (b c : Board) → i < length j.candidates → i < length b.flags → known b.endorsements i ≡ Some false
+    → MachineStep j (Reads i) b c → IsSome (known c.flags i)
+reads_decide-refused j i b c inside lt refused (inl s) = by (known b.flags i) refl (subst (λ (o : Option Bool). ReadsStep j i (known b.flags i) o b c) refused s.1)
+  where
+    by : (cell : Option Flag) → known b.flags i ≡ cell → ReadsStep j i cell (Some false) b c → IsSome (known c.flags i)
+    by (Some f) is e = rw e (ap is_some is)
+    by None is e = rw e (known-now b.flags i (flag_by (candidate_at j i) false Good) lt)
+reads_decide-refused j i b c inside lt refused (inr s) = absurd (s.0 inside)

@@ -5,10 +5,10 @@ use Rattle.std.proofs.lemmas.List.Folds.{list_any-append}
 use Rattle.rules.specs.State.{StateKey, is_same_key, is_among}
 use Rattle.rules.specs.Job.{Job, candidate_at, touched_by}
 use Rattle.rules.specs.Assignment.{Assignment, touched_under}
-use Rattle.rules.proofs.Booleans.{or-true, and-false}
+use Rattle.rules.proofs.Booleans.{or-swap, or-true, and-false}
 
-among_either : (k : StateKey) (t u : List StateKey) (b : Bool) → is_among k (cond b (t ++ u) u) ≡ ((b && is_among k t) || is_among k u)
-among_either k t u true = list_any-append (is_same_key k) t u
+among_either : (k : StateKey) (t u : List StateKey) (b : Bool) → is_among k (cond b (u ++ t) u) ≡ ((b && is_among k t) || is_among k u)
+among_either k t u true = list_any-append (is_same_key k) u t ∙ or-swap (is_among k u) (is_among k t)
 among_either k t u false = refl
 
 -- by one candidate more

@@ -5,9 +5,9 @@ use Rattle.block.specs.declared.block.Block.{Block}
 use Rattle.block.specs.declared.block.Header.{Header}
 use Rattle.block.specs.declared.block.Previous.{Previous}
 use Rattle.block.specs.declared.block.Previous.TheVariants.{Empty, Hash}
-use Rattle.block.specs.declared.transaction.Tx.{Tx}
+use Rattle.transaction.specs.declared.transaction.Tx.{Tx}
 use Rattle.block.specs.Grammar.{header_bytes, txs_bytes, Spells}
-use Rattle.block.specs.TxReading.{name_at, body_at, tx_at, whole_tx_at}
+use Rattle.transaction.specs.Reading.{name_at, body_at, tx_at, whole_tx_at}
 use Rattle.header_hash.specs.Hashes.{header_hash_of, data_hash_of}
 use Rattle.policy_eval.specs.Accepts.{Accepts}
 use Rattle.channel.specs.Configuration.{Configuration}

@@ -1,6 +1,6 @@
 -- Verdicts where each earlier candidate is called yes or no.
 use Rattle.std.specs.Prelude.{ℕ, zero, suc, List, [], ◌++◌, Bool, if◌then◌else◌, Option}
-use Rattle.block.specs.declared.transaction.Version.{Version}
+use Rattle.transaction.specs.declared.transaction.Version.{Version}
 use Rattle.rules.specs.declared.read_verdict.ReadVerdict.{ReadVerdict}
 use Rattle.rules.specs.State.{StateKey, State, version_in}
 use Rattle.rules.specs.Job.{Job, candidate_at, touched_by, endorsement, reads, state_after}
@@ -11,7 +11,7 @@ Assignment = ℕ → Bool
 -- the keys whose policy is written by the candidates before i that are called yes: those that pass the endorsement rule
 unfoldable pub touched_under : Job → Assignment → ℕ → List StateKey
 touched_under j called zero = []
-touched_under j called (suc i) = if called i then touched_by (candidate_at j i) ++ touched_under j called i else touched_under j called i
+touched_under j called (suc i) = if called i then touched_under j called i ++ touched_by (candidate_at j i) else touched_under j called i
 
 -- the state once the candidates before i that are called yes, the valid ones, are applied in order
 unfoldable pub state_under : Job → Assignment → ℕ → State

@@ -3,9 +3,9 @@ use Rattle.std.specs.Prelude.{ℕ, List, [], ◌∷◌, ◌++◌, Bool, not, ◌
 use Rattle.std.specs.Str.{bytes_eq}
 use Rattle.std.specs.List.{list_any, list_all}
 use Rattle.std.specs.FinMap.{get, contains_key}
-use Rattle.block.specs.declared.identity.Identity.{Identity}
-use Rattle.block.specs.declared.transaction.Tx.{Tx}
-use Rattle.block.specs.TxGrammar.{identity_bytes, signed_bytes}
+use Rattle.transaction.specs.declared.identity.Identity.{Identity}
+use Rattle.transaction.specs.declared.transaction.Tx.{Tx}
+use Rattle.transaction.specs.Grammar.{identity_bytes, signed_bytes}
 use Rattle.header_hash.specs.Hashes.{tx_id_of}
 use Rattle.policy.specs.Policies.{Policies}
 use Rattle.policy_eval.specs.Accepts.{Accepts}
@@ -14,7 +14,7 @@ use Rattle.channel.specs.Configuration.{Configuration}
 use Rattle.rules.specs.declared.flag.Flag.{Flag}
 use Rattle.rules.specs.declared.flag.Flag.TheVariants.{BadPayload, TargetChainNotFound, BadCreatorSignature, BadProposalTxId, DuplicateTxId, BadRwset, InvalidChaincode}
 use Rattle.rules.specs.Effect.{written_keys}
-use Rattle.rules.specs.ReadWriteSets.{is_sound}
+use Rattle.rules.specs.ReadWriteSets.{is_in_form}
 use Rattle.rules.specs.FirstUses.{FirstUses}
 
 -- flagged before the rules on the state, with one of the flags of `candidate_of`, or open with its signers
@@ -47,7 +47,7 @@ is_all_defined definitions tx = is_defined definitions tx.chaincode && list_all 
 abbrev pub content_fault : Configuration → Bool → Tx → Option Flag
 content_fault channel used tx = first_failed (
     (not used, DuplicateTxId)
-    ∷ (is_sound tx, BadRwset)
+    ∷ (is_in_form tx, BadRwset)
     ∷ (is_all_defined channel.definitions tx, InvalidChaincode)
     ∷ [])
 

@@ -1,8 +1,8 @@
 -- What a linked block makes of a world.
 use Rattle.std.specs.Prelude.{ℕ, suc, List, [], ◌∷◌, ◌++◌, length, map, Option, option_to_list}
 use Rattle.block.specs.declared.block.Block.{Block}
-use Rattle.block.specs.declared.transaction.Tx.{Tx}
-use Rattle.block.specs.Decoded.{tx_of}
+use Rattle.transaction.specs.declared.transaction.Tx.{Tx}
+use Rattle.transaction.specs.Decoded.{tx_of}
 use Rattle.header_hash.specs.Hashes.{header_hash_of}
 use Rattle.policy_eval.specs.Accepts.{Accepts}
 use Rattle.channel.specs.Configuration.{Configuration}

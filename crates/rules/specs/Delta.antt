@@ -1,6 +1,6 @@
 -- The change of one block as plain data.
-use Rattle.std.specs.Prelude.{◌≡◌, ℕ, List, [], ◌∷◌, ◌++◌, length, map, Option}
-use Rattle.block.specs.declared.transaction.Tx.{Tx}
+use Rattle.std.specs.Prelude.{◌≡◌, ℕ, List, [], ◌∷◌, ◌++◌, map, Option}
+use Rattle.transaction.specs.declared.transaction.Tx.{Tx}
 use Rattle.policy_eval.specs.Accepts.{Accepts}
 use Rattle.channel.specs.Configuration.{Configuration}
 use Rattle.rules.specs.declared.committed.CommittedBlock.{CommittedBlock}
@@ -14,10 +14,8 @@ use Rattle.rules.specs.declared.row.Row.{Row}
 use Rattle.rules.specs.State.{StateKey, ChangeOf, with_changes}
 use Rattle.rules.specs.History.{with_entries}
 use Rattle.rules.specs.FirstUses.{with_uses}
-use Rattle.rules.specs.Candidate.{used_id}
-use Rattle.rules.specs.Fold.{changes_to, entries_to}
 use Rattle.rules.specs.World.{World}
-use Rattle.rules.specs.Commit.{job_of, uses_from}
+use Rattle.rules.specs.Commit.{committed}
 
 abbrev pub changes_in : List Change → List (ChangeOf Row)
 changes_in cs = map (λ c. ((c.namespace, c.key), c.row)) cs
@@ -37,11 +35,10 @@ applied w d = record {
   blocks = w.blocks ++ d.block ∷ [];
 }
 
--- which delta a block has: of these transactions, over this world, and kept so
+-- A delta of the block of these transactions, over this world and kept so: what it makes of the world, part by part, is
+-- what the block makes of it.
 pub record IsDelta (channel : Configuration) (accepts : Accepts) (w : World) (txs : List (Option Tx)) (kept : CommittedBlock) (d : Delta) : Type 0 where
-  -- of the valid transactions, in order
-  pub changes : changes_in d.changes ≡ changes_to (job_of channel accepts w txs) (length (job_of channel accepts w txs).candidates)
-  pub entries : entries_in d.entries ≡ entries_to (job_of channel accepts w txs) (length (job_of channel accepts w txs).candidates)
-  -- of all, valid or not
-  pub uses : uses_in d.uses ≡ uses_from (job_of channel accepts w txs) 0 (map (used_id channel accepts) txs)
+  pub state : (applied w d).state ≡ (committed channel accepts w txs kept).state
+  pub history : (applied w d).history ≡ (committed channel accepts w txs kept).history
+  pub first_uses : (applied w d).first_uses ≡ (committed channel accepts w txs kept).first_uses
   pub block : d.block ≡ kept

@@ -2,7 +2,7 @@
 use Rattle.std.specs.Prelude.{◌≡◌, ℕ, ◌<◌, List, Bool, true, false, ◌&&◌, ◌||◌}
 use Rattle.std.specs.Str.{bytes_eq}
 use Rattle.std.specs.List.{list_any}
-use Rattle.block.specs.declared.transaction.NsSet.{NsSet}
+use Rattle.transaction.specs.declared.transaction.NsSet.{NsSet}
 use Rattle.rules.specs.State.{StateKey, is_among}
 use Rattle.rules.specs.Ranges.{is_compared}
 use Rattle.rules.specs.Candidate.{Candidate, flagged, opened}

@@ -3,11 +3,11 @@
 use Rattle.std.specs.Prelude.{ℕ, List, ◌++◌, map, find, flat_map, Option, Some, None, option_map, option_and_then}
 use Rattle.std.specs.Str.{bytes_eq}
 use Rattle.std.specs.FinMap.{get}
-use Rattle.block.specs.declared.transaction.Version.{Version}
-use Rattle.block.specs.declared.transaction.Write.{Write}
-use Rattle.block.specs.declared.transaction.PolicyWrite.{PolicyWrite}
-use Rattle.block.specs.declared.transaction.NsSet.{NsSet}
-use Rattle.block.specs.declared.transaction.Tx.{Tx}
+use Rattle.transaction.specs.declared.transaction.Version.{Version}
+use Rattle.transaction.specs.declared.transaction.Write.{Write}
+use Rattle.transaction.specs.declared.transaction.PolicyWrite.{PolicyWrite}
+use Rattle.transaction.specs.declared.transaction.NsSet.{NsSet}
+use Rattle.transaction.specs.declared.transaction.Tx.{Tx}
 use Rattle.policy.specs.Tree.{Tree}
 use Rattle.policy.specs.Meaning.{policy_of}
 use Rattle.rules.specs.declared.row.Row.{Row}

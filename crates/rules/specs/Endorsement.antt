@@ -4,8 +4,8 @@ use Rattle.std.specs.Prelude.{ℕ, List, Bool, false, not, ◌&&◌, ◌||◌, O
 use Rattle.std.specs.Str.{bytes_eq}
 use Rattle.std.specs.List.{list_any, list_all}
 use Rattle.std.specs.FinMap.{get}
-use Rattle.block.specs.declared.identity.Identity.{Identity}
-use Rattle.block.specs.declared.transaction.Tx.{Tx}
+use Rattle.transaction.specs.declared.identity.Identity.{Identity}
+use Rattle.transaction.specs.declared.transaction.Tx.{Tx}
 use Rattle.policy.specs.Tree.{Tree}
 use Rattle.policy.specs.Policies.{Policies}
 use Rattle.policy_eval.specs.Evaluating.{is_satisfied}

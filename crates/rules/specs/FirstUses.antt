@@ -1,7 +1,7 @@
 -- Where each transaction id was used first.
 use Rattle.std.specs.Prelude.{ℕ, List, [], ◌∷◌, if◌then◌else◌}
 use Rattle.std.specs.FinMap.{FinMap, contains_key, insert}
-use Rattle.policy.specs.Policies.{bytes_cmp}
+use Rattle.values.specs.Order.{bytes_cmp}
 use Rattle.rules.specs.declared.first_use.FirstUse.{FirstUse}
 
 abbrev pub FirstUses : Type 0

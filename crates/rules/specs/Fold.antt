@@ -24,7 +24,7 @@ flag_in j i r = flag_by (candidate_at j i) (endorsed_in j i r) (reads j i r.stat
 abbrev pub step : Job → ℕ → Running → Running
 step j i r = record {
   state = if is_valid (flag_in j i r) then state_after j i r.state else r.state;
-  touched = if endorsed_in j i r then touched_by (candidate_at j i) ++ r.touched else r.touched;
+  touched = if endorsed_in j i r then r.touched ++ touched_by (candidate_at j i) else r.touched;
 }
 
 -- what runs along before candidate i is taken

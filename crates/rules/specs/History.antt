@@ -2,8 +2,8 @@
 -- Policy writes alone aren't in it (our own).
 use Rattle.std.specs.Prelude.{List, [], ◌∷◌, map, flat_map, unwrap_or}
 use Rattle.std.specs.FinMap.{get, insert}
-use Rattle.block.specs.declared.transaction.Version.{Version}
-use Rattle.block.specs.declared.transaction.Tx.{Tx}
+use Rattle.transaction.specs.declared.transaction.Version.{Version}
+use Rattle.transaction.specs.declared.transaction.Tx.{Tx}
 use Rattle.rules.specs.declared.history.HistoryEntry.{HistoryEntry}
 use Rattle.rules.specs.State.{StateKey, KeyMap}
 

@@ -1,6 +1,6 @@
 -- The candidates of one block over the state before it.
 use Rattle.std.specs.Prelude.{ℕ, List, [], Bool, true, false, slice_index_or}
-use Rattle.block.specs.declared.transaction.Version.{Version}
+use Rattle.transaction.specs.declared.transaction.Version.{Version}
 use Rattle.policy.specs.Policies.{Policies}
 use Rattle.rules.specs.declared.flag.Flag.{Flag}
 use Rattle.rules.specs.declared.flag.Flag.TheVariants.{Valid, BadPayload, EndorsementPolicyFailure, MvccReadConflict, PhantomReadConflict}

@@ -12,8 +12,9 @@ pub mod Job
 pub mod Fold
 pub mod World
 pub mod Linked
-pub mod Delta
 pub mod Commit
+pub mod Delta
+pub mod Listings
 pub mod Step
 pub mod Chain
 pub mod Answers

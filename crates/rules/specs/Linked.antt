@@ -1,11 +1,12 @@
 -- Which block is the next one of a world, and why another isn't.
-use Rattle.std.specs.Prelude.{◌≡◌, ◌≢◌, ℕ, List}
+use Rattle.std.specs.Prelude.{◌≡◌, ◌≢◌, ℕ, List, length}
 use Rattle.block.specs.declared.block.Block.{Block}
 use Rattle.block.specs.Grammar.{Spells}
 use Rattle.block.specs.Faults.{HasFault}
-use Rattle.header_hash.specs.Hashes.{data_hash_of}
+use Rattle.header_hash.specs.Hashes.{header_hash_of, data_hash_of}
 use Rattle.rules.specs.declared.answer.Refused.{Refused}
 use Rattle.rules.specs.declared.answer.Refused.TheVariants.{Malformed, WrongNumber, WrongPrevious, WrongDataHash, Memory}
+use Rattle.rules.specs.declared.delta.Delta.{Delta}
 use Rattle.rules.specs.World.{World, height_of, last_header_hash, previous_from}
 
 abbrev pub HasNumber : World → Block → Type 0
@@ -39,3 +40,14 @@ IsRefused w bytes WrongPrevious = (b : Block) × Spells bytes b × IsUnlinked w 
 IsRefused w bytes WrongDataHash = (b : Block) × Spells bytes b × IsUnlinked w b WrongDataHash
 -- want of memory may come in the place of any answer
 IsRefused w bytes Memory = Unit {0}
+
+-- ---- deltas
+
+-- The bytes that the delta keeps spell a block that is linked to the world, and it has that block's header hash and one
+-- flag for each of its transactions.
+pub record IsLinkedDelta (w : World) (d : Delta) : Type 0 where
+  pub block : Block
+  pub spelled : Spells d.block.bytes block
+  pub linked : IsLinked w block
+  pub header_hash : d.block.header_hash ≡ header_hash_of block.header
+  pub flags : length d.block.flags ≡ length block.txs

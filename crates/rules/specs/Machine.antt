@@ -1,5 +1,6 @@
 -- The machine that finds the verdicts of a job in any order.
-use Rattle.std.specs.Prelude.{◌≡◌, ℕ, ◌<◌, List, [], ◌∷◌, length, map, Bool, true, false, Option, Some, None, option_map, ◌⊎◌, slice_index_or, slice_set}
+use Rattle.std.specs.Prelude.{◌≡◌, ℕ, ◌<◌, List, [], ◌∷◌, ◌++◌, length, map, Bool, true, false, Option, Some, None, option_map, ◌⊎◌, slice_index_or, slice_set}
+use Rattle.std.specs.List.{range_with_len}
 use Rattle.rules.specs.declared.flag.Flag.{Flag}
 use Rattle.rules.specs.declared.read_verdict.ReadVerdict.{ReadVerdict}
 use Rattle.rules.specs.declared.read_verdict.ReadVerdict.TheVariants.{Good}
@@ -90,3 +91,14 @@ Run j old (e ∷ es) new = (mid : Board) × MachineStep j e old mid × Run j mid
 pub record ShowsFold (j : Job) (b : Board) : Type 0 where
   pub endorsements : (i : ℕ) (v : Bool) → known b.endorsements i ≡ Some v → v ≡ endorsed j i
   pub flags : (i : ℕ) (f : Flag) → known b.flags i ≡ Some f → f ≡ flag j i
+
+-- every cell is known, as the fold's verdict
+abbrev pub full_board : Job → Board
+full_board j = record {
+  endorsements = map (λ i. Some (endorsed j i)) (range_with_len 0 (length j.candidates));
+  flags = map (λ i. Some (flag j i)) (range_with_len 0 (length j.candidates));
+}
+
+-- all endorsement checks and then all read checks, each in the order of the candidates
+abbrev pub checks_in_order : Job → List Event
+checks_in_order j = map Endorse (range_with_len 0 (length j.candidates)) ++ map Reads (range_with_len 0 (length j.candidates))

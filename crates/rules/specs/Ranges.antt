@@ -6,11 +6,11 @@ use Rattle.std.specs.List.{last_or}
 use Rattle.std.specs.Cmp.Lexicographic.{pointwise}
 use Rattle.std.specs.Ordering.{is_lt, is_le}
 use Rattle.std.specs.FinMap.{entries}
-use Rattle.block.specs.declared.transaction.Range.{Range}
-use Rattle.block.specs.declared.transaction.KeyVersion.{KeyVersion}
-use Rattle.block.specs.declared.transaction.Version.{Version}
-use Rattle.block.specs.Same.{is_same_version}
-use Rattle.policy.specs.Policies.{bytes_cmp}
+use Rattle.transaction.specs.declared.transaction.Range.{Range}
+use Rattle.transaction.specs.declared.transaction.KeyVersion.{KeyVersion}
+use Rattle.transaction.specs.declared.transaction.Version.{Version}
+use Rattle.transaction.specs.Same.{is_same_version}
+use Rattle.values.specs.Order.{bytes_cmp}
 use Rattle.rules.specs.declared.row.Row.{Row}
 use Rattle.rules.specs.State.{StateKey, State}
 

@@ -4,10 +4,10 @@
 use Rattle.std.specs.Prelude.{ℕ, List, [], ◌∷◌, Bool, if◌then◌else◌, map}
 use Rattle.std.specs.List.{list_all}
 use Rattle.std.specs.Option.{option_eq}
-use Rattle.block.specs.declared.transaction.Read.{Read}
-use Rattle.block.specs.declared.transaction.NsSet.{NsSet}
-use Rattle.block.specs.declared.transaction.Tx.{Tx}
-use Rattle.block.specs.Same.{is_same_version}
+use Rattle.transaction.specs.declared.transaction.Read.{Read}
+use Rattle.transaction.specs.declared.transaction.NsSet.{NsSet}
+use Rattle.transaction.specs.declared.transaction.Tx.{Tx}
+use Rattle.transaction.specs.Same.{is_same_version}
 use Rattle.rules.specs.declared.read_verdict.ReadVerdict.{ReadVerdict}
 use Rattle.rules.specs.declared.read_verdict.ReadVerdict.TheVariants.{Good, Stale, Phantom}
 use Rattle.rules.specs.State.{State, version_in}

@@ -5,9 +5,9 @@ use Rattle.std.specs.Ordering.{then_cmp, on}
 use Rattle.std.specs.List.{list_any}
 use Rattle.std.specs.Str.{bytes_eq}
 use Rattle.std.specs.FinMap.{FinMap, get, insert, remove}
-use Rattle.block.specs.declared.transaction.Version.{Version}
+use Rattle.transaction.specs.declared.transaction.Version.{Version}
 use Rattle.policy.specs.Tree.{Tree}
-use Rattle.policy.specs.Policies.{bytes_cmp}
+use Rattle.values.specs.Order.{bytes_cmp}
 use Rattle.rules.specs.declared.row.Row.{Row}
 
 -- a namespace, and a key in it

@@ -5,7 +5,7 @@ use crate::flag::Flag;
 use block::BlockFault;
 use std::alloc::AllocError;
 use thiserror::Error;
-use values::Items;
+use values::{Hash, Items};
 
 /// What is answered to a block that is accepted.
 #[derive(Debug, Drop)]
@@ -13,7 +13,7 @@ pub struct Accepted {
     /// The block's number: the height before it.
     pub number: u64,
     /// SHA-256 of the header's DER bytes.
-    pub header_hash: [u8; 32],
+    pub header_hash: Hash,
     /// One for each transaction, in order.
     pub flags: Items<Flag>,
 }

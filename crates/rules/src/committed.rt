@@ -1,5 +1,5 @@
 use crate::flag::Flag;
-use values::{Bytes, Items};
+use values::{Bytes, Hash, Items};
 
 /// An accepted block as a ledger keeps it.
 #[derive(Debug, Drop)]
@@ -7,7 +7,7 @@ pub struct CommittedBlock {
     /// The bytes that were handed in.
     pub bytes: Bytes,
     /// SHA-256 of the header's DER bytes.
-    pub header_hash: [u8; 32],
+    pub header_hash: Hash,
     /// One for each transaction, in order.
     pub flags: Items<Flag>,
 }

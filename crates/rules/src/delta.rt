@@ -2,7 +2,7 @@ use crate::committed::CommittedBlock;
 use crate::first_use::FirstUse;
 use crate::history::HistoryEntry;
 use crate::row::Row;
-use block::ID_BYTES;
+use transaction::TxId;
 use values::{Items, Key, Name};
 
 /// What a key has from now on, or none where it is removed.
@@ -24,7 +24,7 @@ pub struct NewEntry {
 /// A use of an id, which counts where the id has none yet.
 #[derive(Clone, Copy, Debug)]
 pub struct NewUse {
-    pub id: [u8; ID_BYTES],
+    pub id: TxId,
     pub first_use: FirstUse,
 }
 

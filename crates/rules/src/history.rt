@@ -1,4 +1,4 @@
-use block::{ID_BYTES, Version};
+use transaction::{TxId, Version};
 use values::Bytes;
 
 /// A value write or a delete of a key, by a valid transaction.
@@ -7,7 +7,7 @@ pub struct HistoryEntry {
     /// The place of the transaction.
     pub version: Version,
     /// The transaction's id.
-    pub id: [u8; ID_BYTES],
+    pub id: TxId,
     /// The value, or none where the key was deleted.
     pub value: Option<Bytes>,
 }

@@ -1,6 +1,9 @@
-ghost use Rattle.std.specs.Prelude.{◌≡◌, ◌≢◌, ◌<◌, ℕ, suc, Bool, List, Option, IsSome, Result, Err, slice_index};
-ghost use Rattle.block.specs.declared.transaction.Tx.{Tx};
-ghost use Rattle.block.specs.declared.transaction.Version.{Version};
+ghost use Rattle.std.specs.Prelude.{◌≡◌, ◌≢◌, ◌<◌, ℕ, suc, Bool, false, List, length, Option, Some, IsSome, Result, Err, slice_index};
+ghost use Rattle.block.specs.declared.block.Block.{Block};
+ghost use Rattle.transaction.specs.declared.transaction.Tx.{Tx};
+ghost use Rattle.transaction.specs.declared.transaction.Version.{Version};
+ghost use Rattle.block.specs.Grammar.{Spells};
+ghost use Rattle.header_hash.specs.Hashes.{header_hash_of};
 ghost use Rattle.policy_eval.specs.Accepts.{Accepts};
 ghost use Rattle.channel.specs.Configuration.{Configuration};
 ghost use Rattle.rules.specs.declared.answer.Accepted.{Accepted};
@@ -9,6 +12,8 @@ ghost use Rattle.rules.specs.declared.answer.Refused.TheVariants.{Memory};
 ghost use Rattle.rules.specs.declared.committed.CommittedBlock.{CommittedBlock};
 ghost use Rattle.rules.specs.declared.delta.Delta.{Delta};
 ghost use Rattle.rules.specs.declared.event.Event.{Event};
+ghost use Rattle.rules.specs.declared.event.Event.TheVariants.{Endorse, Reads};
+ghost use Rattle.rules.specs.declared.flag.Flag.{Flag};
 ghost use Rattle.rules.specs.declared.flag.Flag.TheVariants.{Valid};
 ghost use Rattle.rules.specs.declared.read_verdict.ReadVerdict.{ReadVerdict};
 ghost use Rattle.rules.specs.Flags.{is_valid};
@@ -16,13 +21,15 @@ ghost use Rattle.rules.specs.State.{StateKey};
 ghost use Rattle.rules.specs.Job.{Job, reads};
 ghost use Rattle.rules.specs.Fold.{running, endorsed, flag, changes_to, entries_to};
 ghost use Rattle.rules.specs.World.{World};
-ghost use Rattle.rules.specs.Commit.{committed};
+ghost use Rattle.rules.specs.Commit.{txs_of, job_of, committed_of, committed};
+ghost use Rattle.rules.specs.Linked.{IsLinked, IsLinkedDelta};
 ghost use Rattle.rules.specs.Delta.{applied, IsDelta};
+ghost use Rattle.rules.specs.Listings.{IsListing};
 ghost use Rattle.rules.specs.Step.{Step};
 ghost use Rattle.rules.specs.Assignment.{state_under, endorsement_under, reads_under, version_under};
 ghost use Rattle.rules.specs.Depends.{EndorsementDepends, ReadsDepend, VersionDepends};
 ghost use Rattle.rules.specs.Sure.{Sure};
-ghost use Rattle.rules.specs.Machine.{Board, first_board, Run, ShowsFold};
+ghost use Rattle.rules.specs.Machine.{Board, known, first_board, full_board, checks_in_order, MachineStep, Run, ShowsFold};
 
 /// Laws, and no work: want of memory aside, a world and a string of bytes have one answer and one world after it.
 pub fn one_step()
@@ -49,11 +56,32 @@ pub fn invalid_transactions_change_nothing()
     ensures entries { (j : Job) (i : ℕ) → flag j i ≢ Valid → entries_to j (suc i) ≡ entries_to j i }
 {}
 
-/// A law, and no work: the world after a block is the world before it with the block's delta applied.
+/// A law, and no work: the world after a block is the world before it with a delta of the block applied, and whatever
+/// makes that world is a delta of the block.
 pub fn a_block_is_its_delta()
-    ensures { (channel : Configuration) (accepts : Accepts) (w : World) (txs : List (Option Tx)) (kept : CommittedBlock) (d : Delta)
+    ensures world { (channel : Configuration) (accepts : Accepts) (w : World) (txs : List (Option Tx)) (kept : CommittedBlock) (d : Delta)
         → IsDelta channel accepts w txs kept d → committed channel accepts w txs kept ≡ applied w d }
+    ensures delta { (channel : Configuration) (accepts : Accepts) (w : World) (txs : List (Option Tx)) (kept : CommittedBlock) (d : Delta)
+        → committed channel accepts w txs kept ≡ applied w d → IsDelta channel accepts w txs kept d }
 {}
+
+/// A law, and no work: single changes or net changes, all ids or the new ones alone, each is a delta of the block.
+pub fn what_a_block_changes_is_its_delta()
+    ensures { (channel : Configuration) (accepts : Accepts) (w : World) (txs : List (Option Tx)) (kept : CommittedBlock) (d : Delta)
+        → IsListing channel accepts w txs kept d → IsDelta channel accepts w txs kept d }
+{}
+
+/// A law, and no work: the delta of a linked block, kept with its bytes, is linked, and what the bytes of a linked delta
+/// spell is a linked block.
+pub fn linked_deltas_keep_linked_blocks()
+    ensures of_a_block { (channel : Configuration) (accepts : Accepts) (w : World) (bytes : List ℕ) (b : Block) (d : Delta)
+        → Spells bytes b → IsLinked w b → IsDelta channel accepts w (txs_of b) (committed_of bytes b (job_of channel accepts w (txs_of b))) d
+        → IsLinkedDelta w d }
+    ensures its_block { (w : World) (b : Block) (d : Delta) → IsLinkedDelta w d → Spells d.block.bytes b
+        → IsLinked w b × (d.block.header_hash ≡ header_hash_of b.header) × (length d.block.flags ≡ length b.txs) }
+{
+    block::one_reading();
+}
 
 /// A law, and no work: where each earlier candidate is called what the fold finds it to be, the verdicts of
 /// the next one are the fold's.
@@ -77,4 +105,50 @@ pub fn known_dependencies_make_sure()
 /// candidates taken one by one.
 pub fn runs_show_the_fold()
     ensures { (j : Job) (events : List Event) (board : Board) → Run j (first_board j) events board → ShowsFold j board }
+{}
+
+/// A law, and no work: from every board, every list of checks leads to some board.
+pub fn runs_exist()
+    ensures { (j : Job) (old : Board) (events : List Event) → (new : Board) × Run j old events new }
+{}
+
+/// A law, and no work: a known cell keeps its value for ever.
+pub fn known_cells_stay()
+    ensures endorsements { (j : Job) (events : List Event) (old new : Board) (i : ℕ) (v : Bool)
+        → Run j old events new → known old.endorsements i ≡ Some v → known new.endorsements i ≡ Some v }
+    ensures flags { (j : Job) (events : List Event) (old new : Board) (i : ℕ) (f : Flag)
+        → Run j old events new → known old.flags i ≡ Some f → known new.flags i ≡ Some f }
+{}
+
+/// A law, and no work: whatever the checks and their order, two runs over one job never know different values of a cell.
+pub fn runs_agree()
+    ensures endorsements { (j : Job) (events others : List Event) (a b : Board) (i : ℕ) (v w : Bool)
+        → Run j (first_board j) events a → Run j (first_board j) others b
+        → known a.endorsements i ≡ Some v → known b.endorsements i ≡ Some w → v ≡ w }
+    ensures flags { (j : Job) (events others : List Event) (a b : Board) (i : ℕ) (f g : Flag)
+        → Run j (first_board j) events a → Run j (first_board j) others b
+        → known a.flags i ≡ Some f → known b.flags i ≡ Some g → f ≡ g }
+{}
+
+/// A law, and no work: a check decides its cell where all that it depends on is known. A read check needs the endorsement
+/// beside that, and where that is no, nothing else.
+pub fn checks_decide_what_is_known()
+    ensures endorsement { (j : Job) (events : List Event) (old new : Board) (i : ℕ)
+        → Run j (first_board j) events old → i < length j.candidates
+        → ((h : ℕ) → EndorsementDepends j i h → IsSome (known old.endorsements h))
+        → MachineStep j (Endorse i) old new → IsSome (known new.endorsements i) }
+    ensures reads { (j : Job) (events : List Event) (old new : Board) (i : ℕ)
+        → Run j (first_board j) events old → i < length j.candidates
+        → IsSome (known old.endorsements i) → ((h : ℕ) → ReadsDepend j i h → IsSome (known old.flags h))
+        → MachineStep j (Reads i) old new → IsSome (known new.flags i) }
+    ensures refused { (j : Job) (events : List Event) (old new : Board) (i : ℕ)
+        → Run j (first_board j) events old → i < length j.candidates → known old.endorsements i ≡ Some false
+        → MachineStep j (Reads i) old new → IsSome (known new.flags i) }
+{}
+
+/// A law, and no work: whatever was checked before, all endorsement checks and then all read checks, each in order, leave
+/// every cell known, as the verdict of the candidates taken one by one.
+pub fn checks_in_order_know_everything()
+    ensures { (j : Job) (events : List Event) (old new : Board)
+        → Run j (first_board j) events old → Run j old (checks_in_order j) new → new ≡ full_board j }
 {}

@@ -20,8 +20,10 @@ pub use first_use::FirstUse;
 pub use flag::Flag;
 pub use history::HistoryEntry;
 pub use laws::{
-    a_block_is_its_delta, invalid_transactions_change_nothing, known_dependencies_make_sure,
-    one_step, refused_bytes_change_nothing, runs_show_the_fold, the_fold_is_an_assignment,
+    a_block_is_its_delta, checks_decide_what_is_known, checks_in_order_know_everything,
+    invalid_transactions_change_nothing, known_cells_stay, known_dependencies_make_sure,
+    linked_deltas_keep_linked_blocks, one_step, refused_bytes_change_nothing, runs_agree,
+    runs_exist, runs_show_the_fold, the_fold_is_an_assignment, what_a_block_changes_is_its_delta,
 };
 pub use read_verdict::ReadVerdict;
 pub use row::Row;

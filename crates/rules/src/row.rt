@@ -1,5 +1,5 @@
-use block::Version;
 use policy::Policy;
+use transaction::Version;
 use values::Bytes;
 
 /// What the state has at a key.

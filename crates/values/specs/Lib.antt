@@ -1,3 +1,5 @@
+pub mod Hash
 pub mod Key
 pub mod Memory
 pub mod Name
+pub mod Order

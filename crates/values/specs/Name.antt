@@ -10,6 +10,10 @@ is_between first last b = nat_le first b && nat_le b last
 abbrev pub is_name_byte : ℕ → Bool
 is_name_byte b = is_between 48 57 b || is_between 65 90 b || is_between 97 122 b || b == 46 || b == 45 || b == 95
 
+-- the most bytes of a name
+abbrev pub max_name_bytes : ℕ
+max_name_bytes = 64
+
 -- 1 to 64 such bytes
 abbrev pub is_name : List ℕ → Bool
-is_name bytes = nat_le 1 (length bytes) && nat_le (length bytes) 64 && list_all is_name_byte bytes
+is_name bytes = nat_le 1 (length bytes) && nat_le (length bytes) max_name_bytes && list_all is_name_byte bytes

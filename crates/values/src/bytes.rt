@@ -1,6 +1,7 @@
 ghost use Rattle.std.specs.Prelude.{◌≡◌, ◌==◌, List, ℕ, length, IfOk};
 ghost use Rattle.std.specs.Str.{bytes_eq};
 
+use crate::lent::Slice;
 use std::alloc::{AllocError, Global};
 use std::marker::Model;
 
@@ -51,6 +52,12 @@ impl Bytes {
         ensures { result.now ≡ self.now }
     {
         self.bytes.as_slice()
+    }
+
+    pub fn lend(&self) -> Slice<'_>
+        ensures { result ≡ self.now }
+    {
+        Slice::new(self.bytes.as_slice())
     }
 
     pub fn len(&self) -> usize

@@ -2,6 +2,7 @@ ghost use Rattle.std.specs.Prelude.{◌≡◌, List, ℕ, IsTrue, IfOk};
 ghost use Rattle.std.specs.Str.{bytes_eq};
 ghost use Rattle.values.specs.Key.{is_key, is_bound};
 
+use crate::lent::KeyRef;
 use std::alloc::{AllocError, Global};
 use std::marker::Model;
 
@@ -53,6 +54,12 @@ impl Key {
         ensures key { IsTrue (is_key result.now) }
     {
         self.bytes.as_slice()
+    }
+
+    pub fn lend(&self) -> KeyRef<'_>
+        ensures { result ≡ self.now }
+    {
+        KeyRef::new(self.bytes.as_slice())
     }
 
     /// The same key, copied once.

@@ -3,6 +3,7 @@ ghost use Rattle.std.specs.List.{list_all};
 ghost use Rattle.std.specs.Str.{bytes_eq};
 ghost use Rattle.values.specs.Name.{is_name_byte, is_name};
 
+use crate::lent::NameRef;
 use std::alloc::{AllocError, Global};
 use std::marker::Model;
 
@@ -60,6 +61,12 @@ impl Name {
         ensures name { IsTrue (is_name result.now) }
     {
         self.bytes.as_slice()
+    }
+
+    pub fn lend(&self) -> NameRef<'_>
+        ensures { result ≡ self.now }
+    {
+        NameRef::new(self.bytes.as_slice())
     }
 
     /// The same name, copied once.

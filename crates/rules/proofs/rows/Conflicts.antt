@@ -2,8 +2,8 @@
 use Rattle.std.proofs.Common.{◌≡◌, ℕ, true, List, [], ◌∷◌, None, refl}
 use Rattle.std.specs.Prelude.{codes}
 use Rattle.rules.specs.declared.flag.Flag.TheVariants.{Valid, EndorsementPolicyFailure, MvccReadConflict, PhantomReadConflict}
-use Rattle.block.specs.declared.transaction.Read.{Read}
-use Rattle.block.specs.declared.transaction.Range.{Range}
+use Rattle.transaction.specs.declared.transaction.Read.{Read}
+use Rattle.transaction.specs.declared.transaction.Range.{Range}
 use Rattle.rules.specs.State.{with_changes, version_in}
 use Rattle.rules.specs.Candidate.{Candidate}
 use Rattle.rules.specs.Job.{Job}

@@ -9,8 +9,8 @@ use Rattle.rules.specs.Candidate.{Candidate}
 use Rattle.rules.specs.Job.{Job}
 use Rattle.rules.specs.Fold.{running, flags}
 use Rattle.std.specs.FinMap.{from_entries}
-use Rattle.policy.specs.Policies.{bytes_cmp}
-use Rattle.block.specs.declared.transaction.NsSet.{NsSet}
+use Rattle.values.specs.Order.{bytes_cmp}
+use Rattle.transaction.specs.declared.transaction.NsSet.{NsSet}
 use Rattle.rules.proofs.rows.Shared.{either_peer, both_peers, both, chaincode, p0, p1, a0, peer_of, both_of, k, absent, put, policy_removed, set_of, over, one, unendorsed, signed_by, judged, definitions_with, state_with, block_over, zz, dd, writes_k}
 use Rattle.rules.proofs.rows.Looks.{looks}
 

@@ -7,7 +7,7 @@ use Rattle.rules.specs.Commit.{job_of, committed}
 use Rattle.rules.specs.World.{World}
 use Rattle.rules.specs.Answers.{first_use_answer}
 use Rattle.rules.specs.declared.flag.Flag.TheVariants.{Valid, EndorsementPolicyFailure, MvccReadConflict, BadRwset, InvalidChaincode, DuplicateTxId, TargetChainNotFound, BadPayload}
-use Rattle.block.specs.declared.transaction.Tx.{Tx}
+use Rattle.transaction.specs.declared.transaction.Tx.{Tx}
 use Rattle.rules.specs.State.{with_changes, version_in}
 use Rattle.rules.specs.Job.{Job}
 use Rattle.rules.specs.Fold.{running, flags}

@@ -1,13 +1,13 @@
 -- Policies of keys.
 use Rattle.std.proofs.Common.{◌≡◌, [], ◌∷◌, Some, None, refl}
 use Rattle.std.specs.Prelude.{codes, option_map}
-use Rattle.std.specs.FinMap.{get}
+use Rattle.std.specs.FinMap.{get, from_entries}
 use Rattle.rules.specs.declared.flag.Flag.TheVariants.{Valid, EndorsementPolicyFailure, MvccReadConflict, BadRwset}
-use Rattle.block.specs.declared.transaction.Tx.{Tx}
-use Rattle.rules.specs.State.{with_changes, version_in, policy_in}
+use Rattle.transaction.specs.declared.transaction.Tx.{Tx}
+use Rattle.rules.specs.State.{key_cmp, with_changes, version_in, policy_in}
 use Rattle.rules.specs.Job.{Job}
 use Rattle.rules.specs.Fold.{running, flags, final_state}
-use Rattle.rules.proofs.rows.Shared.{both_peers, chaincode, k, at, absent, put, deleted, policy_put, policy_removed, set_of, over, tx, writing, writing_policy, one, both, unendorsed, judged, guarded_state, block_on, block_over, writes_k}
+use Rattle.rules.proofs.rows.Shared.{both_peers, peer_of, definitions_with, chaincode, k, at, absent, put, deleted, policy_put, policy_removed, set_of, over, tx, writing, writing_policy, one, both, unendorsed, judged, guarded_state, block_on, block_over, writes_k}
 use Rattle.rules.proofs.rows.Looks.{looks}
 
 abbrev deletes_k : Tx
@@ -152,3 +152,19 @@ removed_policy_is_gone = simp looks refl
 pub removed_policy_governs_no_more : flags (block_on 2 (final_state removes_the_policy) (one writes_k ∷ [])) ≡ Valid ∷ []
 unfolding running with_changes
 removed_policy_governs_no_more = simp looks refl
+
+-- ---- a policy write alone is a write
+
+-- k wants a peer of the first organization, and its chaincode wants both
+abbrev open_key : Job
+open_key = record {
+  number = 1;
+  state = from_entries {R = key_cmp} (((chaincode, k), record { value = codes "v"; version = at 0 0; policy = Some (peer_of (codes "Org1")) }) ∷ []);
+  definitions = definitions_with both_peers;
+  candidates = one (writing_policy (policy_removed k)) ∷ one (over []) ∷ [];
+}
+
+-- so the chaincode isn't asked, as it is where nothing is written
+pub policy_write_is_a_write_of_the_named_chaincode : flags open_key ≡ Valid ∷ EndorsementPolicyFailure ∷ []
+unfolding running with_changes
+policy_write_is_a_write_of_the_named_chaincode = simp looks refl

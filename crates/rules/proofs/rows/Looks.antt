@@ -6,7 +6,7 @@ use Rattle.std.specs.FinMap.{from_entries, find, get, insert, remove, empty, ent
 use Rattle.std.proofs.lemmas.List.{nil_from_length}
 use Rattle.header_hash.specs.Hashes.{tx_id_of}
 use Rattle.policy.specs.Tree.{Tree}
-use Rattle.policy.specs.Policies.{bytes_cmp}
+use Rattle.values.specs.Order.{bytes_cmp}
 use Rattle.rules.specs.declared.row.Row.{Row}
 use Rattle.rules.specs.declared.first_use.FirstUse.{FirstUse}
 use Rattle.rules.specs.declared.history.HistoryEntry.{HistoryEntry}

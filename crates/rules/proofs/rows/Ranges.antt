@@ -2,13 +2,13 @@
 use Rattle.std.proofs.Common.{◌≡◌, ℕ, Bool, true, false, List, [], ◌∷◌, refl}
 use Rattle.std.specs.Prelude.{codes}
 use Rattle.rules.specs.declared.flag.Flag.TheVariants.{Valid, EndorsementPolicyFailure, PhantomReadConflict}
-use Rattle.block.specs.declared.transaction.Range.{Range}
-use Rattle.block.specs.declared.transaction.Tx.{Tx}
+use Rattle.transaction.specs.declared.transaction.Range.{Range}
+use Rattle.transaction.specs.declared.transaction.Tx.{Tx}
 use Rattle.rules.specs.State.{with_changes}
 use Rattle.rules.specs.Candidate.{Candidate}
 use Rattle.rules.specs.Job.{Job}
 use Rattle.rules.specs.Fold.{running, flags}
-use Rattle.block.specs.declared.transaction.KeyVersion.{KeyVersion}
+use Rattle.transaction.specs.declared.transaction.KeyVersion.{KeyVersion}
 use Rattle.rules.proofs.rows.Shared.{at, put, deleted, scanning, writing, one, unendorsed, block_over, found}
 use Rattle.rules.proofs.rows.Looks.{scans}
 

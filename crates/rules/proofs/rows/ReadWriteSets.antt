@@ -2,13 +2,13 @@
 use Rattle.std.proofs.Common.{◌≡◌, ℕ, true, List, [], ◌∷◌, Some, refl}
 use Rattle.std.specs.Prelude.{codes}
 use Rattle.rules.specs.declared.flag.Flag.TheVariants.{Valid, BadRwset, InvalidChaincode}
-use Rattle.block.specs.declared.transaction.Range.{Range}
-use Rattle.block.specs.declared.transaction.Tx.{Tx}
+use Rattle.transaction.specs.declared.transaction.Range.{Range}
+use Rattle.transaction.specs.declared.transaction.Tx.{Tx}
 use Rattle.rules.specs.State.{with_changes}
 use Rattle.rules.specs.Job.{Job}
 use Rattle.rules.specs.Fold.{running, flags}
-use Rattle.block.specs.declared.transaction.KeyVersion.{KeyVersion}
-use Rattle.block.specs.declared.transaction.PolicyWrite.{PolicyWrite}
+use Rattle.transaction.specs.declared.transaction.KeyVersion.{KeyVersion}
+use Rattle.transaction.specs.declared.transaction.PolicyWrite.{PolicyWrite}
 use Rattle.rules.proofs.rows.Shared.{chaincode, k, at, read_at, absent, put, deleted, policy_put, policy_removed, set_of, over, tx, reading, scanning, writing, writing_policy, judged, block_over, first_peer_text, broken_text, a, c, found}
 use Rattle.rules.proofs.rows.Looks.{scans}
 

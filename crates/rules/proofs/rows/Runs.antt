@@ -1,13 +1,14 @@
 -- Runs of the verdict machine.
-use Rattle.std.proofs.Common.{◌≡◌, true, [], ◌∷◌, Some, None, inl, inr, refl, arith}
-use Rattle.rules.specs.declared.flag.Flag.TheVariants.{Valid}
+use Rattle.std.proofs.Common.{◌≡◌, true, false, [], ◌∷◌, Some, None, inl, inr, refl, arith}
+use Rattle.rules.specs.declared.flag.Flag.TheVariants.{Valid, BadPayload, DuplicateTxId}
 use Rattle.rules.specs.declared.read_verdict.ReadVerdict.TheVariants.{Good}
 use Rattle.rules.specs.declared.event.Event.TheVariants.{Endorse, Reads}
 use Rattle.rules.specs.State.{with_changes}
+use Rattle.rules.specs.Candidate.{flagged}
 use Rattle.rules.specs.Job.{Job}
 use Rattle.rules.specs.Assignment.{Assignment, touched_under, state_under, reads_under}
 use Rattle.rules.specs.Machine.{Board, first_board, SureEndorsement, SureReads, WaitsForFlag, Run}
-use Rattle.rules.proofs.rows.Shared.{k, at, read_at, absent, put, tx, reading, one, block_over}
+use Rattle.rules.proofs.rows.Shared.{k, at, read_at, absent, put, tx, reading, one, writes_k, block_over}
 use Rattle.rules.proofs.rows.Looks.{looks}
 
 -- the first one reads k absent and writes it, the second one reads what that left
@@ -100,3 +101,12 @@ second_one_follows = (
     refl,
   ),
 )
+
+-- ---- flagged candidates
+
+-- are known before any check, their endorsements as no
+pub flagged_ones_are_known_at_first : first_board (block_over [] (flagged BadPayload ∷ one writes_k ∷ flagged DuplicateTxId ∷ [])) ≡ record {
+  endorsements = Some false ∷ None ∷ Some false ∷ [];
+  flags = Some BadPayload ∷ None ∷ Some DuplicateTxId ∷ [];
+}
+flagged_ones_are_known_at_first = refl

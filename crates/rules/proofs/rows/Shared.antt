@@ -2,22 +2,23 @@
 use Rattle.std.proofs.Common.{◌≡◌, ℕ, true, false, List, [], ◌∷◌, map, Option, Some, None, Ok, Err, refl}
 use Rattle.std.specs.Prelude.{codes, replicate}
 use Rattle.std.specs.FinMap.{from_entries}
-use Rattle.block.specs.declared.identity.Role.TheVariants.{Peer, Admin}
-use Rattle.block.specs.declared.identity.Identity.{Identity}
-use Rattle.block.specs.declared.transaction.Version.{Version}
-use Rattle.block.specs.declared.transaction.Read.{Read}
-use Rattle.block.specs.declared.transaction.KeyVersion.{KeyVersion}
-use Rattle.block.specs.declared.transaction.Range.{Range}
-use Rattle.block.specs.declared.transaction.Write.{Write}
-use Rattle.block.specs.declared.transaction.PolicyWrite.{PolicyWrite}
-use Rattle.block.specs.declared.transaction.NsSet.{NsSet}
-use Rattle.block.specs.declared.transaction.Tx.{Tx}
-use Rattle.block.specs.TxGrammar.{identity_bytes}
+use Rattle.transaction.specs.declared.identity.Role.TheVariants.{Peer, Admin}
+use Rattle.transaction.specs.declared.identity.Identity.{Identity}
+use Rattle.transaction.specs.declared.transaction.Version.{Version}
+use Rattle.transaction.specs.declared.transaction.Read.{Read}
+use Rattle.transaction.specs.declared.transaction.KeyVersion.{KeyVersion}
+use Rattle.transaction.specs.declared.transaction.Range.{Range}
+use Rattle.transaction.specs.declared.transaction.Write.{Write}
+use Rattle.transaction.specs.declared.transaction.PolicyWrite.{PolicyWrite}
+use Rattle.transaction.specs.declared.transaction.NsSet.{NsSet}
+use Rattle.transaction.specs.declared.transaction.Tx.{Tx}
+use Rattle.transaction.specs.Grammar.{identity_bytes}
 use Rattle.header_hash.specs.Hashes.{tx_id_of}
 use Rattle.policy.specs.declared.tree.PolicyRole.TheVariants as wanted
 use Rattle.policy.specs.Tree.{Tree, principal, gate, none, more}
 use Rattle.policy.specs.Fault.{syntax_fault}
-use Rattle.policy.specs.Policies.{Policies, bytes_cmp}
+use Rattle.values.specs.Order.{bytes_cmp}
+use Rattle.policy.specs.Policies.{Policies}
 use Rattle.policy.specs.Lexing.{front_at, quoted_at, principal_in, word_at, word_in}
 use Rattle.policy.specs.Reading.{policy_at, expression_by, gate_at, gate_by, members_by, head_at, opening_at, separator_at}
 use Rattle.policy_eval.specs.Accepts.{Accepts}

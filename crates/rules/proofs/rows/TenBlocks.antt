@@ -4,13 +4,14 @@ use Rattle.std.specs.Prelude.{codes, replicate}
 use Rattle.std.specs.FinMap.{from_entries, get, empty}
 use Rattle.block.specs.declared.block.Block.{Block}
 use Rattle.block.specs.declared.block.Previous.TheVariants.{Hash}
-use Rattle.block.specs.declared.identity.Identity.{Identity}
-use Rattle.block.specs.declared.transaction.Range.{Range}
-use Rattle.block.specs.declared.transaction.Tx.{Tx}
-use Rattle.block.specs.declared.transaction.Version.{Version}
-use Rattle.block.specs.declared.transaction.Write.{Write}
+use Rattle.transaction.specs.declared.identity.Identity.{Identity}
+use Rattle.transaction.specs.declared.transaction.Range.{Range}
+use Rattle.transaction.specs.declared.transaction.Tx.{Tx}
+use Rattle.transaction.specs.declared.transaction.Version.{Version}
+use Rattle.transaction.specs.declared.transaction.Write.{Write}
 use Rattle.block.specs.Grammar.{header_bytes, txs_bytes, Spells}
-use Rattle.policy.specs.Policies.{Policies, bytes_cmp}
+use Rattle.values.specs.Order.{bytes_cmp}
+use Rattle.policy.specs.Policies.{Policies}
 use Rattle.policy.specs.Tree.{Tree}
 use Rattle.channel.specs.Configuration.{Configuration}
 use Rattle.rules.specs.declared.answer.Refused.TheVariants.{WrongNumber, WrongPrevious}

@@ -7,4 +7,4 @@ use Rattle.plain.specs.StateNow.{state_now}
 use Rattle.plain.proofs.effect.changes_of.Given as goal
 
 abbrev pub invariant-loop-key : goal.invariant-loop-key
-invariant-loop-key l = changes_in l.changes.items ≡ map (λ k. (k, effect_at l.version l.tx k (get (state_now l.state) k))) (keys_of (take l.key-index l.key-items))
+invariant-loop-key l = changes_in l.changes.items ≡ map (λ k. (k, effect_at l.version l.open_tx.tx k (get (state_now l.state) k))) (keys_of (take l.key-index l.key-items))

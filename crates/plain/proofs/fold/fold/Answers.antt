@@ -1,7 +1,7 @@
 use Rattle.std.proofs.Common.{◌≡◌, length, subst, arith}
 use Rattle.plain.specs.Seen.{seen, job_over}
 use Rattle.plain.specs.Taking.{IsRunning, IsTaken}
-use Rattle.plain.proofs.Folding.{running-first, running-more}
+use Rattle.plain.proofs.Folding.{running-first, running-more, folded-all}
 use Rattle.plain.proofs.fold.fold.Goals as goal
 
 pub loop-tx-init : goal.loop-tx-init
@@ -17,4 +17,5 @@ loop-tx-preserved c =
 pub returns : goal.returns
 returns c =
     let end : c.loop-tx.tx ≡ length c.args.candidates.now = omega (arith, c.loop-tx-test.false, c.loop-tx.auto.tx-end) in
-    subst (λ n. IsRunning (job_over c.args.definitions.now c.args.world.now c.args.candidates.now) n c.loop-tx.running) end c.loop-tx.invariant
+    let all = subst (λ n. IsRunning (job_over c.args.definitions.now c.args.world.now c.args.candidates.now) n c.loop-tx.running) end c.loop-tx.invariant in
+    folded-all c.args.definitions.now c.args.world.now c.args.candidates.now c.loop-tx.running c.folded.result all c.folded.ensures.changes c.folded.ensures.entries c.folded.ensures.flags

@@ -1,5 +1,5 @@
 use Rattle.std.proofs.Common.{◌≡◌, ◌++◌, [], drop, take, map}
-use Rattle.block.specs.Decoded.{tx_of}
+use Rattle.transaction.specs.Decoded.{tx_of}
 use Rattle.rules.specs.Candidate.{used_id, candidates_from}
 use Rattle.plain.specs.Seen.{seen}
 use Rattle.plain.proofs.intake.take_in.Given as goal

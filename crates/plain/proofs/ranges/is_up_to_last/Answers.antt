@@ -1,6 +1,6 @@
 use Rattle.std.proofs.Common.{ap, ◌∙◌}
 use Rattle.std.specs.Ordering.{is_le}
-use Rattle.policy.specs.Policies.{bytes_cmp}
+use Rattle.values.specs.Order.{bytes_cmp}
 use Rattle.rules.specs.Ranges.{is_up_to}
 use Rattle.plain.proofs.RangeChecks.{last_is}
 use Rattle.plain.proofs.ranges.is_up_to_last.Goals as goal

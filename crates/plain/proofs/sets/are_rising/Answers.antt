@@ -1,7 +1,7 @@
 use Rattle.std.proofs.Common.{◌≡◌, ◌+◌, ◌∷◌, true, drop, ap, ◌∙◌}
 use Rattle.std.specs.Ordering.{is_lt}
 use Rattle.std.specs.Option.{option_copied}
-use Rattle.policy.specs.Policies.{bytes_cmp}
+use Rattle.values.specs.Order.{bytes_cmp}
 use Rattle.plain.proofs.InForm.{rise_after, at_place, one_higher}
 use Rattle.plain.proofs.sets.are_rising.Goals as goal
 use Rattle.plain.proofs.sets.are_rising.Goals.{in-Some+else-not-is_before, in_default}

@@ -1,6 +1,6 @@
 use Rattle.std.proofs.Common.{◌≡◌, drop}
 use Rattle.std.specs.FinMap.{find}
-use Rattle.policy.specs.Policies.{bytes_cmp}
+use Rattle.values.specs.Order.{bytes_cmp}
 use Rattle.rules.specs.Delta.{uses_in}
 use Rattle.plain.proofs.world.use_in.Given as goal
 

@@ -1,7 +1,7 @@
 use Rattle.std.proofs.Common.{◌∷◌, [], ◌∙◌, arith, length-append}
 use Rattle.policy_eval.proofs.Once.{signed_already, signed_newly, not_signed, accepted_is, found_is}
 use Rattle.policy_eval.proofs.signing.signers.Goals as goal
-use Rattle.policy_eval.proofs.signing.signers.Goals.{then-not-contains+in_ok-has_signed+then-branch+in_ok-copy+in_ok-push, else-not-contains, else-not-contains-via-then-not-contains+in_ok-has_signed+else-branch, else-not-contains-via-else-not-contains}
+use Rattle.policy_eval.proofs.signing.signers.Goals.{then-not-contains+in_ok-has_signed+then-branch+in_ok-push, else-not-contains, else-not-contains-via-then-not-contains+in_ok-has_signed+else-branch, else-not-contains-via-else-not-contains}
 
 pub loop-endorsement-preserved : goal.loop-endorsement-preserved
 loop-endorsement-preserved g c =
@@ -14,14 +14,14 @@ loop-endorsement-preserved g c =
     let before = c.loop-endorsement.invariant in
     let found = found_is signers c.as_slice.result.now e.endorser c.contains.result c.contains.ensures c.as_slice.ensures.value in
     elim c.if-not-contains.branch [
-      | then-not-contains+in_ok-has_signed+then-branch+in_ok-copy+in_ok-push w ↦
+      | then-not-contains+in_ok-has_signed+then-branch+in_ok-push w ↦
           let answer = w.in_ok-has_signed.ensures in
           record {
             so_far = rw w.identities-is (
-                signed_newly accepts tx es i e w.in_ok-copy.field-0 signers w.push.new.self.items c.loop-endorsement-test.true c.endorsement-item.is before.so_far (found ∙ w.if-not-contains.true)
+                signed_newly accepts tx es i e w.again.result signers w.push.new.self.items c.loop-endorsement-test.true c.endorsement-item.is before.so_far (found ∙ w.if-not-contains.true)
                 (accepted_is accepts tx e _ w.in_ok-has_signed.field-0 before.front answer.value ∙ w.if-branch.true)
-                w.in_ok-copy.ensures w.in_ok-push.ensures.items);
-            few = rw (w.identities-is, w.in_ok-push.ensures.items) (omega (arith, before.few, length-append signers (w.in_ok-copy.field-0 ∷ [])));
+                w.again.ensures w.in_ok-push.ensures.items);
+            few = rw (w.identities-is, w.in_ok-push.ensures.items) (omega (arith, before.few, length-append signers (w.again.result ∷ [])));
             front = rw w.message-is (answer.kept ∙ before.front);
             long = rw w.message-is answer.long;
           }

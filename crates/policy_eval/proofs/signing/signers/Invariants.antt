@@ -1,5 +1,5 @@
 use Rattle.std.proofs.Common.{◌≡◌, ◌≤◌, length, take}
-use Rattle.block.specs.TxGrammar.{body_bytes}
+use Rattle.transaction.specs.Grammar.{body_bytes}
 use Rattle.policy_eval.proofs.Once.{signed_by}
 use Rattle.policy_eval.proofs.signing.signers.Given as goal
 

@@ -1,7 +1,7 @@
 use Rattle.std.proofs.Common.{◌≡◌, take}
 use Rattle.std.specs.Prelude.{flat_map}
 use Rattle.std.specs.FinMap.{find}
-use Rattle.policy.specs.Policies.{bytes_cmp}
+use Rattle.values.specs.Order.{bytes_cmp}
 use Rattle.rules.specs.declared.delta.Delta.{Delta}
 use Rattle.rules.specs.Delta.{uses_in}
 use Rattle.plain.proofs.world.World.first_use.Given as goal

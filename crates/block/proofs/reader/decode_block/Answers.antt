@@ -1,0 +1,21 @@
+use Rattle.std.proofs.Common.{arith}
+use Rattle.block.proofs.Answered.{is_spelled, is_one_block, is_one_spelling, is_read, is_faulty, is_refused}
+use Rattle.block.proofs.reader.decode_block.Goals as goal
+
+pub returns-clause-found : goal.returns-clause-found
+returns-clause-found c = is_spelled c.args.bytes.now c.block_of.result (λ i. omega (arith, c.type_inv.bytes i)) c.block_of.ensures
+
+pub returns-clause-one_block : goal.returns-clause-one_block
+returns-clause-one_block c = is_one_block c.args.bytes.now c.block_of.result c.block_of.ensures
+
+pub returns-clause-one_spelling : goal.returns-clause-one_spelling
+returns-clause-one_spelling c = is_one_spelling c.args.bytes.now c.block_of.result (λ i. omega (arith, c.type_inv.bytes i)) c.block_of.ensures
+
+pub returns-clause-spelled : goal.returns-clause-spelled
+returns-clause-spelled c = λ b spells. is_read c.args.bytes.now c.block_of.result b c.block_of.ensures spells
+
+pub returns-clause-fault : goal.returns-clause-fault
+returns-clause-fault c = is_faulty c.args.bytes.now c.block_of.result (λ i. omega (arith, c.type_inv.bytes i)) c.block_of.ensures
+
+pub returns-clause-faulty : goal.returns-clause-faulty
+returns-clause-faulty c = λ f faulty. is_refused c.args.bytes.now c.block_of.result f c.block_of.ensures faulty

@@ -1,8 +1,0 @@
-use Rattle.std.proofs.Common.{◌≡◌, ◌-◌}
-use Rattle.block.specs.Combined.{fields_at}
-use Rattle.block.proofs.FieldLoop.{with_front}
-use Rattle.block.proofs.tx_field.fields_of.Given as goal
-
--- what was read before, and what is still read, is what is read of all
-abbrev pub invariant-loop : goal.invariant-loop
-invariant-loop g l = with_front l.items (fields_at g.T.Field.read_at (l.count - l.counter) l.rest) ≡ fields_at g.T.Field.read_at l.count l.bytes

@@ -1,8 +1,0 @@
--- The transaction that bytes spell, as a function.
-use Rattle.std.specs.Prelude.{ℕ, List, Option}
-use Rattle.block.specs.declared.transaction.Tx.{Tx}
-use Rattle.block.specs.TxReading.{whole_tx_at}
-
--- the transaction, or none where the bytes spell none: the grammar's, as `transaction_reading` says
-abbrev pub tx_of : List ℕ → Option Tx
-tx_of bytes = whole_tx_at bytes

@@ -1,0 +1,177 @@
+ghost use Rattle.std.specs.Prelude.{◌≡◌, ℕ, ◌≤◌, ◌*◌, List, [], ◌++◌, length, take, drop, IfOk, IfErr, Ok, Err, ◌⊎◌};
+ghost use Rattle.std.specs.Vec.{vec_capacity};
+ghost use Rattle.values.specs.Hash.{hash_bytes};
+ghost use Rattle.values.specs.Memory.{GivesUnless};
+ghost use Rattle.block.specs.declared.block.Block.{Block};
+ghost use Rattle.block.specs.declared.fault.BlockFault.{BlockFault};
+ghost use Rattle.block.specs.declared.fault.BlockFault.TheVariants.{Memory};
+ghost use Rattle.block.specs.Grammar.{Spells};
+ghost use Rattle.block.specs.Faults.{HasFault};
+ghost use Rattle.block.specs.Reading.{Gives, bytes_at, number_at, magic_at, previous_at, header_at, count_at, tx_at, txs_at, block_at};
+
+use crate::block::{Block, Header, MAGIC, MAX_TXS, Previous};
+use crate::fault::BlockFault;
+use byteorder::{BigEndian, ByteOrder};
+use std::alloc::{AllocError, Global};
+use transaction::MAX_TX_BYTES;
+use values::{HASH_BYTES, Hash, Items, Slice};
+
+fn bytes_of(n: usize, bytes: &[u8]) -> Result<(&[u8], &[u8]), BlockFault>
+    ensures { Gives (λ x. (x.0.now, x.1.now)) result (bytes_at n bytes.now) }
+{
+    if bytes.len() < n {
+        return Err(BlockFault::Truncated);
+    }
+    Ok(bytes.split_at(n))
+}
+
+fn u64_of(bytes: &[u8]) -> Result<(u64, &[u8]), BlockFault>
+    ensures { Gives (λ x. (x.0, x.1.now)) result (number_at 8 bytes.now) }
+{
+    if bytes.len() < 8 {
+        return Err(BlockFault::Truncated);
+    }
+    Ok((BigEndian::read_u64(bytes), &bytes[8..]))
+}
+
+fn u32_of(bytes: &[u8]) -> Result<(u32, &[u8]), BlockFault>
+    ensures { Gives (λ x. (x.0, x.1.now)) result (number_at 4 bytes.now) }
+{
+    if bytes.len() < 4 {
+        return Err(BlockFault::Truncated);
+    }
+    Ok((BigEndian::read_u32(bytes), &bytes[4..]))
+}
+
+fn after_magic(bytes: &[u8]) -> Result<&[u8], BlockFault>
+    ensures { Gives (λ x. x.now) result (magic_at bytes.now) }
+{
+    if !bytes.starts_with(&MAGIC) {
+        return Err(BlockFault::BadMagic);
+    }
+    Ok(&bytes[4..])
+}
+
+fn hash_of(bytes: &[u8]) -> Result<(Hash, &[u8]), BlockFault>
+    ensures { Gives (λ x. (x.0, x.1.now)) result (bytes_at hash_bytes bytes.now) }
+{
+    if bytes.len() < HASH_BYTES {
+        return Err(BlockFault::Truncated);
+    }
+    let (front, rest) = bytes.split_at(HASH_BYTES);
+    let mut hash = [0; HASH_BYTES];
+    hash.copy_from_slice(front);
+    Ok((hash, rest))
+}
+
+#[tactic(auto, unfolding(crate::specs::Reading::previous_at))]
+fn previous_of(bytes: &[u8]) -> Result<(Previous, &[u8]), BlockFault>
+    ensures { Gives (λ x. (x.0, x.1.now)) result (previous_at bytes.now) }
+{
+    let Some((len, rest)) = bytes.split_first() else {
+        return Err(BlockFault::Truncated);
+    };
+    if *len == 0 {
+        return Ok((Previous::Empty, rest));
+    }
+    if *len as usize != HASH_BYTES {
+        return Err(BlockFault::PreviousLength);
+    }
+    let (hash, rest) = hash_of(rest)?;
+    Ok((Previous::Hash(hash), rest))
+}
+
+#[tactic(auto, unfolding(crate::specs::Reading::header_at))]
+fn header_of(bytes: &[u8]) -> Result<(Header, &[u8]), BlockFault>
+    ensures { Gives (λ x. (x.0, x.1.now)) result (header_at bytes.now) }
+{
+    let rest = after_magic(bytes)?;
+    let (number, rest) = u64_of(rest)?;
+    let (previous, rest) = previous_of(rest)?;
+    let (data_hash, rest) = hash_of(rest)?;
+    let header = Header {
+        number,
+        previous,
+        data_hash,
+    };
+    Ok((header, rest))
+}
+
+#[tactic(auto, unfolding(crate::specs::Reading::count_at))]
+fn count_of(bytes: &[u8]) -> Result<(u32, &[u8]), BlockFault>
+    ensures { Gives (λ x. (x.0, x.1.now)) result (count_at bytes.now) }
+{
+    let (count, rest) = u32_of(bytes)?;
+    if MAX_TXS < count as usize {
+        return Err(BlockFault::TooManyTxs);
+    }
+    Ok((count, rest))
+}
+
+#[tactic(auto, unfolding(crate::specs::Reading::tx_at))]
+fn tx_of(bytes: &[u8]) -> Result<(Slice<'_>, &[u8]), BlockFault>
+    ensures { Gives (λ x. (x.0, x.1.now)) result (tx_at bytes.now) }
+{
+    let (len, rest) = u32_of(bytes)?;
+    let len = len as usize;
+    if MAX_TX_BYTES < len {
+        return Err(BlockFault::TxTooLong);
+    }
+    let (tx, rest) = bytes_of(len, rest)?;
+    Ok((Slice::new(tx), rest))
+}
+
+// The fewest bytes of a transaction in a block: those of its length.
+const LEAST_BYTES: usize = 4;
+
+// No transactions yet, and room for so many, but for no more than the bytes can spell: a count isn't believed.
+fn room_for<'a>(alloc: Global, count: u32, bytes: &[u8]) -> Result<Vec<Slice<'a>>, AllocError>
+    ensures empty { IfOk result (λ room. room.items ≡ []) }
+    ensures room { IfOk result (λ room. LEAST_BYTES * vec_capacity room ≤ length bytes.now) }
+{
+    let most = bytes.len() / LEAST_BYTES;
+    Vec::with_capacity(alloc, most.min(count as usize))
+}
+
+fn txs_of(alloc: Global, count: u32, bytes: &[u8]) -> Result<(Items<Slice<'_>>, &[u8]), BlockFault>
+    ensures { Gives (λ x. (x.0, x.1.now)) result (txs_at count bytes.now) }
+{
+    let mut txs = Items::from_vec(room_for(alloc, count, bytes)?);
+    let mut rest = bytes;
+    for _ in 0..count {
+        let (tx, after) = tx_of(rest)?;
+        txs.push(tx)?;
+        rest = after;
+    }
+    Ok((txs, rest))
+}
+
+#[tactic(auto, unfolding(crate::specs::Reading::block_at))]
+fn block_of(alloc: Global, bytes: &[u8]) -> Result<Block<'_>, BlockFault>
+    ensures { Gives (λ b. b) result (block_at bytes.now) }
+{
+    let (header, rest) = header_of(bytes)?;
+    let (count, rest) = count_of(rest)?;
+    let (txs, rest) = txs_of(alloc, count, rest)?;
+    if !rest.is_empty() {
+        return Err(BlockFault::TrailingBytes);
+    }
+    Ok(Block { header, txs })
+}
+
+/// The block that the bytes spell, which it lends, or the fault of the first field from the left that can't be read.
+/// Time is linear in the number of transactions, whatever their length. Memory is for their list alone, made at once:
+/// 16 bytes for each, and at most 4 for each byte behind the count, which isn't believed.
+pub fn decode_block(alloc: Global, bytes: &[u8]) -> Result<Block<'_>, BlockFault>
+    // The bytes spell what is answered, no other block has this spelling, and the block has no other.
+    ensures found { IfOk result (λ b. Spells bytes.now b) }
+    ensures one_block { IfOk result (λ b. (other : Block) → Spells bytes.now other → other ≡ b) }
+    ensures one_spelling { IfOk result (λ b. (other : List ℕ) → Spells other b → other ≡ bytes.now) }
+    // A block that is spelled is answered.
+    ensures spelled { (b : Block) → Spells bytes.now b → GivesUnless Memory result (Ok b) }
+    // The fault that is answered is that of the bytes, and the fault of the bytes is answered.
+    ensures fault { IfErr result (λ f. (f ≡ Memory) ⊎ HasFault bytes.now f) }
+    ensures faulty { (f : BlockFault) → HasFault bytes.now f → GivesUnless Memory result (Err f) }
+{
+    block_of(alloc, bytes)
+}

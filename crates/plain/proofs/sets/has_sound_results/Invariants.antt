@@ -1,7 +1,0 @@
-use Rattle.std.proofs.Common.{◌≡◌, drop}
-use Rattle.std.specs.List.{list_all}
-use Rattle.rules.specs.Ranges.{is_within}
-use Rattle.plain.proofs.sets.has_sound_results.Given as goal
-
-abbrev pub invariant-loop-found : goal.invariant-loop-found
-invariant-loop-found l = list_all (λ x. is_within l.range.start l.range.end x.key) l.results ≡ list_all (λ x. is_within l.range.start l.range.end x.key) (drop l.found-index l.results)

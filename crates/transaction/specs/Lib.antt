@@ -1,0 +1,9 @@
+pub mod BodyFields
+pub mod Combined
+pub mod Decoded
+pub mod Grammar
+pub mod Limits
+pub mod Putting
+pub mod Reading
+pub mod Same
+pub mod Spelled

@@ -1,0 +1,367 @@
+ghost use Rattle.std.specs.Prelude.{◌≡◌, ℕ, List, Option, Some, None, IfOk, Ok, Err};
+ghost use Rattle.values.specs.Memory.{GivesUnless};
+ghost use Rattle.transaction.specs.declared.identity.Identity.{Identity};
+ghost use Rattle.transaction.specs.declared.transaction.Tx.{Tx};
+ghost use Rattle.transaction.specs.declared.fault.TxFault.TheVariants.{Form, Memory};
+ghost use Rattle.transaction.specs.Grammar.{SpellsIdentity, SpellsTx};
+ghost use Rattle.transaction.specs.Limits.{id_bytes, max_endorsements};
+ghost use Rattle.transaction.specs.BodyFields.{body_fields};
+ghost use Rattle.transaction.specs.Decoded.{tx_of};
+ghost use Rattle.transaction.specs.Combined.{bytes_at, byte_at, optional_at, counted_at, few_at};
+ghost use Rattle.transaction.specs.Reading.{Gives, role_of, flag_of, identity_at, version_at, read_at, result_at, range_at, write_at, policy_write_at, namespace_at, endorsement_at, body_at, tx_at, all_at, whole_tx_at};
+
+use crate::fault::TxFault;
+use crate::field::{
+    Field, bound_of, bytes8_of, bytes16_of, bytes32_of, fields_of, key_of, list_of, name_of, u8_of,
+    u32_of, u64_of,
+};
+use crate::identity::{Identity, Role};
+use crate::limits::{ID_BYTES, MAX_ENDORSEMENTS, MAX_TX_BYTES};
+use crate::spelled::SpelledTx;
+use crate::transaction::{
+    Endorsement, KeyVersion, NsSet, PolicyWrite, Range, Read, Tx, TxId, Version, Write,
+};
+use std::alloc::Global;
+use values::{Items, NameRef, Slice};
+
+fn role_of(bytes: &[u8]) -> Result<(Role, &[u8]), TxFault>
+    ensures { Gives (λ x. (x.0, x.1.now)) result (byte_at role_of bytes.now) }
+{
+    match bytes {
+        [0, rest @ ..] => Ok((Role::Admin, rest)),
+        [1, rest @ ..] => Ok((Role::Client, rest)),
+        [2, rest @ ..] => Ok((Role::Peer, rest)),
+        [3, rest @ ..] => Ok((Role::Orderer, rest)),
+        _ => Err(TxFault::Form),
+    }
+}
+
+fn flag_of(bytes: &[u8]) -> Result<(bool, &[u8]), TxFault>
+    ensures { Gives (λ x. (x.0, x.1.now)) result (byte_at flag_of bytes.now) }
+{
+    match bytes {
+        [0, rest @ ..] => Ok((false, rest)),
+        [1, rest @ ..] => Ok((true, rest)),
+        _ => Err(TxFault::Form),
+    }
+}
+
+#[tactic(auto, unfolding(crate::specs::Reading::identity_at))]
+fn identity_of(bytes: &[u8]) -> Result<(Identity<'_>, &[u8]), TxFault>
+    ensures { Gives (λ x. (x.0, x.1.now)) result (identity_at bytes.now) }
+{
+    let (org, rest) = name_of(bytes)?;
+    let (role, rest) = role_of(rest)?;
+    let (label, rest) = bytes8_of(rest)?;
+    Ok((Identity { org, role, label }, rest))
+}
+
+#[tactic(auto, unfolding(crate::specs::Reading::version_at))]
+fn version_of(bytes: &[u8]) -> Result<(Version, &[u8]), TxFault>
+    ensures { Gives (λ x. (x.0, x.1.now)) result (version_at bytes.now) }
+{
+    let (block, rest) = u64_of(bytes)?;
+    let (tx, rest) = u32_of(rest)?;
+    Ok((Version { block, tx }, rest))
+}
+
+fn optional_version_of(bytes: &[u8]) -> Result<(Option<Version>, &[u8]), TxFault>
+    ensures { Gives (λ x. (x.0, x.1.now)) result (optional_at version_at bytes.now) }
+{
+    match bytes {
+        [0, rest @ ..] => Ok((None, rest)),
+        [1, rest @ ..] => {
+            let (version, rest) = version_of(rest)?;
+            Ok((Some(version), rest))
+        }
+        _ => Err(TxFault::Form),
+    }
+}
+
+fn optional_bytes32_of(bytes: &[u8]) -> Result<(Option<Slice<'_>>, &[u8]), TxFault>
+    ensures { Gives (λ x. (x.0, x.1.now)) result (optional_at (counted_at 4) bytes.now) }
+{
+    match bytes {
+        [0, rest @ ..] => Ok((None, rest)),
+        [1, rest @ ..] => {
+            let (value, rest) = bytes32_of(rest)?;
+            Ok((Some(value), rest))
+        }
+        _ => Err(TxFault::Form),
+    }
+}
+
+fn optional_bytes16_of(bytes: &[u8]) -> Result<(Option<Slice<'_>>, &[u8]), TxFault>
+    ensures { Gives (λ x. (x.0, x.1.now)) result (optional_at (counted_at 2) bytes.now) }
+{
+    match bytes {
+        [0, rest @ ..] => Ok((None, rest)),
+        [1, rest @ ..] => {
+            let (text, rest) = bytes16_of(rest)?;
+            Ok((Some(text), rest))
+        }
+        _ => Err(TxFault::Form),
+    }
+}
+
+impl<'a> Field<'a> for Read<'a> {
+    const LEAST_BYTES: usize = 4;
+
+    ghost read_at = { λ bytes. read_at bytes };
+
+    #[tactic(auto, unfolding(crate::specs::Reading::read_at))]
+    fn read(_alloc: Global, bytes: &'a [u8]) -> Result<(Read<'a>, &'a [u8]), TxFault> {
+        let (key, rest) = key_of(bytes)?;
+        let (version, rest) = optional_version_of(rest)?;
+        Ok((Read { key, version }, rest))
+    }
+}
+
+impl<'a> Field<'a> for KeyVersion<'a> {
+    const LEAST_BYTES: usize = 15;
+
+    ghost read_at = { λ bytes. result_at bytes };
+
+    #[tactic(auto, unfolding(crate::specs::Reading::result_at))]
+    fn read(_alloc: Global, bytes: &'a [u8]) -> Result<(KeyVersion<'a>, &'a [u8]), TxFault> {
+        let (key, rest) = key_of(bytes)?;
+        let (version, rest) = version_of(rest)?;
+        Ok((KeyVersion { key, version }, rest))
+    }
+}
+
+impl<'a> Field<'a> for Range<'a> {
+    const LEAST_BYTES: usize = 7;
+
+    ghost read_at = { λ bytes. range_at bytes };
+
+    #[tactic(auto, unfolding(crate::specs::Reading::range_at))]
+    fn read(alloc: Global, bytes: &'a [u8]) -> Result<(Range<'a>, &'a [u8]), TxFault> {
+        let (start, rest) = bound_of(bytes)?;
+        let (end, rest) = bound_of(rest)?;
+        let (exhausted, rest) = flag_of(rest)?;
+        let (results, rest) = list_of::<KeyVersion>(alloc, rest)?;
+        let range = Range {
+            start,
+            end,
+            exhausted,
+            results,
+        };
+        Ok((range, rest))
+    }
+}
+
+impl<'a> Field<'a> for Write<'a> {
+    const LEAST_BYTES: usize = 4;
+
+    ghost read_at = { λ bytes. write_at bytes };
+
+    #[tactic(auto, unfolding(crate::specs::Reading::write_at))]
+    fn read(_alloc: Global, bytes: &'a [u8]) -> Result<(Write<'a>, &'a [u8]), TxFault> {
+        let (key, rest) = key_of(bytes)?;
+        let (value, rest) = optional_bytes32_of(rest)?;
+        Ok((Write { key, value }, rest))
+    }
+}
+
+impl<'a> Field<'a> for PolicyWrite<'a> {
+    const LEAST_BYTES: usize = 4;
+
+    ghost read_at = { λ bytes. policy_write_at bytes };
+
+    #[tactic(auto, unfolding(crate::specs::Reading::policy_write_at))]
+    fn read(_alloc: Global, bytes: &'a [u8]) -> Result<(PolicyWrite<'a>, &'a [u8]), TxFault> {
+        let (key, rest) = key_of(bytes)?;
+        let (policy, rest) = optional_bytes16_of(rest)?;
+        Ok((PolicyWrite { key, policy }, rest))
+    }
+}
+
+impl<'a> Field<'a> for NsSet<'a> {
+    const LEAST_BYTES: usize = 10;
+
+    ghost read_at = { λ bytes. namespace_at bytes };
+
+    #[tactic(auto, unfolding(crate::specs::Reading::namespace_at))]
+    fn read(alloc: Global, bytes: &'a [u8]) -> Result<(NsSet<'a>, &'a [u8]), TxFault> {
+        let (name, rest) = name_of(bytes)?;
+        let (reads, rest) = list_of::<Read>(alloc, rest)?;
+        let (ranges, rest) = list_of::<Range>(alloc, rest)?;
+        let (writes, rest) = list_of::<Write>(alloc, rest)?;
+        let (policy_writes, rest) = list_of::<PolicyWrite>(alloc, rest)?;
+        let namespace = NsSet {
+            name,
+            reads,
+            ranges,
+            writes,
+            policy_writes,
+        };
+        Ok((namespace, rest))
+    }
+}
+
+impl<'a> Field<'a> for Endorsement<'a> {
+    const LEAST_BYTES: usize = 6;
+
+    ghost read_at = { λ bytes. endorsement_at bytes };
+
+    #[tactic(auto, unfolding(crate::specs::Reading::endorsement_at))]
+    fn read(_alloc: Global, bytes: &'a [u8]) -> Result<(Endorsement<'a>, &'a [u8]), TxFault> {
+        let (endorser, rest) = identity_of(bytes)?;
+        let (signature, rest) = bytes16_of(rest)?;
+        let endorsement = Endorsement {
+            endorser,
+            signature,
+        };
+        Ok((endorsement, rest))
+    }
+}
+
+// The fields of a transaction's body.
+#[derive(Drop)]
+struct BodyFields<'a> {
+    channel: NameRef<'a>,
+    id: TxId,
+    creator: Identity<'a>,
+    nonce: Slice<'a>,
+    chaincode: NameRef<'a>,
+    namespaces: Items<NsSet<'a>>,
+}
+
+fn id_of(bytes: &[u8]) -> Result<(TxId, &[u8]), TxFault>
+    ensures { Gives (λ x. (x.0, x.1.now)) result (bytes_at id_bytes bytes.now) }
+{
+    if bytes.len() < ID_BYTES {
+        return Err(TxFault::Form);
+    }
+    let (front, rest) = bytes.split_at(ID_BYTES);
+    let mut id = [0; ID_BYTES];
+    id.copy_from_slice(front);
+    Ok((id, rest))
+}
+
+#[tactic(auto, unfolding(crate::specs::Reading::body_at))]
+fn body_of(alloc: Global, bytes: &[u8]) -> Result<(BodyFields<'_>, &[u8]), TxFault>
+    ensures { Gives (λ x. (body_fields x.0, x.1.now)) result (body_at bytes.now) }
+{
+    let (channel, rest) = name_of(bytes)?;
+    let (id, rest) = id_of(rest)?;
+    let (creator, rest) = identity_of(rest)?;
+    let (nonce, rest) = bytes8_of(rest)?;
+    let (chaincode, rest) = name_of(rest)?;
+    let (namespaces, rest) = list_of::<NsSet>(alloc, rest)?;
+    let body = BodyFields {
+        channel,
+        id,
+        creator,
+        nonce,
+        chaincode,
+        namespaces,
+    };
+    Ok((body, rest))
+}
+
+fn endorsements_of(alloc: Global, bytes: &[u8]) -> Result<(Items<Endorsement<'_>>, &[u8]), TxFault>
+    ensures { Gives (λ x. (x.0, x.1.now)) result (few_at max_endorsements endorsement_at bytes.now) }
+{
+    let (count, rest) = u8_of(bytes)?;
+    if MAX_ENDORSEMENTS < count as usize {
+        return Err(TxFault::Form);
+    }
+    fields_of::<Endorsement>(alloc, u16::from(count), rest)
+}
+
+#[tactic(auto, unfolding(crate::specs::Reading::tx_at))]
+fn tx_of(alloc: Global, bytes: &[u8]) -> Result<(Tx<'_>, &[u8]), TxFault>
+    ensures { Gives (λ x. (x.0, x.1.now)) result (tx_at bytes.now) }
+{
+    let (body, rest) = body_of(alloc, bytes)?;
+    let (endorsements, rest) = endorsements_of(alloc, rest)?;
+    let (signature, rest) = bytes16_of(rest)?;
+    let BodyFields {
+        channel,
+        id,
+        creator,
+        nonce,
+        chaincode,
+        namespaces,
+    } = body;
+    let tx = Tx {
+        channel,
+        id,
+        creator,
+        nonce,
+        chaincode,
+        namespaces,
+        endorsements,
+        signature,
+    };
+    Ok((tx, rest))
+}
+
+#[tactic(auto, unfolding(crate::specs::Reading::whole_tx_at))]
+fn bare_tx_of(alloc: Global, bytes: &[u8]) -> Result<Tx<'_>, TxFault>
+    ensures { Gives (λ tx. tx) result (whole_tx_at bytes.now) }
+{
+    if MAX_TX_BYTES < bytes.len() {
+        return Err(TxFault::Form);
+    }
+    let (tx, rest) = tx_of(alloc, bytes)?;
+    if !rest.is_empty() {
+        return Err(TxFault::Form);
+    }
+    Ok(tx)
+}
+
+fn whole_tx_of(alloc: Global, bytes: &[u8]) -> Result<SpelledTx<'_>, TxFault>
+    ensures { Gives (λ tx. tx) result (whole_tx_at bytes.now) }
+{
+    match bare_tx_of(alloc, bytes) {
+        Ok(tx) => Ok(SpelledTx::new(tx, bytes)),
+        Err(fault) => Err(fault),
+    }
+}
+
+fn whole_identity_of(bytes: &[u8]) -> Result<Identity<'_>, TxFault>
+    ensures { Gives (λ i. i) result (all_at identity_at bytes.now) }
+{
+    let (identity, rest) = identity_of(bytes)?;
+    if !rest.is_empty() {
+        return Err(TxFault::Form);
+    }
+    Ok(identity)
+}
+
+/// The identity that the bytes spell, all of the bytes, which it lends. One pass.
+pub fn decode_identity(bytes: &[u8]) -> Result<Identity<'_>, TxFault>
+    // The bytes spell what is answered, no other identity has this spelling, and it has no other.
+    ensures found { IfOk result (λ i. SpellsIdentity bytes.now i) }
+    ensures one_identity { IfOk result (λ i. (other : Identity) → SpellsIdentity bytes.now other → other ≡ i) }
+    ensures one_spelling { IfOk result (λ i. (other : List ℕ) → SpellsIdentity other i → other ≡ bytes.now) }
+    // An identity that is spelled is answered, and Form only where none is.
+    ensures spelled { (i : Identity) → SpellsIdentity bytes.now i → GivesUnless Memory result (Ok i) }
+    ensures form { result ≡ Err Form → (i : Identity) → ¬ SpellsIdentity bytes.now i }
+{
+    whole_identity_of(bytes)
+}
+
+/// The transaction that the bytes spell, all of the bytes, which it lends. One pass; nothing is copied but the id, and
+/// no count or length is believed before the bytes are there.
+///
+/// Memory is for its lists alone: at most 12 bytes for each byte of a transaction, and at most 22 for each byte of what
+/// is refused, beside what the heap adds to each. A list gets its room once, for no more items than the bytes behind
+/// its count can spell.
+pub fn decode_tx(alloc: Global, bytes: &[u8]) -> Result<SpelledTx<'_>, TxFault>
+    // The bytes spell what is answered, no other transaction has this spelling, and it has no other.
+    ensures found { IfOk result (λ tx. SpellsTx bytes.now tx) }
+    ensures one_tx { IfOk result (λ tx. (other : Tx) → SpellsTx bytes.now other → other ≡ tx) }
+    ensures one_spelling { IfOk result (λ tx. (other : List ℕ) → SpellsTx other tx → other ≡ bytes.now) }
+    // A transaction that is spelled is answered, and Form only where none is.
+    ensures spelled { (tx : Tx) → SpellsTx bytes.now tx → GivesUnless Memory result (Ok tx) }
+    ensures form { result ≡ Err Form → (tx : Tx) → ¬ SpellsTx bytes.now tx }
+    // The same, said of the function that the rules of validation name.
+    ensures reading { IfOk result (λ tx. tx_of bytes.now ≡ Some tx) }
+    ensures no_reading { result ≡ Err Form → tx_of bytes.now ≡ None }
+{
+    whole_tx_of(alloc, bytes)
+}
