@@ -15,6 +15,7 @@ import sys
 import tempfile
 
 from scratch import RUNS, build
+from encoding import Namespace, Tx, identity, long, short, spelled_tx
 
 BENCH = pathlib.Path(__file__).resolve().parent
 MAX_BYTES = 1 << 20
@@ -93,40 +94,34 @@ fn main(rt: HostRuntime) -> anyhow::Result<()> {
 """
 
 
-def counted(size, field):
-    return len(field).to_bytes(size, "big") + field
-
-
 def listed(size, items, claimed=None):
+    """So many items, or what claims to be so many."""
     return (len(items) if claimed is None else claimed).to_bytes(size, "big") + b"".join(items)
 
 
 def example(number):
     """The transaction of docs/format.md with another id, nonce and signatures for each number."""
     seed = hashlib.sha512(number.to_bytes(8, "big")).digest()
-    read = counted(2, b"k1") + b"\1" + bytes(12)
-    write = counted(2, b"k3") + b"\1" + counted(4, b"v")
-    namespace = counted(1, b"cc") + listed(2, [read]) + listed(2, []) + listed(2, [write]) + listed(2, [])
-    body = counted(1, b"ch") + seed + counted(1, b"Org1") + b"\1" + counted(1, b"c0") + counted(1, seed[:2])
-    body += counted(1, b"cc") + listed(2, [namespace])
-    endorsement = counted(1, b"Org1") + b"\2" + counted(1, b"p0") + counted(2, seed[:32])
-    return body + listed(1, [endorsement]) + counted(2, seed[32:])
+    namespace = Namespace(b"cc", reads=[(b"k1", (0, 0))], writes=[(b"k3", b"v")])
+    endorsements = [(identity("Org1:peer:p0"), seed[:32])]
+    creator = identity("Org1:client:c0")
+    return spelled_tx(Tx(b"ch", seed, creator, seed[:2], b"cc", [namespace], endorsements, seed[32:]))
 
 
 # The shortest of each kind.
-KEY = counted(2, b"k")
+KEY = long(b"k")
 READ = WRITE = POLICY_WRITE = KEY + b"\0"
 RESULT = KEY + bytes(12)
 RANGE = bytes(7)
-ENDORSEMENT = counted(1, b"O") + bytes(4)
+ENDORSEMENT = short(b"O") + bytes(4)
 
 
 def namespace(reads=b"\0\0", ranges=b"\0\0", writes=b"\0\0", policy_writes=b"\0\0"):
-    return counted(1, b"c") + reads + ranges + writes + policy_writes
+    return short(b"c") + reads + ranges + writes + policy_writes
 
 
 def transaction(namespaces, endorsements=b"\0"):
-    head = counted(1, b"c") + bytes(64) + counted(1, b"O") + bytes(2) + bytes(1) + counted(1, b"c")
+    head = short(b"c") + bytes(64) + short(b"O") + bytes(2) + bytes(1) + short(b"c")
     return head + namespaces + endorsements + bytes(2)
 
 

@@ -11,9 +11,10 @@ import subprocess
 import sys
 import tempfile
 
-TOP = pathlib.Path(__file__).resolve().parent.parent
-CRATES = ("values", "block", "policy", "policy_eval")
-RUNS = 5
+from scratch import RUNS, build
+from encoding import Tx, identity, spelled_tx
+
+CRATES = ["values", "block", "policy", "policy_eval"]
 EVALUATIONS = 2000
 
 PROGRAM = r"""
@@ -73,9 +74,8 @@ fn main(rt: HostRuntime) -> anyhow::Result<()> {
 
 def tx_bytes(labels):
     """A transaction with peers of A as its endorsers, whose signatures are empty."""
-    body = b"\x02ch" + bytes(64) + b"\x01A\x01\x01c" + b"\x00" + b"\x02cc" + b"\x00\x00"
-    endorsements = b"".join(b"\x01A\x02" + bytes([len(it)]) + it + b"\x00\x00" for it in labels)
-    return body + bytes([len(labels)]) + endorsements + b"\x00\x00"
+    endorsements = [(identity(f"A:peer:{label}"), b"") for label in labels]
+    return spelled_tx(Tx(b"ch", bytes(64), identity("A:client:c"), b"", b"cc", [], endorsements, b""))
 
 
 def principals(org, count):
@@ -115,26 +115,6 @@ def evaluate(tree, orgs, used):
     return (True, after, steps) if count >= tree[0] else (False, used, steps)
 
 
-def build(folder):
-    """The program, in a scratch repository over copies of the crates with what their checks kept."""
-    (folder / "crates").mkdir()
-    for name in CRATES:
-        subprocess.run(["cp", "-r", str(TOP / "crates" / name), str(folder / "crates" / name)], check=True)
-    source = folder / "crates" / "evaluations" / "src"
-    source.mkdir(parents=True)
-    (source / "main.rt").write_text(PROGRAM.lstrip().replace("EVALUATIONS", str(EVALUATIONS)))
-    for name in ("specs", "proofs"):
-        (source.parent / name).mkdir()
-        (source.parent / name / "Lib.antt").write_text("")
-    wanted = [line for line in (TOP / "crates.txt").read_text().splitlines() if line.split(":")[0] in CRATES]
-    (folder / "crates.txt").write_text("\n".join(wanted + ["evaluations: block policy policy_eval anyhow"]) + "\n")
-    built = subprocess.run(["rt", "run"], cwd=source.parent, capture_output=True, text=True, check=False)
-    program = source.parent / "out" / "evaluations"
-    if not program.exists():
-        sys.exit(f"the program did not build:\n{built.stdout[-3000:]}{built.stderr[-3000:]}")
-    return str(program)
-
-
 def main():
     orgs = ["A"] * 64
     policies = {
@@ -146,8 +126,9 @@ def main():
     }
     with tempfile.TemporaryDirectory() as name:
         folder = pathlib.Path(name)
-        program = build(folder)
-        (folder / "tx").write_bytes(tx_bytes([b"%02d" % i for i in range(64)]))
+        source = PROGRAM.replace("EVALUATIONS", str(EVALUATIONS))
+        program = build(folder, "evaluations", source, own=CRATES, kit=["anyhow"])
+        (folder / "tx").write_bytes(tx_bytes([f"{i:02}" for i in range(64)]))
         for i, tree in enumerate(policies.values()):
             (folder / f"policy{i}").write_text(text_of(tree))
         paths = [f"policy{i}" for i in range(len(policies))]

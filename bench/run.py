@@ -5,7 +5,6 @@ Run as `bench/run.py` from anywhere, on a machine that has the kit; it needs 1 G
 It prints wall times (the least of five runs) and the peak memory of the program.
 """
 
-import hashlib
 import os
 import pathlib
 import resource
@@ -15,6 +14,7 @@ import tempfile
 import time
 
 from scratch import RUNS, TOP, build
+from encoding import data_hash, header_hash, spelled_block
 
 # Reads the files that it is given, and prints the microseconds that hashing them once takes.
 HASHER = r"""
@@ -40,27 +40,16 @@ fn main(rt: HostRuntime) -> anyhow::Result<()> {
 """
 
 
-def der(number, previous, data_hash):
-    octets = 1
-    while number >= 1 << (8 * octets - 1):
-        octets += 1
-    body = bytes([2, octets]) + number.to_bytes(octets, "big")
-    body += bytes([4, len(previous)]) + previous + bytes([4, 32]) + data_hash
-    return bytes([0x30, len(body)]) + body
-
-
 def make_blocks(folder, sizes):
     """Linked blocks, one for each (transactions, bytes of each); the paths of their files."""
     previous, paths = b"", []
     for number, (count, size) in enumerate(sizes):
         txs = [bytes([number % 251]) * size] * count
-        data_hash = hashlib.sha256(b"".join(txs)).digest()
-        block = b"FBK1" + number.to_bytes(8, "big") + bytes([len(previous)]) + previous + data_hash
-        block += count.to_bytes(4, "big") + b"".join(len(tx).to_bytes(4, "big") + tx for tx in txs)
+        hash_of_data = data_hash(txs)
         path = folder / f"{number}.blk"
-        path.write_bytes(block)
+        path.write_bytes(spelled_block(number, previous, hash_of_data, txs))
         paths.append(str(path))
-        previous = hashlib.sha256(der(number, previous, data_hash)).digest()
+        previous = header_hash(number, previous, hash_of_data)
     return paths
 
 

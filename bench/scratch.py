@@ -1,4 +1,7 @@
-"""What the benchmarks share: programs that are built outside the repository, and the least of five runs."""
+"""What the benchmarks share: programs that are built outside the repository, and the least of five runs.
+
+Who imports it finds the modules of `vectors/` too.
+"""
 
 import pathlib
 import shutil
@@ -7,6 +10,7 @@ import sys
 
 TOP = pathlib.Path(__file__).resolve().parent.parent
 RUNS = 5
+sys.path.append(str(TOP / "vectors"))
 
 
 def build(folder, name, source, own, kit):

@@ -1,3 +1,9 @@
+ghost use Rattle.std.specs.Prelude.{◌≡◌, ◌↔◌};
+ghost use Rattle.channel.specs.declared.fault.ChannelFault.TheVariants as channel_fault;
+ghost use Rattle.command_line.specs.declared.fault.Fault.TheVariants.{Memory};
+ghost use Rattle.command_line.specs.declared.files.FileFault.TheVariants as file_fault;
+ghost use Rattle.key_book.specs.declared.fault.KeyBookFault.TheVariants as key_book_fault;
+
 use crate::files::FileFault;
 use crate::status::{FILE_FAULT, MEMORY};
 use channel::ChannelFault;
@@ -7,7 +13,7 @@ use std::io;
 use thiserror::Error;
 
 /// What ends the program before its work is done. Its text is the line for standard error.
-#[derive(Clone, Copy, Debug, Error)]
+#[derive(Clone, Copy, Debug, PartialEq, Eq, Error)]
 pub enum Fault<'a> {
     /// The file of this path can't be read.
     #[error("cannot read {0}")]
@@ -34,7 +40,9 @@ impl<'a> Fault<'a> {
     }
 
     /// The fault of reading the file of this path.
-    pub(crate) fn of_file(path: &'a str, fault: FileFault) -> Fault<'a> {
+    pub(crate) fn of_file(path: &'a str, fault: FileFault) -> Fault<'a>
+        ensures { result ≡ Memory ↔ fault ≡ file_fault.Memory }
+    {
         match fault {
             FileFault::Inaccessible => Fault::Unreadable(path),
             FileFault::Memory => Fault::Memory,
@@ -42,7 +50,9 @@ impl<'a> Fault<'a> {
     }
 
     /// The fault of the channel text in the file of this path.
-    pub(crate) fn of_channel(path: &'a str, fault: ChannelFault) -> Fault<'a> {
+    pub(crate) fn of_channel(path: &'a str, fault: ChannelFault) -> Fault<'a>
+        ensures { result ≡ Memory ↔ fault ≡ channel_fault.Memory }
+    {
         match fault {
             ChannelFault::Line(line)
             | ChannelFault::Repeated(line)
@@ -54,7 +64,9 @@ impl<'a> Fault<'a> {
     }
 
     /// The fault of the key book in the file of this path.
-    pub(crate) fn of_key_book(path: &'a str, fault: KeyBookFault) -> Fault<'a> {
+    pub(crate) fn of_key_book(path: &'a str, fault: KeyBookFault) -> Fault<'a>
+        ensures { result ≡ Memory ↔ fault ≡ key_book_fault.Memory }
+    {
         match fault {
             KeyBookFault::Line(line) => Fault::Line(path, line),
             KeyBookFault::Memory => Fault::Memory,
@@ -73,12 +85,16 @@ impl From<io::Error> for Fault<'_> {
 }
 
 impl From<AllocError> for Fault<'_> {
+    ghost from_gives = { λ _ fault. fault ≡ Memory };
+
     fn from(_error: AllocError) -> Self {
         Fault::Memory
     }
 }
 
 impl<T: Drop> From<AllocFailed<T>> for Fault<'_> {
+    ghost from_gives = { λ _ fault. fault ≡ Memory };
+
     fn from(_error: AllocFailed<T>) -> Self {
         Fault::Memory
     }

@@ -1,61 +1,65 @@
 //! The lines of standard output.
 
+ghost use Rattle.std.specs.Prelude.{◌≡◌, ◌↔◌, ◌⊎◌, IsErr};
+ghost use Rattle.std.specs.Iterator.{IsFinite};
+ghost use Rattle.block.specs.declared.fault.BlockFault.TheVariants as block_fault;
+ghost use Rattle.rules.specs.declared.answer.Refused.TheVariants as refused_as;
+
+use crate::fault::Fault;
+use crate::status::{ACCEPTED, REFUSED};
 use block::BlockFault;
 use commit::{Accepted, Refused};
-use std::alloc::AllocError;
-use std::io::Write;
-use std::{fmt, io};
+use std::alloc::{AllocError, Global};
+use std::io;
+use std::io::{BufWriter, Write};
+use thiserror::Error;
 
-/// Why a block was refused, as the lines name it: `C1` with a malformed block's fault, `C2` with the
-/// two numbers, `C3` for the previous hash and `C4` for the data hash.
-#[derive(Clone, Copy, Debug, PartialEq, Eq)]
+/// Why a block was refused, as the lines name it. Want of memory is none of them.
+#[derive(Clone, Copy, Debug, PartialEq, Eq, Error)]
 pub(crate) enum Refusal {
-    /// One of `B1` to `B6`.
-    Malformed(u8),
+    #[error("C1 B1")]
+    BadMagic,
+    #[error("C1 B2")]
+    Truncated,
+    #[error("C1 B3")]
+    PreviousLength,
+    #[error("C1 B4")]
+    TooManyTxs,
+    #[error("C1 B5")]
+    TxTooLong,
+    #[error("C1 B6")]
+    TrailingBytes,
+    #[error("C2 want {want} got {got}")]
     WrongNumber { want: u64, got: u64 },
+    #[error("C3")]
     WrongPrevious,
+    #[error("C4")]
     WrongDataHash,
-}
-
-fn number_of(fault: BlockFault) -> Result<u8, AllocError> {
-    Ok(match fault {
-        BlockFault::BadMagic => 1,
-        BlockFault::Truncated => 2,
-        BlockFault::PreviousLength => 3,
-        BlockFault::TooManyTxs => 4,
-        BlockFault::TxTooLong => 5,
-        BlockFault::TrailingBytes => 6,
-        BlockFault::Memory => return Err(AllocError),
-    })
 }
 
 impl Refusal {
     /// The refusal, unless it is want of memory.
-    pub(crate) fn of(refused: Refused) -> Result<Refusal, AllocError> {
+    pub(crate) fn of(refused: Refused) -> Result<Refusal, AllocError>
+        ensures { IsErr result ↔ (refused ≡ refused_as.Memory ⊎ refused ≡ refused_as.Malformed block_fault.Memory) }
+    {
         Ok(match refused {
-            Refused::Malformed(fault) => Refusal::Malformed(number_of(fault)?),
+            Refused::Malformed(BlockFault::BadMagic) => Refusal::BadMagic,
+            Refused::Malformed(BlockFault::Truncated) => Refusal::Truncated,
+            Refused::Malformed(BlockFault::PreviousLength) => Refusal::PreviousLength,
+            Refused::Malformed(BlockFault::TooManyTxs) => Refusal::TooManyTxs,
+            Refused::Malformed(BlockFault::TxTooLong) => Refusal::TxTooLong,
+            Refused::Malformed(BlockFault::TrailingBytes) => Refusal::TrailingBytes,
             Refused::WrongNumber { want, got } => Refusal::WrongNumber { want, got },
             Refused::WrongPrevious => Refusal::WrongPrevious,
             Refused::WrongDataHash => Refusal::WrongDataHash,
-            Refused::Memory => return Err(AllocError),
+            Refused::Malformed(BlockFault::Memory) | Refused::Memory => return Err(AllocError),
         })
     }
 }
 
-impl fmt::Display for Refusal {
-    fn fmt<W: fmt::Write>(&self, f: &mut fmt::Formatter<W>) -> fmt::Result {
-        match self {
-            Refusal::Malformed(fault) => write!(f, "C1 B{fault}"),
-            Refusal::WrongNumber { want, got } => write!(f, "C2 want {want} got {got}"),
-            Refusal::WrongPrevious => write!(f, "C3"),
-            Refusal::WrongDataHash => write!(f, "C4"),
-        }
-    }
-}
-
-/// Writes `accepted NUMBER HASH` and a space and a flag for each transaction, HASH in lower case
-/// hexadecimal. Takes no memory.
-pub(crate) fn write_accepted<W: Write>(out: &mut W, accepted: &Accepted) -> io::Result<()> {
+// `accepted NUMBER HASH` and a space and a flag for each transaction, HASH in lower case hexadecimal.
+// Takes no memory.
+fn write_accepted<W: Write>(out: &mut W, accepted: &Accepted) -> io::Result<()> {
     let number = accepted.number;
     write!(out, "accepted {number} ")?;
     for byte in &accepted.header_hash {
@@ -68,7 +72,50 @@ pub(crate) fn write_accepted<W: Write>(out: &mut W, accepted: &Accepted) -> io::
     writeln!(out)
 }
 
-/// Writes `refused PLACE FAULT`, PLACE the block's among those handed in, from 1. Takes no memory.
-pub(crate) fn write_refused<W: Write>(out: &mut W, place: u64, refusal: Refusal) -> io::Result<()> {
-    writeln!(out, "refused {place} {refusal}")
+// A refused block is told by its place among those handed in, from 1. The status says whether all were
+// accepted.
+fn write_each<'a, A: Iterator<Item = Result<Accepted, Refused>> + Drop, W: Write>(
+    out: &mut W,
+    answers: A,
+) -> Result<u8, Fault<'a>>
+    requires can { A.can_next answers }
+    requires ends { IsFinite (A.remaining answers) }
+{
+    let mut status = ACCEPTED;
+    for (place, answer) in (1u64..).zip(answers) {
+        match answer {
+            Ok(accepted) => write_accepted(out, &accepted)?,
+            Err(refused) => {
+                let refusal = Refusal::of(refused)?;
+                writeln!(out, "refused {place} {refusal}")?;
+                status = REFUSED;
+            }
+        }
+    }
+    Ok(status)
+}
+
+/// Writes a line for each answer to a block, in the order in which they were handed in:
+/// `accepted NUMBER HASH` and the flags, or `refused PLACE FAULT`. Returns what the process ends
+/// with, unless a fault ends it before: want of memory, behind the lines of the answers before it, or
+/// a write that failed, behind which nothing is written. No answer behind a fault is asked for. The
+/// memory is a buffer of a fixed size.
+pub fn write_answers<'a, A: Iterator<Item = Result<Accepted, Refused>> + Drop, W: Write>(
+    alloc: Global,
+    answers: A,
+    out: &mut W,
+) -> Result<u8, Fault<'a>>
+    requires can { A.can_next answers }
+    requires ends { IsFinite (A.remaining answers) }
+{
+    let mut lines = BufWriter::new(alloc, out)?;
+    let ended = write_each(&mut lines, answers);
+    let written = match ended {
+        Err(Fault::Output) => Ok(()),
+        _ => lines.flush(),
+    };
+    // To drop the buffer would write what a failed write left in it.
+    let (_, _) = lines.into_parts();
+    written?;
+    ended
 }

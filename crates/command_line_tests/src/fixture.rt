@@ -1,6 +1,5 @@
 // What the tests run the program over.
-use crate::files::{FileFault, Files};
-use crate::program::program;
+use command_line::{FileFault, Files, program};
 use std::alloc::{AllocError, Global};
 use std::io;
 use std::io::{ErrorKind, Write};
@@ -48,11 +47,12 @@ impl Files for MemoryFiles<'_> {
     }
 }
 
-/// A writer that takes so many bytes, and then fails with the error of this kind; or fails when it
-/// is flushed.
+/// A writer that takes so many bytes, then fails with the error of this kind, as often as it is to,
+/// and then takes all; or that fails when it is flushed.
 #[derive(Drop)]
 pub(crate) struct Full {
     pub(crate) room: usize,
+    pub(crate) failures: usize,
     pub(crate) kind: ErrorKind,
     pub(crate) flushes: bool,
     pub(crate) taken: Vec<u8>,
@@ -62,6 +62,7 @@ impl Full {
     pub(crate) fn after(alloc: Global, room: usize) -> Full {
         Full {
             room,
+            failures: usize::MAX,
             kind: ErrorKind::StorageFull,
             flushes: true,
             taken: Vec::new(alloc),
@@ -71,7 +72,12 @@ impl Full {
 
 impl Write for Full {
     fn write(&mut self, bytes: &[u8]) -> io::Result<usize> {
+        if self.failures == 0 {
+            self.taken.extend_from_slice(bytes)?;
+            return Ok(bytes.len());
+        }
         if self.room == 0 {
+            self.failures -= 1;
             return Err(io::Error::from(self.kind));
         }
         let count = self.room.min(bytes.len());
@@ -99,10 +105,8 @@ pub(crate) fn expect(
     out: &str,
     err: &str,
 ) -> Result<(), Fail> {
-    let (got, said, faults) = ended(rt, files, words)?;
-    assert_eq!(rt; faults.as_str(), err, "for {words:?}");
-    assert_eq!(rt; said.as_str(), out, "for {words:?}");
-    assert_eq!(rt; got, status, "for {words:?}");
+    let (got, said, faults) = ended(rt, &MemoryFiles(files), words)?;
+    assert_eq!(rt; (got, said.as_str(), faults.as_str()), (status, out, err));
     Ok(())
 }
 
@@ -123,16 +127,16 @@ pub(crate) fn expect_lines(
 
 /// What the program ends with and writes to standard output and standard error, on these words
 /// behind its name.
-pub(crate) fn ended<R: AllocGlobal>(
+pub(crate) fn ended<R: AllocGlobal, F: Files>(
     rt: &R,
-    files: &[File<'_>],
+    files: &F,
     words: &[&str],
 ) -> Result<(u8, String, String), Fail> {
     let alloc = rt.alloc();
     let mut all = vec![in alloc; "/usr/bin/anything"]?;
     all.extend_from_slice(words)?;
     let (mut out, mut err) = (Vec::new(alloc), Vec::new(alloc));
-    let status = program(rt, all.as_slice(), &MemoryFiles(files), &mut out, &mut err);
+    let status = program(rt, all.as_slice(), files, &mut out, &mut err);
     Ok((
         status,
         String::from_str(alloc, from_utf8(&out)?)?,

@@ -116,11 +116,11 @@ def of_each_kind():
 def beginnings():
     """Block 0 of one transaction without bytes: with a previous hash, and as it has to be."""
     previous, hash_of_data = sha256(b"").digest(), data_hash([b""])
-    yield "TRANSACTION_WITHOUT_BYTES", [spelled_block(0, p, hash_of_data, [b""]) for p in (previous, b"")]
+    yield "TRANSACTION_WITHOUT_BYTES", [spelled_block(0, p, hash_of_data, [b""]) for p in (previous, b"")], None
 
 
 def worked():
     for rows in (reads, key_policies, endorsers, ranges, faults, ids, of_each_kind):
         for name, chain in rows():
-            yield name, [octets for octets, _, _ in chain.world.blocks]
+            yield name, [octets for octets, _, _ in chain.world.blocks], chain.world
     yield from beginnings()

@@ -95,11 +95,18 @@ def spelled_namespace(n):
     )
 
 
-def spelled_tx(tx):
+def spelled_body(tx):
     body = short(tx.channel) + tx.id + tx.creator + short(tx.nonce) + short(tx.chaincode)
-    body += listed(spelled_namespace, tx.namespaces)
+    return body + listed(spelled_namespace, tx.namespaces)
+
+
+def spelled_signed(tx):
     endorsements = b"".join(identity + long(signature) for identity, signature in tx.endorsements)
-    return body + u8(len(tx.endorsements)) + endorsements + long(tx.signature)
+    return spelled_body(tx) + u8(len(tx.endorsements)) + endorsements
+
+
+def spelled_tx(tx):
+    return spelled_signed(tx) + long(tx.signature)
 
 
 def der_integer(n):

@@ -1,7 +1,7 @@
 use crate::command::{Run, not_text};
 use crate::fault::Fault;
 use crate::files::Files;
-use crate::intake::run;
+use crate::run::run;
 use crate::status::{ACCEPTED, USAGE};
 use clap::error::ErrorKind;
 use std::alloc::Global;
@@ -73,7 +73,7 @@ fn tell_not_text<'a, O: Write, E: Write>(
 }
 
 /// The program where the process's words can't be had: they aren't all UTF-8, or memory ran out.
-pub(crate) fn without_words<R: AllocGlobal, O: Write, E: Write>(
+pub fn without_words<R: AllocGlobal, O: Write, E: Write>(
     rt: &R,
     error: &io::Error,
     out: &mut O,

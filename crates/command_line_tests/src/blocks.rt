@@ -1,5 +1,5 @@
 // What is printed for each block.
-use super::fixture::{HASH_0, HASH_1, HASH_2, NO_DATA, block, empty_block, expect_lines};
+use crate::fixture::{HASH_0, HASH_1, HASH_2, NO_DATA, block, empty_block, expect_lines};
 use std::test::Fail;
 
 #[test]
@@ -108,18 +108,6 @@ fn bytes_that_are_no_block(rt: HostRuntime) -> Result<(), Fail> {
 #[test]
 fn a_flag_for_each_transaction(rt: HostRuntime) -> Result<(), Fail> {
     let alloc = rt.alloc();
-    // The most transactions, each without bytes: the header, and so its hash, is the empty block's.
-    let mut txs = Vec::from_slice(alloc, b"\0\0\x10\0")?;
-    for _ in 0..4096 * 4 {
-        txs.push(0)?;
-    }
-    let full = block(alloc, 0, b"", &NO_DATA, &txs)?;
-    let mut lines = format!(in alloc; "accepted 0 {HASH_0}")?;
-    for _ in 0..4096 {
-        lines.push_str(" 2")?;
-    }
-    lines.push('\n')?;
-    expect_lines(&rt, &[("b", full.as_slice())], &["b"], 0, lines.as_str())?;
     // SHA-256 of `ab` (two transactions, the second without bytes), and that header's hash.
     let data = hex::decode(
         alloc,

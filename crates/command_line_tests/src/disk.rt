@@ -1,5 +1,5 @@
 // The files of the system.
-use crate::files::{DiskFiles, FileFault, Files};
+use command_line::{DiskFiles, FileFault, Files};
 use std::io::ErrorKind;
 use std::test::Fail;
 use std::{env, fs, io, process};
@@ -27,16 +27,12 @@ fn a_file_is_written_anew_and_read(rt: HostRuntime) -> Result<(), Fail> {
 fn folders_are_no_files(rt: HostRuntime) {
     let files = DiskFiles::new(&rt);
     for path in ["/", "", "a\0b"] {
-        assert_eq!(rt;
+        let faults = (
             files.read(rt.alloc(), path).err(),
-            Some(FileFault::Inaccessible),
-            "{path:?}"
-        );
-        assert_eq!(rt;
             files.write(path, b"x").err(),
-            Some(FileFault::Inaccessible),
-            "{path:?}"
         );
+        let inaccessible = Some(FileFault::Inaccessible);
+        assert_eq!(rt; faults, (inaccessible, inaccessible), "{path:?}");
     }
 }
 

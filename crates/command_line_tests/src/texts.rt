@@ -1,7 +1,6 @@
 // Faults of the files, each of which ends the program before any block is handed in.
-use super::fixture::{CHANNEL, KEYS, MemoryFiles, empty_block, expect};
-use crate::files::{FileFault, Files};
-use crate::program::program;
+use crate::fixture::{CHANNEL, KEYS, MemoryFiles, empty_block, expect};
+use command_line::{FileFault, Files, program};
 use std::alloc::Global;
 use std::str::from_utf8;
 use std::test::Fail;
@@ -150,9 +149,8 @@ fn a_file_for_which_memory_is_missing(rt: HostRuntime) -> Result<(), Fail> {
         };
         let (mut out, mut err) = (Vec::new(alloc), Vec::new(alloc));
         let status = program(&rt, &words, &files, &mut out, &mut err);
-        assert_eq!(rt; from_utf8(&err)?, "out of memory\n", "at {path}");
-        assert_eq!(rt; out.len(), 0, "at {path}");
-        assert_eq!(rt; status, 4, "at {path}");
+        let got = (status, out.len(), from_utf8(&err)?);
+        assert_eq!(rt; got, (4, 0, "out of memory\n"), "at {path}");
     }
     Ok(())
 }

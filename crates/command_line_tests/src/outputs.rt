@@ -1,6 +1,6 @@
 // Writers that fail.
-use super::fixture::{CHANNEL, Full, HASH_0, KEYS, MemoryFiles, empty_block};
-use crate::program::program;
+use crate::fixture::{CHANNEL, Full, HASH_0, KEYS, MemoryFiles, empty_block};
+use command_line::program;
 use std::io::ErrorKind;
 use std::process::Abort;
 use std::str::from_utf8;
@@ -56,14 +56,42 @@ fn standard_output_that_fails(rt: HostRuntime) -> Result<(), Fail> {
     expect_end(&rt, Full::after(alloc, 1000), both.as_str(), 1, "")
 }
 
+// More lines than a buffer holds, to a writer that takes none of them at first and all of them later.
+#[test]
+fn nothing_is_written_behind_a_failure(rt: HostRuntime) -> Result<(), Fail> {
+    let alloc = rt.alloc();
+    let files = [("c", CHANNEL), ("k", KEYS), ("b", b"".as_slice())];
+    let mut words = Vec::from_slice(alloc, &WORDS[..6])?;
+    for _ in 0..5000 {
+        words.push("b")?;
+    }
+    let mut out = Full::after(alloc, 0);
+    out.failures = 1;
+    let mut faults = Vec::new(alloc);
+    let status = program(
+        &rt,
+        words.as_slice(),
+        &MemoryFiles(&files),
+        &mut out,
+        &mut faults,
+    );
+    assert_eq!(rt; from_utf8(&faults)?, "cannot write standard output\n");
+    assert_eq!(rt; from_utf8(&out.taken)?, "");
+    assert_eq!(rt; status, 3);
+    Ok(())
+}
+
 #[test]
 fn help_that_cannot_be_written(rt: HostRuntime) -> Result<(), Fail> {
-    let mut faults = Vec::new(rt.alloc());
-    let mut out = Full::after(rt.alloc(), 10);
-    let words = ["fabcommit", "--help"];
-    let status = program(&rt, &words, &MemoryFiles(&[]), &mut out, &mut faults);
-    assert_eq!(rt; from_utf8(&faults)?, "cannot write standard output\n");
-    assert_eq!(rt; status, 3);
+    for (room, flushes) in [(10, true), (10_000, false)] {
+        let mut faults = Vec::new(rt.alloc());
+        let mut out = Full::after(rt.alloc(), room);
+        out.flushes = flushes;
+        let words = ["fabcommit", "--help"];
+        let status = program(&rt, &words, &MemoryFiles(&[]), &mut out, &mut faults);
+        assert_eq!(rt; from_utf8(&faults)?, "cannot write standard output\n");
+        assert_eq!(rt; status, 3);
+    }
     Ok(())
 }
 
@@ -74,7 +102,7 @@ fn standard_error_that_fails(rt: HostRuntime) {
     for (words, want) in rows {
         let mut err = Full::after(rt.alloc(), 3);
         let status = program(&rt, words, &MemoryFiles(&[]), &mut out, &mut err);
-        assert_eq!(rt; status, want, "for {words:?}");
+        assert_eq!(rt; status, want);
     }
     assert_eq!(rt; out.taken.len(), 0);
 }

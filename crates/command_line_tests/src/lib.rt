@@ -1,0 +1,23 @@
+//! Tests of `command_line` by its public names: the lines and statuses of whole runs, over files in
+//! memory or on disk, and writers that keep or fail. Hashes are those of Python's hashlib over header
+//! bytes made by hand.
+#![tactic(auto)]
+
+#[cfg(test)]
+mod answers;
+#[cfg(test)]
+mod blocks;
+#[cfg(test)]
+mod disk;
+#[cfg(test)]
+mod fixture;
+#[cfg(test)]
+mod limits;
+#[cfg(test)]
+mod outputs;
+#[cfg(test)]
+mod signatures;
+#[cfg(test)]
+mod texts;
+#[cfg(test)]
+mod words;

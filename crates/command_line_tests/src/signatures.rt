@@ -1,0 +1,13 @@
+// Which bytes a creator and an endorser have to sign.
+use crate::fixture::{CHANNEL, expect};
+use crate::signatures::vectors::{LINE, block, keys};
+use std::test::Fail;
+
+mod vectors;
+
+#[test]
+fn signatures_over_this_and_that(rt: HostRuntime) -> Result<(), Fail> {
+    let files = [("c", CHANNEL), ("k", keys()), ("b", block())];
+    let words = ["run", "--channel", "c", "--keys", "k", "b"];
+    expect(&rt, &files, &words, 0, LINE, "")
+}

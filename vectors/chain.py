@@ -1,0 +1,149 @@
+"""The chains on which the serial committer in Rattle is tried, with what a committer in Python finds.
+
+The flags stand in story.py and worked.py as they were worked out by hand, and the committer has to give the same.
+A few of them, by the rules:
+
+| block, place | flag | why |
+|---|---|---|
+| 1, 1 | 11 | place 0 wrote k1, which is now at (1, 0) and was read at (0, 0) |
+| 1, 4 | 0 | k5 is still at (0, 0) |
+| 3, 2 | 0 | its id came in block 2 with a bad signature of the creator: not used up |
+| 3, 1 | 9 | place 0 has the same id; that it failed its endorsement doesn't matter |
+| 11, 3 | 0 | the first member takes p0; the gate takes p1, fails and gives it back; the last takes p1: two of three |
+| 14, 5 | 10 | place 4 wrote j's policy; j has no row, so it had no effect, but j is touched |
+| 16, 1 | 10 | place 0 passed its endorsement and wrote k3's policy; that its read was stale doesn't matter |
+| 16, 3 | 0 | place 2 repeats a namespace and never came to its endorsement: k4 isn't touched |
+| 19, 1 | 0 | place 0 deleted k3 |
+| 21, 4 | 10 | k2 was deleted and written again; until the block ends its policy from before, 'Org1.admin', holds |
+| 22, 0 | 0 | the row of k2 that place 3 of block 21 made has no policy of its own |
+| 24, 2 | 0 | not exhausted: compared through a alone, b lies behind it |
+| 26, 2 | 12 | compared through cc, and b lies between a and cc |
+| 27, 0 | 12 | a policy write alone gave a the version (26, 5) |
+"""
+
+from committer import text_of
+from encoding import read_block
+from rust import rust_file, rust_string, rust_table
+from story import story
+from words import at, named, told, word
+from worked import worked
+
+
+def rust_flags(flags):
+    return "&[" + ", ".join(map(str, flags)) + "]"
+
+
+def rust_block(octets, header_hash, flags):
+    yield "    Committed {"
+    yield f"        bytes: {rust_string(octets)},"
+    yield f"        header_hash: {rust_string(header_hash)},"
+    yield f"        flags: {rust_flags(flags)},"
+    yield "    },"
+
+
+def rust_blocks(name, blocks):
+    yield "//! Blocks of one chain, made by vectors/chain.py.\n"
+    yield "use super::Committed;\n"
+    yield from rust_table(name, "Committed", ["\n".join(rust_block(*block)) for block in blocks])
+
+
+def written_keys(world):
+    return sorted(set(world.history) | set(world.state) | {(b"cc", b"j"), (b"zz", b"x")})
+
+
+def rust_row(row):
+    if row is None:
+        yield "        row: None,"
+        return
+    value, (block, tx), _ = row
+    yield "        row: Some(LeftRow {"
+    yield f"            value: {rust_string(value)},"
+    yield f"            block: {block},"
+    yield f"            tx: {tx},"
+    yield f'            policy: "{text_of(row) or ""}",'
+    yield "        }),"
+
+
+def rust_entry(version, id, value):
+    """The bytes of `Left::history` for one entry."""
+    block, tx = version
+    tail = b"-" if value is None else b"=" + len(value).to_bytes(8, "big") + value
+    return block.to_bytes(8, "big") + tx.to_bytes(4, "big") + id + tail
+
+
+def rust_left(world, place):
+    namespace, key = map(rust_string, place)
+    history = b"".join(rust_entry(*entry) for entry in reversed(world.history.get(place, [])))
+    yield "    Left {"
+    yield f"        namespace: {namespace},"
+    yield f"        key: {key},"
+    yield from rust_row(world.state.get(place))
+    yield f"        history: {rust_string(history)},"
+    yield "    },"
+
+
+def rust_rows(world):
+    yield "//! What the chain leaves at each key, made by vectors/chain.py.\n"
+    yield "use super::{Left, LeftRow};\n"
+    yield from rust_table("rows", "Left", ["\n".join(rust_left(world, place)) for place in written_keys(world)])
+
+
+def rust_uses(world):
+    yield "//! Where the chain uses each id first, made by vectors/chain.py.\n"
+    octets = b"".join(id + bytes(use) for id, use in world.first_uses.items())
+    yield "/// The id's 64 bytes, then the block, the place and the number of the flag, a byte each."
+    yield "pub fn uses() -> &'static [[u8; 67]] {\n    USES.as_chunks().0\n}\n"
+    yield f"static USES: &[u8; {len(octets)}] =\n    {rust_string(octets)};"
+
+
+def rust_worked():
+    yield "//! Chains that each show one thing, made by vectors/chain.py.\n"
+    for name, blocks, _ in worked():
+        yield f"pub const {name}: [&[u8]; {len(blocks)}] = ["
+        for octets in blocks:
+            yield f"    {rust_string(octets)},"
+        yield "];\n"
+
+
+def told_blocks(blocks, reasons):
+    """A line for each transaction: its place, flag and why, and what it is."""
+    for number, ((octets, _, flags), why) in enumerate(zip(blocks, reasons)):
+        yield f"block {number}" + ("" if flags else ", without transactions")
+        for place, (tx, flag, reason) in enumerate(zip(read_block(octets)[3], flags, why)):
+            yield f"  {place}: {flag}, {reason} | {told(tx)}"
+
+
+def told_story(world):
+    yield "The blocks of the chain, made by vectors/chain.py: for each transaction its place, flag and why, and what it is."
+    yield "Keys and values are words, in which % and two digits stand for a byte, and % alone for none. An endorser with ! behind"
+    yield "its name has a bad signature.\n"
+    yield from told_blocks(world.blocks, world.reasons)
+    yield "\nWhat is left at each key, with its own policy, and its history, the newest first.\n"
+    for place in written_keys(world):
+        row = world.state.get(place)
+        left = f"{word(row[0])} {at(row[1])}, {text_of(row) or '-'}" if row else "absent"
+        yield f"{named(*place)}: {left}"
+        for version, _, value in reversed(world.history.get(place, [])):
+            yield f"  {at(version)} {'deleted' if value is None else word(value)}"
+
+
+def told_worked():
+    yield "Chains that each show one thing, made by vectors/chain.py and told as in story.txt."
+    for name, blocks, chain in worked():
+        yield f"\n{name}"
+        if chain:
+            yield from told_blocks(chain.blocks, chain.reasons)
+        else:
+            yield from (f"block 0 in {len(octets)} bytes" for octets in blocks)
+
+
+def files():
+    world = story()
+    half = len(world.blocks) // 2
+    yield "first_blocks.rt", rust_file(rust_blocks("first_blocks", world.blocks[:half]))
+    yield "later_blocks.rt", rust_file(rust_blocks("later_blocks", world.blocks[half:]))
+    yield "rows.rt", rust_file(rust_rows(world))
+    yield "uses.rt", rust_file(rust_uses(world))
+    yield "worked.rt", rust_file(rust_worked())
+    yield "story.txt", rust_file(told_story(world))
+    yield "worked.txt", rust_file(told_worked())

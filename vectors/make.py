@@ -1,0 +1,52 @@
+#!/usr/bin/env python3
+"""Makes the bytes and expected values that come from outside of the crates: those of tests, and the sample.
+
+`python3 vectors/make.py` writes each file whose content differs and names it. With `--check` it writes nothing, names
+the files that differ, and then fails. It wants Python 3.11 and pyasn1 0.6.3.
+"""
+
+import pathlib
+import sys
+
+sys.dont_write_bytecode = True
+
+import chain
+import headers
+import sample
+import signatures
+
+CRATES = pathlib.Path(__file__).resolve().parent.parent / "crates"
+CHAIN = CRATES / "plain/src/tests/vectors"
+HEADERS = CRATES / "header_hash/src/tests"
+SAMPLE = CRATES / "fabcommit"
+SIGNATURES = CRATES / "command_line_tests/src/signatures"
+
+
+def files():
+    """Paths with the bytes that are to stand there."""
+    keys = (SAMPLE / "data/keys.txt").read_text()
+    for folder, made in (
+        (CHAIN, chain.files()),
+        (HEADERS, headers.files()),
+        (SAMPLE, sample.files(keys)),
+        (SIGNATURES, signatures.files(keys)),
+    ):
+        for name, content in made:
+            yield folder / name, content if isinstance(content, bytes) else content.encode()
+
+
+def main():
+    is_check = sys.argv[1:] == ["--check"]
+    if sys.argv[1:] and not is_check:
+        sys.exit(__doc__)
+    differing = [(path, content) for path, content in files() if not path.exists() or path.read_bytes() != content]
+    for path, content in differing:
+        print("differs:" if is_check else "written:", path.relative_to(CRATES.parent))
+        if not is_check:
+            path.parent.mkdir(parents=True, exist_ok=True)
+            path.write_bytes(content)
+    sys.exit(1 if is_check and differing else 0)
+
+
+if __name__ == "__main__":
+    main()

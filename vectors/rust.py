@@ -1,0 +1,40 @@
+"""Bytes as Rust spells them, in the layout of `rt fmt`."""
+
+WIDTH = 92
+PLACED = {ord('"'): '\\"', ord("\\"): "\\\\", 0: "\\0"}
+
+
+def rust_char(octet):
+    return PLACED.get(octet) or (chr(octet) if 32 <= octet < 127 else f"\\x{octet:02x}")
+
+
+def rust_string(octets):
+    """A byte string, broken into lines."""
+    lines, line = [], ""
+    for char in map(rust_char, octets):
+        if len(line) + len(char) > WIDTH:
+            lines.append(line)
+            line = "\\x20" if char == " " else char
+        else:
+            line += char
+    return 'b"' + "\\\n    ".join(lines + [line]) + '"'
+
+
+def rust_array(octets, indent):
+    """An array whose first line begins behind so many spaces, or behind a name there."""
+    count = (101 - indent - 4) // len("0x00, ")
+    rows = [octets[start : start + count] for start in range(0, len(octets), count)]
+    lines = [" " * (indent + 4) + ", ".join(f"0x{octet:02x}" for octet in row) + ",\n" for row in rows]
+    return "[\n" + "".join(lines) + " " * indent + "]"
+
+
+def rust_table(name, item, rows):
+    """A table behind a function: a proof that calls it doesn't read the table. The rows have their indentation."""
+    yield f"pub fn {name}() -> &'static [{item}] {{\n    &{name.upper()}\n}}\n"
+    yield f"static {name.upper()}: [{item}; {len(rows)}] = ["
+    yield from rows
+    yield "];"
+
+
+def rust_file(lines):
+    return "\n".join(lines).rstrip() + "\n"
