@@ -8,6 +8,9 @@ pub record Configuration : Type 0 where
   pub name : List ℕ
   pub definitions : Policies
 
--- at most 256 chaincodes are defined
+-- the most chaincodes of a channel
+abbrev pub max_chaincodes : ℕ
+max_chaincodes = 256
+
 abbrev pub AreFew : Policies → Type 0
-AreFew definitions = len definitions ≤ 256
+AreFew definitions = len definitions ≤ max_chaincodes

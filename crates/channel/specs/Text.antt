@@ -8,7 +8,7 @@ use Rattle.policy.specs.Fault as policy
 use Rattle.policy.specs.Meaning.{policy_or_fault}
 use Rattle.policy.specs.Policies.{Policies}
 use Rattle.text_lines.specs.Lines.{Statement, statements, first_part, after_first_part}
-use Rattle.channel.specs.Configuration.{Configuration}
+use Rattle.channel.specs.Configuration.{Configuration, max_chaincodes}
 use Rattle.channel.specs.Fault.{Fault, no_form, repeated, no_policy, too_many, no_channel}
 
 -- what one line says, or that it has neither form
@@ -57,7 +57,7 @@ policy_on n text = on_line n (policy_or_fault text)
 abbrev pub said_policy : ℕ → SoFar → List ℕ → Result Tree Fault → Result SoFar Fault
 said_policy n so_far chaincode (Err fault) = Err fault
 said_policy n so_far chaincode (Ok tree) =
-    if nat_lt (len so_far.definitions) 256
+    if nat_lt (len so_far.definitions) max_chaincodes
     then Ok (record { name = so_far.name; definitions = insert so_far.definitions chaincode tree })
     else Err (too_many n)
 

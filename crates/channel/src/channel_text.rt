@@ -14,7 +14,7 @@ use text_lines::{Statements, first_part};
 use values::{Name, is_name};
 
 /// The most chaincodes that a channel has.
-const MAX_CHAINCODES: usize = 256;
+pub(crate) const MAX_CHAINCODES: usize = 256;
 
 // What one line says.
 enum Saying<'a> {

@@ -4,9 +4,11 @@
 mod channel_text;
 mod configuration;
 mod fault;
+mod laws;
 
 pub use configuration::Channel;
 pub use fault::ChannelFault;
+pub use laws::limits_are_the_definitions;
 
 #[cfg(test)]
 mod tests;

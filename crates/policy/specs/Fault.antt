@@ -4,6 +4,7 @@ use Rattle.std.specs.Prelude.{◌≢◌, ℕ, suc, ◌+◌, ◌<◌, ◌≤◌, 
 use Rattle.policy.specs.declared.tree.PolicyRole.{PolicyRole}
 use Rattle.policy.specs.declared.token.Word.{Word}
 use Rattle.policy.specs.declared.token.Word.TheVariants.{All, Any, OutOf}
+use Rattle.policy.specs.Limits.{max_text_bytes, max_principals, max_nested_gates}
 use Rattle.policy.specs.Tree.{Tree, Trees, leaves, all_leaves}
 use Rattle.policy.specs.Token.{Token, opening, closing, comma, word, number, principal_token, no_principal, ended, Spaced}
 use Rattle.policy.specs.Grammar.{Spells, SpellsMembers, count, depth, most_depth}
@@ -52,8 +53,8 @@ pub data NoHead : List Token → Type 0 where
 
 -- A tree that keeps the limits inside g gates and after k principals.
 pub record Keeps (g k : ℕ) (t : Tree) : Type 0 where
-  pub few : k + leaves t ≤ 256
-  pub flat : g + depth t ≤ 32
+  pub few : k + leaves t ≤ max_principals
+  pub flat : g + depth t ≤ max_nested_gates
 
 mutual
   -- Inside g gates and after k principals the expression that stands at the front has this fault.
@@ -64,26 +65,26 @@ mutual
     no_role : {g k : ℕ} {ts : List Token}
         → Fails g k (no_principal ∷ ts) role_fault
     too_many : {g k : ℕ} {org : List ℕ} {role : PolicyRole} {ts : List Token}
-        → 256 ≤ k
+        → max_principals ≤ k
         → Fails g k (principal_token org role ∷ ts) size_fault
     too_deep : {g k : ℕ} {w : Word} {ts : List Token}
-        → 32 ≤ g
+        → max_nested_gates ≤ g
         → Fails g k (word w ∷ ts) depth_fault
     no_head : {g k : ℕ} {ts : List Token}
-        → g < 32
+        → g < max_nested_gates
         → NoHead ts
         → Fails g k ts syntax_fault
     member_fails : {g k : ℕ} {head ts : List Token} {f : Fault}
-        → g < 32
+        → g < max_nested_gates
         → Head head
         → FailsMembers (suc g) k ts f
         → Fails g k (head ++ ts) f
     -- known at the closing parenthesis, whatever follows
     no_threshold : {g k n : ℕ} {members : Trees} {ts : List Token} (us : List Token)
-        → g < 32
+        → g < max_nested_gates
         → SpellsMembers members ts
-        → k + all_leaves members ≤ 256
-        → suc g + most_depth members ≤ 32
+        → k + all_leaves members ≤ max_principals
+        → suc g + most_depth members ≤ max_nested_gates
         → (1 ≤ n → n ≤ count members → ⊥)
         → Fails g k (word OutOf ∷ opening ∷ number n ∷ comma ∷ (ts ++ us)) threshold_fault
 
@@ -107,16 +108,16 @@ mutual
 -- The kind of the fault of a text.
 pub data HasFault : List ℕ → Fault → Type 0 where
   too_long : {text : List ℕ}
-      → 4096 < length text
+      → max_text_bytes < length text
       → HasFault text size_fault
   fails : {text : List ℕ} {ts : List Token} {f : Fault}
-      → length text ≤ 4096
+      → length text ≤ max_text_bytes
       → Spaced ts text
       → Fails 0 0 ts f
       → HasFault text f
   -- something stands behind the policy
   goes_on : {text : List ℕ} {t : Tree} {ts : List Token} (us : List Token)
-      → length text ≤ 4096
+      → length text ≤ max_text_bytes
       → Spaced (ts ++ us) text
       → Spells t ts
       → Keeps 0 0 t

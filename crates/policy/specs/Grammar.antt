@@ -2,6 +2,7 @@
 use Rattle.std.specs.Prelude.{ℕ, suc, ◌≤◌, max, List, [], ◌∷◌, ◌++◌, length}
 use Rattle.policy.specs.declared.tree.PolicyRole.{PolicyRole}
 use Rattle.policy.specs.declared.token.Word.TheVariants.{All, Any, OutOf}
+use Rattle.policy.specs.Limits.{max_text_bytes, max_principals, max_nested_gates}
 use Rattle.policy.specs.Tree.{Tree, Trees, principal, gate, none, more, leaves}
 use Rattle.policy.specs.Token.{Token, opening, closing, comma, word, number, principal_token, Spaced}
 
@@ -55,6 +56,6 @@ pub record IsPolicy (text : List ℕ) (t : Tree) : Type 0 where
   pub tokens : List Token
   pub spaced : Spaced tokens text
   pub spells : Spells t tokens
-  pub short : length text ≤ 4096
-  pub few : leaves t ≤ 256
-  pub flat : depth t ≤ 32
+  pub short : length text ≤ max_text_bytes
+  pub few : leaves t ≤ max_principals
+  pub flat : depth t ≤ max_nested_gates

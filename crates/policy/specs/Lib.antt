@@ -2,6 +2,7 @@ pub mod Tree
 pub mod View
 pub mod Falls
 pub mod Token
+pub mod Limits
 pub mod Grammar
 pub mod Fault
 pub mod Kind

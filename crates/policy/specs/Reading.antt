@@ -3,6 +3,7 @@
 use Rattle.std.specs.Prelude.{ℕ, zero, suc, ◌+◌, List, [], ◌∷◌, length, Bool, true, false, ◌&&◌, nat_le, nat_lt, if◌then◌else◌, Result, Ok, Err}
 use Rattle.policy.specs.declared.token.Word.{Word}
 use Rattle.policy.specs.declared.token.Word.TheVariants.{All, Any, OutOf}
+use Rattle.policy.specs.Limits.{max_text_bytes, max_principals, max_nested_gates}
 use Rattle.policy.specs.Tree.{Tree, principal, gate}
 use Rattle.policy.specs.View.{trees}
 use Rattle.policy.specs.Token.{Token, opening, closing, comma, word, number, principal_token, no_principal, ended}
@@ -67,7 +68,7 @@ head_at Any bytes = opening_at bytes >>= λ rest. Ok (one, rest)
 head_at OutOf bytes =
     opening_at bytes >>= λ inside. threshold_at inside >>= λ n. comma_at n.1 >>= λ rest. Ok (at_least n.0, rest)
 
--- ---- members, of which each has a principal, so that there are no more than 256
+-- ---- members, of which each has a principal, so that there are no more than their limit
 
 abbrev pub after_member : Reader (List Tree) → Read Tree → Bool → List ℕ → Result (Read (List Tree)) Fault
 after_member others first true rest =
@@ -95,7 +96,7 @@ closed asked members =
 abbrev pub first_token : (Word → Reader Tree) → ℕ → Token → List ℕ → Result (Read Tree) Fault
 first_token gates k (word w) rest = gates w k rest
 first_token gates k (principal_token org role) rest =
-    if nat_lt k 256 then Ok (record { value = principal org role; principals = k + 1; rest = rest }) else Err size_fault
+    if nat_lt k max_principals then Ok (record { value = principal org role; principals = k + 1; rest = rest }) else Err size_fault
 first_token gates k no_principal rest = Err role_fault
 first_token gates k t rest = Err syntax_fault
 
@@ -119,5 +120,5 @@ last_token t other = Err syntax_fault
 -- the policy that the text spells, or its fault
 unfoldable pub policy_at : List ℕ → Result Tree Fault
 policy_at bytes =
-    if nat_lt 4096 (length bytes) then Err size_fault
-    else (expression_by (gate_at 32) 0 bytes >>= λ read. last_token read.value (token_at read.rest).0)
+    if nat_lt max_text_bytes (length bytes) then Err size_fault
+    else (expression_by (gate_at max_nested_gates) 0 bytes >>= λ read. last_token read.value (token_at read.rest).0)

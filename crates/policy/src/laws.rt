@@ -1,8 +1,18 @@
 ghost use Rattle.std.specs.Prelude.{◌≡◌, ◌⊎◌, ◌↔◌, ℕ, List, Some, Ok, Err};
+ghost use Rattle.policy.specs.Limits.{max_text_bytes, max_principals, max_nested_gates};
 ghost use Rattle.policy.specs.Tree.{Tree};
 ghost use Rattle.policy.specs.Grammar.{IsPolicy};
 ghost use Rattle.policy.specs.Fault.{Fault, HasFault};
 ghost use Rattle.policy.specs.Meaning.{policy_of, policy_or_fault};
+
+use crate::reader::{MAX_GATES, MAX_PRINCIPALS, MAX_TEXT};
+
+/// A law, and no work: the limits of this code are those that the definitions name.
+pub fn limits_are_the_definitions()
+    ensures text { MAX_TEXT ≡ max_text_bytes }
+    ensures principals { MAX_PRINCIPALS ≡ max_principals }
+    ensures gates { MAX_GATES ≡ max_nested_gates }
+{}
 
 /// Laws of the policy grammar, and no work: no text spells two trees, none has two kinds of fault, none a tree
 /// and a fault, and each has one or the other.

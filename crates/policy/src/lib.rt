@@ -21,7 +21,7 @@ mod tree;
 
 pub use definitions::Definitions;
 pub use fault::PolicyFault;
-pub use laws::{one_reading, policy_reading};
+pub use laws::{limits_are_the_definitions, one_reading, policy_reading};
 pub use policy::Policy;
 pub use tree::{Expression, Node, PolicyRole, Principal};
 

@@ -11,12 +11,14 @@ use crate::token::{Token, Word, next_token, skip_spaces};
 use crate::tree::{Expression, Node, PolicyRole, Principal};
 use std::alloc::Global;
 
-const MAX_TEXT: usize = 4096;
+/// The most bytes of a text.
+pub(crate) const MAX_TEXT: usize = 4096;
 
-const MAX_PRINCIPALS: u32 = 256;
+/// The most principals of a policy.
+pub(crate) const MAX_PRINCIPALS: u32 = 256;
 
-/// How many gates may be nested.
-const MAX_GATES: u32 = 32;
+/// The most gates inside one another.
+pub(crate) const MAX_GATES: u32 = 32;
 
 /// Which threshold a gate asks for.
 #[derive(Clone, Copy)]
