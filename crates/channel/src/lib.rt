@@ -9,6 +9,3 @@ mod laws;
 pub use configuration::Channel;
 pub use fault::ChannelFault;
 pub use laws::limits_are_the_definitions;
-
-#[cfg(test)]
-mod tests;

@@ -8,6 +8,3 @@ mod hash;
 pub use data_hash::DataHasher;
 pub use der::{Der, header_der, integers_are_minimal};
 pub use hash::{header_hash, tx_id};
-
-#[cfg(test)]
-mod tests;

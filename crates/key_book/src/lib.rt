@@ -11,6 +11,3 @@ pub use fault::KeyBookFault;
 pub use hmac::hmac_sha256;
 pub use identity_text::read_identity;
 pub use key_book::KeyBook;
-
-#[cfg(test)]
-mod tests;

@@ -24,6 +24,3 @@ pub use fault::PolicyFault;
 pub use laws::{limits_are_the_definitions, one_reading, policy_reading};
 pub use policy::Policy;
 pub use tree::{Expression, Node, PolicyRole, Principal};
-
-#[cfg(test)]
-mod tests;

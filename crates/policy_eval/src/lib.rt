@@ -17,6 +17,3 @@ pub use laws::{each_signer_once, flat_gates_are_monotone, one_evaluation};
 pub use signer_list::Signers;
 pub use signing::signers;
 pub use verify::Verify;
-
-#[cfg(test)]
-mod tests;

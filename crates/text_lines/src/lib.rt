@@ -10,6 +10,3 @@ pub use lines::{Statement, Statements};
 pub use parts::{first_part, trimmed};
 pub use utf8::text_of;
 pub use words::read_word;
-
-#[cfg(test)]
-mod tests;

@@ -35,7 +35,8 @@ impl<'a> SpelledTx<'a> {
     }
 
     pub fn tx(&self) -> &Tx<'a>
-        ensures { result.now ≡ self.now }
+        ensures value { result.now ≡ self.now }
+        ensures spelled { IsSpelled result.now }
     {
         &self.tx
     }

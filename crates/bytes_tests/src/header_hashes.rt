@@ -1,0 +1,66 @@
+use block::{Header, Previous};
+use header_hash::{DataHasher, header_der, header_hash, tx_id};
+use std::test::Fail;
+use vectors::{Row, rows};
+
+mod vectors;
+
+// SHA-256 of `abc` (FIPS 180-4, example of NIST) and of no bytes.
+const ABC: [u8; 32] = [
+    0xba, 0x78, 0x16, 0xbf, 0x8f, 0x01, 0xcf, 0xea, 0x41, 0x41, 0x40, 0xde, 0x5d, 0xae, 0x22, 0x23,
+    0xb0, 0x03, 0x61, 0xa3, 0x96, 0x17, 0x7a, 0x9c, 0xb4, 0x10, 0xff, 0x61, 0xf2, 0x00, 0x15, 0xad,
+];
+
+const NOTHING: [u8; 32] = [
+    0xe3, 0xb0, 0xc4, 0x42, 0x98, 0xfc, 0x1c, 0x14, 0x9a, 0xfb, 0xf4, 0xc8, 0x99, 0x6f, 0xb9, 0x24,
+    0x27, 0xae, 0x41, 0xe4, 0x64, 0x9b, 0x93, 0x4c, 0xa4, 0x95, 0x99, 0x1b, 0x78, 0x52, 0xb8, 0x55,
+];
+
+fn previous_of(row: &Row) -> Result<Previous, Fail> {
+    match row.previous {
+        [] => Ok(Previous::Empty),
+        bytes => {
+            let hash = bytes.first_chunk::<32>().ok_or("32 bytes")?;
+            Ok(Previous::Hash(*hash))
+        }
+    }
+}
+
+#[test]
+fn headers(rt: HostRuntime) -> Result<(), Fail> {
+    for row in rows() {
+        let header = Header {
+            number: row.number,
+            previous: previous_of(row)?,
+            data_hash: *row.data_hash,
+        };
+        assert_eq!(rt; header_der(&header).as_slice(), row.der);
+        assert_eq!(rt; header_hash(&header), *row.hash);
+    }
+    Ok(())
+}
+
+fn data_hash(txs: &[&[u8]]) -> [u8; 32] {
+    let mut hasher = DataHasher::new();
+    for tx in txs {
+        hasher.add(tx);
+    }
+    hasher.finish()
+}
+
+#[test]
+fn data_hashes(rt: HostRuntime) {
+    assert_eq!(rt; data_hash(&[]), NOTHING);
+    assert_eq!(rt; data_hash(&[b""]), NOTHING);
+    assert_eq!(rt; data_hash(&[b"abc"]), ABC);
+    assert_eq!(rt; data_hash(&[b"a", b"bc"]), ABC);
+    assert_eq!(rt; data_hash(&[b"a", b"b", b"c"]), ABC);
+    assert_eq!(rt; data_hash(&[b"", b"ab", b"", b"c"]), ABC);
+}
+
+#[test]
+fn ids(rt: HostRuntime) {
+    let expected = b"ba7816bf8f01cfea414140de5dae2223b00361a396177a9cb410ff61f20015ad";
+    assert_eq!(rt; tx_id(b"ab", b"c"), *expected);
+    assert_eq!(rt; tx_id(b"", b"abc"), *expected);
+}

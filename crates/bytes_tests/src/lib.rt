@@ -1,0 +1,11 @@
+//! Tests of bytes: blocks and transactions both ways, headers and hashes.
+#![tactic(auto)]
+
+#[cfg(test)]
+mod blocks;
+#[cfg(test)]
+mod header_hashes;
+#[cfg(test)]
+mod told;
+#[cfg(test)]
+mod transactions;

@@ -1,0 +1,62 @@
+use block::BlockFault;
+use std::test::Fail;
+use transaction::{EncodeFault, TxFault};
+
+fn of_blocks() -> &'static [(BlockFault, &'static str)] {
+    &OF_BLOCKS
+}
+
+static OF_BLOCKS: [(BlockFault, &str); 7] = [
+    (BlockFault::BadMagic, "the bytes don't begin with the magic"),
+    (
+        BlockFault::Truncated,
+        "fewer bytes remain than the next field has",
+    ),
+    (
+        BlockFault::PreviousLength,
+        "the previous hash has neither 0 nor 32 bytes",
+    ),
+    (BlockFault::TooManyTxs, "more than 4096 transactions"),
+    (
+        BlockFault::TxTooLong,
+        "a transaction of more than 1048576 bytes",
+    ),
+    (
+        BlockFault::TrailingBytes,
+        "bytes remain behind the last transaction",
+    ),
+    (BlockFault::Memory, "out of memory"),
+];
+
+#[test]
+fn each_fault_of_a_block_is_told(rt: HostRuntime) -> Result<(), Fail> {
+    for &(fault, text) in of_blocks() {
+        let told = format!(in rt.alloc(); "{fault}")?;
+        assert_eq!(rt; told.as_str(), text);
+    }
+    Ok(())
+}
+
+#[test]
+fn each_fault_of_a_transaction_is_told(rt: HostRuntime) -> Result<(), Fail> {
+    for (fault, text) in [
+        (TxFault::Form, "the bytes have another form"),
+        (TxFault::Memory, "out of memory"),
+    ] {
+        let told = format!(in rt.alloc(); "{fault}")?;
+        assert_eq!(rt; told.as_str(), text);
+    }
+    Ok(())
+}
+
+#[test]
+fn each_fault_of_a_value_is_told(rt: HostRuntime) -> Result<(), Fail> {
+    for (fault, text) in [
+        (EncodeFault::TooLarge, "too large to be spelled"),
+        (EncodeFault::Memory, "out of memory"),
+    ] {
+        let told = format!(in rt.alloc(); "{fault}")?;
+        assert_eq!(rt; told.as_str(), text);
+    }
+    Ok(())
+}

@@ -1,0 +1,139 @@
+use policy::{Expression, Node, Policy, PolicyRole, one_reading};
+use std::test::Fail;
+
+// A text, and the canonical text of what it spells.
+fn spelled() -> &'static [(&'static str, &'static str)] {
+    &SPELLED
+}
+
+static SPELLED: [(&str, &str); 34] = [
+    // Principals.
+    ("'A.peer'", "'A.peer'"),
+    ("\"A.peer\"", "'A.peer'"),
+    (" 'a.b.c.member' ", "'a.b.c.member'"),
+    ("'.-_.peer'", "'.-_.peer'"),
+    ("'a..peer'", "'a..peer'"),
+    ("'..peer'", "'..peer'"),
+    ("'member.member'", "'member.member'"),
+    ("'A.peer.admin'", "'A.peer.admin'"),
+    ("'0.orderer'", "'0.orderer'"),
+    // The nine spellings of the words.
+    ("AND('A.peer','B.peer')", "AND('A.peer','B.peer')"),
+    ("And('A.peer','B.peer')", "AND('A.peer','B.peer')"),
+    ("and('A.peer','B.peer')", "AND('A.peer','B.peer')"),
+    ("OR('A.peer','B.peer')", "OR('A.peer','B.peer')"),
+    ("Or('A.peer','B.peer')", "OR('A.peer','B.peer')"),
+    ("or('A.peer','B.peer')", "OR('A.peer','B.peer')"),
+    (
+        "OutOf(2,'A.peer','B.peer','C.peer')",
+        "OutOf(2,'A.peer','B.peer','C.peer')",
+    ),
+    (
+        "outof(2,'A.peer','B.peer','C.peer')",
+        "OutOf(2,'A.peer','B.peer','C.peer')",
+    ),
+    (
+        "OUTOF(2,'A.peer','B.peer','C.peer')",
+        "OutOf(2,'A.peer','B.peer','C.peer')",
+    ),
+    // Thresholds.
+    ("AND('A.peer')", "OR('A.peer')"),
+    ("OR('A.peer')", "OR('A.peer')"),
+    ("OutOf(1,'A.peer')", "OR('A.peer')"),
+    ("OutOf(1,'A.peer','B.peer')", "OR('A.peer','B.peer')"),
+    ("OutOf(2,'A.peer','B.peer')", "AND('A.peer','B.peer')"),
+    (
+        "OutOf(03,'A.peer','B.peer','C.peer')",
+        "AND('A.peer','B.peer','C.peer')",
+    ),
+    (
+        "OutOf(002,'A.peer','B.peer','C.peer')",
+        "OutOf(2,'A.peer','B.peer','C.peer')",
+    ),
+    (
+        "OutOf(001,'A.client','B.orderer')",
+        "OR('A.client','B.orderer')",
+    ),
+    // Members.
+    (
+        "OR('A.member','A.admin','A.client','A.peer','A.orderer')",
+        "OR('A.member','A.admin','A.client','A.peer','A.orderer')",
+    ),
+    ("OR('A.peer','A.peer')", "OR('A.peer','A.peer')"),
+    (
+        "OR(AND('A.peer',\"B.peer\"),OutOf(2,'A.admin','B.admin','C.admin'))",
+        "OR(AND('A.peer','B.peer'),OutOf(2,'A.admin','B.admin','C.admin'))",
+    ),
+    ("AND(OR('A.peer'),'B.peer')", "AND(OR('A.peer'),'B.peer')"),
+    // Spaces.
+    (
+        "and( \"Org1.peer\" , OutOf(1,'Org2.admin') )",
+        "AND('Org1.peer',OR('Org2.admin'))",
+    ),
+    (
+        "  OutOf  (  2  ,  'A.peer'  ,  'B.peer'  ,  'C.peer'  )  ",
+        "OutOf(2,'A.peer','B.peer','C.peer')",
+    ),
+    ("OR ('A.peer' ,'B.peer' )", "OR('A.peer','B.peer')"),
+    ("AND( OR( 'A.peer' ) )", "OR(OR('A.peer'))"),
+];
+
+#[test]
+fn texts_and_canonical_texts(rt: HostRuntime) -> Result<(), Fail> {
+    let alloc = rt.alloc();
+    for &(text, canonical) in spelled() {
+        let policy = Policy::parse(alloc, text)?;
+        let written = policy.text(alloc)?;
+        assert_eq!(rt; written.as_str(), canonical);
+        let again = Policy::parse(alloc, canonical)?;
+        let rewritten = again.text(alloc)?;
+        assert_eq!(rt; rewritten.as_str(), canonical);
+    }
+    Ok(())
+}
+
+fn member_count(expression: &Expression) -> usize {
+    match &expression.node {
+        Node::Signed(_) => 0,
+        Node::Gate { members, .. } => members.len(),
+    }
+}
+
+fn threshold_of(expression: &Expression) -> u16 {
+    match &expression.node {
+        Node::Signed(_) => 0,
+        Node::Gate { threshold, .. } => *threshold,
+    }
+}
+
+#[test]
+fn a_copy_has_the_same_tree(rt: HostRuntime) -> Result<(), Fail> {
+    let alloc = rt.alloc();
+    one_reading();
+    let policy = Policy::parse(
+        alloc,
+        "OutOf(2,'A.peer',AND('B.admin','C.client'),'D.member')",
+    )?;
+    assert_eq!(rt; threshold_of(policy.root()), 2);
+    assert_eq!(rt; member_count(policy.root()), 3);
+    let copied = policy.copy(alloc)?;
+    let text = copied.text(alloc)?;
+    assert_eq!(rt;
+        text.as_str(),
+        "OutOf(2,'A.peer',AND('B.admin','C.client'),'D.member')"
+    );
+    Ok(())
+}
+
+#[test]
+fn a_principal_is_an_organization_and_a_role(rt: HostRuntime) -> Result<(), Fail> {
+    let alloc = rt.alloc();
+    let policy = Policy::parse(alloc, "'a.b.admin'")?;
+    if let Node::Signed(principal) = &policy.root().node {
+        assert_eq!(rt; principal.org.as_slice(), b"a.b".as_slice());
+        assert_eq!(rt; principal.role, PolicyRole::Admin);
+    } else {
+        assert!(rt; false);
+    }
+    Ok(())
+}

@@ -1,0 +1,46 @@
+use channel::ChannelFault;
+use key_book::KeyBookFault;
+use policy::PolicyFault;
+use std::test::Fail;
+
+fn of_channels() -> &'static [(ChannelFault, &'static str)] {
+    &OF_CHANNELS
+}
+
+static OF_CHANNELS: [(ChannelFault, &str); 6] = [
+    (
+        ChannelFault::Line(7),
+        "line 7: neither `channel NAME` nor `chaincode NAME POLICY`",
+    ),
+    (
+        ChannelFault::Repeated(300),
+        "line 300: repeats an earlier line's channel or chaincode",
+    ),
+    (
+        ChannelFault::Policy(2, PolicyFault::Syntax { at: 4 }),
+        "line 2: the policy's byte 4 can't stand there",
+    ),
+    (
+        ChannelFault::TooMany(258),
+        "line 258: more than 256 chaincodes",
+    ),
+    (ChannelFault::NoChannel, "no line names the channel"),
+    (ChannelFault::Memory, "out of memory"),
+];
+
+#[test]
+fn each_fault_is_told(rt: HostRuntime) -> Result<(), Fail> {
+    let alloc = rt.alloc();
+    for &(fault, text) in of_channels() {
+        let told = format!(in alloc; "{fault}")?;
+        assert_eq!(rt; told.as_str(), text);
+    }
+    for (fault, text) in [
+        (KeyBookFault::Line(7), "line 7"),
+        (KeyBookFault::Memory, "out of memory"),
+    ] {
+        let told = format!(in alloc; "{fault}")?;
+        assert_eq!(rt; told.as_str(), text);
+    }
+    Ok(())
+}
