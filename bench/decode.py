@@ -2,7 +2,7 @@
 """Times the decoding of transactions against hashing their bytes with the same sha2, and counts its memory.
 
 Run as `bench/decode.py` from anywhere, on a machine that has the kit and a C compiler; it needs 3 GB under TMPDIR, since
-what the crates' last check kept is copied. Run it behind `rt check` of the crate `block`: else it is proved first.
+what the crates' last check kept is copied. Run it behind `rt check` of the crate `transaction`: else it is proved first.
 It prints the least of five runs of both, and for the example and the dearest inputs the bytes of allocations for each
 byte of input. It fails where either is more than what is promised.
 """
@@ -22,15 +22,15 @@ MAX_BYTES = 1 << 20
 MAX_COUNT = (1 << 16) - 1
 
 # What decode_tx says of itself, in bytes of allocations for a byte of input, and the times of hashing that decoding may take.
-HELD = {"good": 15, "refused": 27}
-RATIO = 3
+HELD = {"good": 12, "refused": 22}
+RATIO = 0.25
 
 # Prints the least nanoseconds of hashing the file that it is given, of decoding its transactions of 200 bytes, and
 # how many of these are good.
 TIMER = r"""
 #![tactic(auto)]
 
-use block::decode_tx;
+use transaction::decode_tx;
 use sha2::{Digest, Sha256};
 use std::alloc::Global;
 use std::time::Instant;
@@ -71,7 +71,7 @@ fn main(rt: HostRuntime) -> anyhow::Result<()> {
 ONCE = r"""
 #![tactic(auto)]
 
-use block::decode_tx;
+use transaction::decode_tx;
 use std::alloc::{AllocError, Global};
 use std::{env, fs};
 
@@ -165,7 +165,7 @@ def heavy():
 
 
 def time_of(folder):
-    timer = build(folder / "timer", "timer", TIMER.replace("RUNS", str(RUNS)), own=["values", "block"], kit=["sha2", "anyhow"])
+    timer = build(folder / "timer", "timer", TIMER.replace("RUNS", str(RUNS)), own=["values", "transaction"], kit=["sha2", "anyhow"])
     count = 500_000
     path = folder / "transactions"
     path.write_bytes(b"".join(example(number) for number in range(count)))
@@ -177,11 +177,11 @@ def time_of(folder):
     print(f"{count} transactions, {size} bytes: hashing {hashing / 1e9:.3f} s, decoding {decoding / 1e9:.3f} s, "
           f"ratio {decoding / hashing:.2f}")
     if RATIO * hashing < decoding:
-        sys.exit(f"decoding takes more than {RATIO} times as long as hashing")
+        sys.exit(f"decoding takes more than {RATIO} of the time of hashing")
 
 
 def memory_of(folder):
-    once = build(folder / "once", "once", ONCE, own=["values", "block"], kit=["anyhow"])
+    once = build(folder / "once", "once", ONCE, own=["values", "transaction"], kit=["anyhow"])
     counter = folder / "count_allocations.so"
     subprocess.run(["cc", "-O2", "-fPIC", "-shared", "-o", counter, BENCH / "count_allocations.c"], check=True)
     path = folder / "transaction"

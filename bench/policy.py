@@ -14,21 +14,18 @@ import tempfile
 from scratch import RUNS, build
 from encoding import Tx, identity, spelled_tx
 
-CRATES = ["values", "block", "policy", "policy_eval"]
+CRATES = ["values", "transaction", "policy", "policy_eval"]
 EVALUATIONS = 2000
 
 PROGRAM = r"""
 #![tactic(auto)]
 
-ghost use Rattle.std.specs.Prelude.{IfOk};
-ghost use Rattle.policy_eval.specs.Signers.{IsSpelled};
-
-use block::{Identity, Tx, decode_tx};
 use policy::Policy;
 use policy_eval::{Verify, satisfied, signers};
 use std::alloc::Global;
 use std::time::Instant;
 use std::{env, fs};
+use transaction::{Identity, decode_tx};
 
 struct Any;
 
@@ -37,23 +34,17 @@ impl Verify for Any {
 
     ghost accepts = { λ _ _ _ _. true };
 
-    fn verify(&self, _identity: &Identity, _message: &[u8], _signature: &[u8]) -> bool {
+    fn verify(&self, _identity: &Identity<'_>, _message: &[u8], _signature: &[u8]) -> bool {
         true
     }
-}
-
-fn decoded(alloc: Global, bytes: &[u8]) -> anyhow::Result<Tx>
-    ensures { IfOk result IsSpelled }
-{
-    Ok(decode_tx(alloc, bytes)?)
 }
 
 // Prints a line for each policy: how many of the evaluations hold, and the microseconds.
 fn main(rt: HostRuntime) -> anyhow::Result<()> {
     let alloc = rt.alloc();
     let bytes = fs::read(&rt, "tx")?;
-    let tx = decoded(alloc, bytes.as_slice())?;
-    let found = signers(alloc, &tx, &Any)?;
+    let tx = decode_tx(alloc, bytes.as_slice())?;
+    let found = signers(alloc, tx.tx(), &Any)?;
     for path in env::args(&rt)?.skip(1) {
         let text = fs::read_to_string(&rt, path.as_str())?;
         let policy = Policy::parse(alloc, text.as_str())?;

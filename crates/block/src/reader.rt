@@ -16,7 +16,7 @@ use std::alloc::{AllocError, Global};
 use transaction::MAX_TX_BYTES;
 use values::{HASH_BYTES, Hash, Items, Slice};
 
-fn bytes_of(n: usize, bytes: &[u8]) -> Result<(&[u8], &[u8]), BlockFault>
+fn read_bytes(n: usize, bytes: &[u8]) -> Result<(&[u8], &[u8]), BlockFault>
     ensures { Gives (λ x. (x.0.now, x.1.now)) result (bytes_at n bytes.now) }
 {
     if bytes.len() < n {
@@ -25,7 +25,7 @@ fn bytes_of(n: usize, bytes: &[u8]) -> Result<(&[u8], &[u8]), BlockFault>
     Ok(bytes.split_at(n))
 }
 
-fn u64_of(bytes: &[u8]) -> Result<(u64, &[u8]), BlockFault>
+fn read_u64(bytes: &[u8]) -> Result<(u64, &[u8]), BlockFault>
     ensures { Gives (λ x. (x.0, x.1.now)) result (number_at 8 bytes.now) }
 {
     if bytes.len() < 8 {
@@ -34,7 +34,7 @@ fn u64_of(bytes: &[u8]) -> Result<(u64, &[u8]), BlockFault>
     Ok((BigEndian::read_u64(bytes), &bytes[8..]))
 }
 
-fn u32_of(bytes: &[u8]) -> Result<(u32, &[u8]), BlockFault>
+fn read_u32(bytes: &[u8]) -> Result<(u32, &[u8]), BlockFault>
     ensures { Gives (λ x. (x.0, x.1.now)) result (number_at 4 bytes.now) }
 {
     if bytes.len() < 4 {
@@ -52,7 +52,7 @@ fn after_magic(bytes: &[u8]) -> Result<&[u8], BlockFault>
     Ok(&bytes[4..])
 }
 
-fn hash_of(bytes: &[u8]) -> Result<(Hash, &[u8]), BlockFault>
+fn read_hash(bytes: &[u8]) -> Result<(Hash, &[u8]), BlockFault>
     ensures { Gives (λ x. (x.0, x.1.now)) result (bytes_at hash_bytes bytes.now) }
 {
     if bytes.len() < HASH_BYTES {
@@ -65,7 +65,7 @@ fn hash_of(bytes: &[u8]) -> Result<(Hash, &[u8]), BlockFault>
 }
 
 #[tactic(auto, unfolding(crate::specs::Reading::previous_at))]
-fn previous_of(bytes: &[u8]) -> Result<(Previous, &[u8]), BlockFault>
+fn read_previous(bytes: &[u8]) -> Result<(Previous, &[u8]), BlockFault>
     ensures { Gives (λ x. (x.0, x.1.now)) result (previous_at bytes.now) }
 {
     let Some((len, rest)) = bytes.split_first() else {
@@ -77,18 +77,18 @@ fn previous_of(bytes: &[u8]) -> Result<(Previous, &[u8]), BlockFault>
     if *len as usize != HASH_BYTES {
         return Err(BlockFault::PreviousLength);
     }
-    let (hash, rest) = hash_of(rest)?;
+    let (hash, rest) = read_hash(rest)?;
     Ok((Previous::Hash(hash), rest))
 }
 
 #[tactic(auto, unfolding(crate::specs::Reading::header_at))]
-fn header_of(bytes: &[u8]) -> Result<(Header, &[u8]), BlockFault>
+fn read_header(bytes: &[u8]) -> Result<(Header, &[u8]), BlockFault>
     ensures { Gives (λ x. (x.0, x.1.now)) result (header_at bytes.now) }
 {
     let rest = after_magic(bytes)?;
-    let (number, rest) = u64_of(rest)?;
-    let (previous, rest) = previous_of(rest)?;
-    let (data_hash, rest) = hash_of(rest)?;
+    let (number, rest) = read_u64(rest)?;
+    let (previous, rest) = read_previous(rest)?;
+    let (data_hash, rest) = read_hash(rest)?;
     let header = Header {
         number,
         previous,
@@ -98,10 +98,10 @@ fn header_of(bytes: &[u8]) -> Result<(Header, &[u8]), BlockFault>
 }
 
 #[tactic(auto, unfolding(crate::specs::Reading::count_at))]
-fn count_of(bytes: &[u8]) -> Result<(u32, &[u8]), BlockFault>
+fn read_count(bytes: &[u8]) -> Result<(u32, &[u8]), BlockFault>
     ensures { Gives (λ x. (x.0, x.1.now)) result (count_at bytes.now) }
 {
-    let (count, rest) = u32_of(bytes)?;
+    let (count, rest) = read_u32(bytes)?;
     if MAX_TXS < count as usize {
         return Err(BlockFault::TooManyTxs);
     }
@@ -109,15 +109,15 @@ fn count_of(bytes: &[u8]) -> Result<(u32, &[u8]), BlockFault>
 }
 
 #[tactic(auto, unfolding(crate::specs::Reading::tx_at))]
-fn tx_of(bytes: &[u8]) -> Result<(Slice<'_>, &[u8]), BlockFault>
+fn read_tx(bytes: &[u8]) -> Result<(Slice<'_>, &[u8]), BlockFault>
     ensures { Gives (λ x. (x.0, x.1.now)) result (tx_at bytes.now) }
 {
-    let (len, rest) = u32_of(bytes)?;
+    let (len, rest) = read_u32(bytes)?;
     let len = len as usize;
     if MAX_TX_BYTES < len {
         return Err(BlockFault::TxTooLong);
     }
-    let (tx, rest) = bytes_of(len, rest)?;
+    let (tx, rest) = read_bytes(len, rest)?;
     Ok((Slice::new(tx), rest))
 }
 
@@ -133,13 +133,13 @@ fn room_for<'a>(alloc: Global, count: u32, bytes: &[u8]) -> Result<Vec<Slice<'a>
     Vec::with_capacity(alloc, most.min(count as usize))
 }
 
-fn txs_of(alloc: Global, count: u32, bytes: &[u8]) -> Result<(Items<Slice<'_>>, &[u8]), BlockFault>
+fn read_txs(alloc: Global, count: u32, bytes: &[u8]) -> Result<(Items<Slice<'_>>, &[u8]), BlockFault>
     ensures { Gives (λ x. (x.0, x.1.now)) result (txs_at count bytes.now) }
 {
     let mut txs = Items::from_vec(room_for(alloc, count, bytes)?);
     let mut rest = bytes;
     for _ in 0..count {
-        let (tx, after) = tx_of(rest)?;
+        let (tx, after) = read_tx(rest)?;
         txs.push(tx)?;
         rest = after;
     }
@@ -147,12 +147,12 @@ fn txs_of(alloc: Global, count: u32, bytes: &[u8]) -> Result<(Items<Slice<'_>>, 
 }
 
 #[tactic(auto, unfolding(crate::specs::Reading::block_at))]
-fn block_of(alloc: Global, bytes: &[u8]) -> Result<Block<'_>, BlockFault>
+fn read_block(alloc: Global, bytes: &[u8]) -> Result<Block<'_>, BlockFault>
     ensures { Gives (λ b. b) result (block_at bytes.now) }
 {
-    let (header, rest) = header_of(bytes)?;
-    let (count, rest) = count_of(rest)?;
-    let (txs, rest) = txs_of(alloc, count, rest)?;
+    let (header, rest) = read_header(bytes)?;
+    let (count, rest) = read_count(rest)?;
+    let (txs, rest) = read_txs(alloc, count, rest)?;
     if !rest.is_empty() {
         return Err(BlockFault::TrailingBytes);
     }
@@ -173,5 +173,5 @@ pub fn decode_block(alloc: Global, bytes: &[u8]) -> Result<Block<'_>, BlockFault
     ensures fault { IfErr result (λ f. (f ≡ Memory) ⊎ HasFault bytes.now f) }
     ensures faulty { (f : BlockFault) → HasFault bytes.now f → GivesUnless Memory result (Err f) }
 {
-    block_of(alloc, bytes)
+    read_block(alloc, bytes)
 }

@@ -10,7 +10,7 @@ use Rattle.policy_eval.specs.Accepts.{Accepts}
 use Rattle.rules.specs.declared.answer.Accepted.{Accepted}
 use Rattle.rules.specs.declared.delta.Delta.{Delta}
 use Rattle.rules.specs.declared.flag.Flag.{Flag}
-use Rattle.rules.specs.Candidate as rules
+use Rattle.rules.specs.Candidate as candidate
 use Rattle.rules.specs.Commit.{txs_of, job_of, uses_from, committed_of, world_after}
 use Rattle.rules.specs.Delta.{changes_in, entries_in, uses_in, applied}
 use Rattle.rules.specs.Fold.{flag, flags}
@@ -26,8 +26,8 @@ use Rattle.plain.specs.Seen.{seen, job_over}
 use Rattle.plain.specs.Taking.{IsFolded}
 
 module _ (channel : Configuration) (accepts : Accepts) (w : World) (b : Block) where
-  abbrev candidates : List rules.Candidate
-  candidates = rules.candidates_from channel accepts w.first_uses [] (txs_of b)
+  abbrev candidates : List candidate.Candidate
+  candidates = candidate.candidates_from channel accepts w.first_uses [] (txs_of b)
 
   abbrev job : Job
   job = job_of channel accepts w (txs_of b)
@@ -39,19 +39,19 @@ module _ (channel : Configuration) (accepts : Accepts) (w : World) (b : Block) w
       let all : length candidates ≡ length (txs_of b) = length-candidates_from channel accepts w.first_uses [] (txs_of b) in
       sym seen_count ∙ ap length are ∙ all ∙ length-map b.txs _
 
-  pub count-ids : (ids : List (Option (List ℕ))) → ids ≡ map (rules.used_id channel accepts) (txs_of b) → length ids ≡ length b.txs
+  pub count-ids : (ids : List (Option (List ℕ))) → ids ≡ map (candidate.used_id channel accepts) (txs_of b) → length ids ≡ length b.txs
   count-ids ids are = ap length are ∙ length-map (txs_of b) _ ∙ length-map b.txs _
 
   -- the job of the candidates is the block's own
   pub own_job : (cs : List Candidate) → map seen cs ≡ candidates → job_over channel.definitions w cs ≡ job
-  own_job cs are = ap (λ (l : List rules.Candidate). record { number = job.number; state = job.state; definitions = job.definitions; candidates = l }) are
+  own_job cs are = ap (λ (l : List candidate.Candidate). record { number = job.number; state = job.state; definitions = job.definitions; candidates = l }) are
 
   pub count-flags : (cs : List Candidate) (f : Folded) → IsFolded (job_over channel.definitions w cs) f → length f.flags.items ≡ length cs
   count-flags cs f folded = ap length folded.flags ∙ length-map-range_with_len (flag (job_over channel.definitions w cs)) 0 (length (map seen cs)) ∙ length-map cs seen
 
   pub accepted-step : (bytes : List ℕ) (f : Folded) (d : Delta) (answer : Accepted) (new : World)
       → Spells bytes b → IsLinked w b → IsFolded job f
-      → uses_in d.uses ≡ uses_from job 0 (map (rules.used_id channel accepts) (txs_of b))
+      → uses_in d.uses ≡ uses_from job 0 (map (candidate.used_id channel accepts) (txs_of b))
       → d.changes ≡ f.changes.items → d.entries ≡ f.entries.items
       → d.block ≡ record { bytes = bytes; header_hash = header_hash_of b.header; flags = f.flags.items }
       → answer ≡ record { number = b.header.number; header_hash = header_hash_of b.header; flags = f.flags.items }

@@ -35,11 +35,11 @@ state_in before r = with_changes before (changes_in r.changes.items)
 abbrev pub endorsement_in : Policies → State → Running → Candidate → Bool
 endorsement_in definitions before r c = endorsement_by definitions before (keys_of r.touched.items) c
 
-abbrev pub flag_in : Policies → State → Running → Candidate → Flag
-flag_in definitions before r c = flag_by c (endorsement_in definitions before r c) (reads_by (state_in before r) c)
+abbrev pub next_flag : Policies → State → Running → Candidate → Flag
+next_flag definitions before r c = flag_by c (endorsement_in definitions before r c) (reads_by (state_in before r) c)
 
 -- its flag aside
 pub record IsTaken (definitions : Policies) (before : State) (v : Version) (c : Candidate) (old new : Running) : Type 0 where
   pub touched : keys_of new.touched.items ≡ (if endorsement_in definitions before old c then keys_of old.touched.items ++ touched_by c else keys_of old.touched.items)
-  pub changes : changes_in new.changes.items ≡ changes_in old.changes.items ++ (if is_valid (flag_in definitions before old c) then changes_by v c (state_in before old) else [])
-  pub entries : entries_in new.entries.items ≡ entries_in old.entries.items ++ (if is_valid (flag_in definitions before old c) then entries_by v c else [])
+  pub changes : changes_in new.changes.items ≡ changes_in old.changes.items ++ (if is_valid (next_flag definitions before old c) then changes_by v c (state_in before old) else [])
+  pub entries : entries_in new.entries.items ≡ entries_in old.entries.items ++ (if is_valid (next_flag definitions before old c) then entries_by v c else [])

@@ -1,7 +1,7 @@
 //! Candidates one by one in order.
 ghost use Rattle.std.specs.Prelude.{◌≡◌, ◌<◌, ◌^◌, ◌++◌, ◌∷◌, [], if◌then◌else◌, length, IfOk, OnOk};
 ghost use Rattle.rules.specs.Delta.{changes_in, entries_in};
-ghost use Rattle.rules.specs.Candidate as rules;
+ghost use Rattle.rules.specs.Candidate.{opened};
 ghost use Rattle.rules.specs.Effect as effect;
 ghost use Rattle.rules.specs.History as history;
 ghost use Rattle.rules.specs.Fold as fold;
@@ -10,7 +10,7 @@ ghost use Rattle.rules.specs.Reads as reads;
 ghost use Rattle.rules.specs.Flags.{is_valid};
 ghost use Rattle.plain.specs.Keys.{keys_of};
 ghost use Rattle.plain.specs.Seen.{seen, job_over};
-ghost use Rattle.plain.specs.Taking.{state_in, flag_in, IsRunning, IsTaken, IsFolded};
+ghost use Rattle.plain.specs.Taking.{state_in, next_flag, IsRunning, IsTaken, IsFolded};
 
 use crate::candidate::{Candidate, OpenTx};
 use crate::effect::{changes_of, entries_of};
@@ -131,8 +131,8 @@ impl<'a> Running<'a> {
         version: Version,
         open_tx: &OpenTx<'a>,
     ) -> Result<Flag, AllocError>
-        ensures flag { IfOk result (λ flag. flag ≡ flag_in definitions.now world.now.state self.old (rules.opened open_tx.now.tx open_tx.now.signers)) }
-        ensures taken { OnOk result (IsTaken definitions.now world.now.state version (rules.opened open_tx.now.tx open_tx.now.signers) self.old self.new) }
+        ensures flag { IfOk result (λ flag. flag ≡ next_flag definitions.now world.now.state self.old (opened open_tx.now.tx open_tx.now.signers)) }
+        ensures taken { OnOk result (IsTaken definitions.now world.now.state version (opened open_tx.now.tx open_tx.now.signers) self.old self.new) }
         ensures flags { OnOk result (self.new.flags.items ≡ self.old.flags.items) }
     {
         if !is_endorsed(definitions, world, self.touched.as_slice(), open_tx) {
@@ -153,7 +153,7 @@ impl<'a> Running<'a> {
         candidate: &Candidate<'a>,
     ) -> Result<(), AllocError>
         ensures taken { OnOk result (IsTaken definitions.now world.now.state version (seen candidate.now) self.old self.new) }
-        ensures flags { OnOk result (self.new.flags.items ≡ self.old.flags.items ++ flag_in definitions.now world.now.state self.old (seen candidate.now) ∷ []) }
+        ensures flags { OnOk result (self.new.flags.items ≡ self.old.flags.items ++ next_flag definitions.now world.now.state self.old (seen candidate.now) ∷ []) }
     {
         let flag = match candidate {
             Candidate::Flagged(flag) => *flag,

@@ -9,7 +9,7 @@ ghost use Rattle.policy_eval.specs.Signers.{signers_of};
 ghost use Rattle.transaction.specs.Grammar.{identity_bytes, signed_bytes};
 ghost use Rattle.transaction.specs.Spelled.{IsSpelled};
 ghost use Rattle.header_hash.specs.Hashes.{tx_id_of};
-ghost use Rattle.rules.specs.Candidate as rules;
+ghost use Rattle.rules.specs.Candidate as candidate;
 ghost use Rattle.plain.specs.Keys.{keys_of};
 ghost use Rattle.plain.specs.Seen.{seen};
 
@@ -56,7 +56,7 @@ fn is_signed<V: Verify>(verifier: &V, tx: &SpelledTx<'_>) -> bool
 
 /// A fault in where the transaction comes from.
 fn origin_fault<V: Verify>(channel: &Channel, verifier: &V, tx: &SpelledTx<'_>) -> Option<Flag>
-    ensures { result ≡ rules.origin_fault channel.now (V.accepts verifier.now) tx.now }
+    ensures { result ≡ candidate.origin_fault channel.now (V.accepts verifier.now) tx.now }
 {
     if !tx.tx().channel.is_same(&channel.name().lend()) {
         return Some(Flag::TargetChainNotFound);
@@ -71,13 +71,13 @@ fn origin_fault<V: Verify>(channel: &Channel, verifier: &V, tx: &SpelledTx<'_>) 
 }
 
 fn is_defined(definitions: &Definitions, namespace: &NameRef<'_>) -> bool
-    ensures { result ≡ rules.is_defined definitions.now namespace.now }
+    ensures { result ≡ candidate.is_defined definitions.now namespace.now }
 {
     definitions.of(namespace).is_some()
 }
 
 fn are_defined(definitions: &Definitions, keys: &[StateKey<'_>]) -> bool
-    ensures { result ≡ list_all (λ k. rules.is_defined definitions.now k.0) (keys_of keys.now) }
+    ensures { result ≡ list_all (λ k. candidate.is_defined definitions.now k.0) (keys_of keys.now) }
 {
     for key in keys {
         if !is_defined(definitions, &key.namespace) {
@@ -92,7 +92,7 @@ fn is_all_defined(
     chaincode: &NameRef<'_>,
     written: &[StateKey<'_>],
 ) -> bool
-    ensures { result ≡ (rules.is_defined definitions.now chaincode.now && list_all (λ k. rules.is_defined definitions.now k.0) (keys_of written.now)) }
+    ensures { result ≡ (candidate.is_defined definitions.now chaincode.now && list_all (λ k. candidate.is_defined definitions.now k.0) (keys_of written.now)) }
 {
     is_defined(definitions, chaincode) && are_defined(definitions, written)
 }
@@ -106,7 +106,7 @@ fn checked<'a, V: Verify>(
     tx: Tx<'a>,
 ) -> Result<Candidate<'a>, AllocError>
     requires { IsSpelled tx }
-    ensures { IfOk result (λ c. seen c ≡ rules.flagged_or (rules.content_fault channel.now used tx.entry) (rules.opened tx.entry (signers_of (V.accepts verifier.now) tx.entry))) }
+    ensures { IfOk result (λ c. seen c ≡ candidate.flagged_or (candidate.content_fault channel.now used tx.entry) (candidate.opened tx.entry (signers_of (V.accepts verifier.now) tx.entry))) }
 {
     if used {
         return Ok(Candidate::Flagged(Flag::DuplicateTxId));
@@ -138,7 +138,7 @@ fn contains(ids: &[TxId], id: &TxId) -> bool
 }
 
 fn is_used(world: &World, earlier: &[TxId], id: &TxId) -> bool
-    ensures { result ≡ rules.is_used world.now.first_uses earlier.now (Some id.now) }
+    ensures { result ≡ candidate.is_used world.now.first_uses earlier.now (Some id.now) }
 {
     world.first_use(id).is_some() || contains(earlier, id)
 }
@@ -159,8 +159,8 @@ fn place_of<'a, V: Verify>(
     earlier: &[TxId],
     bytes: &'a [u8],
 ) -> Result<Place<'a>, AllocError>
-    ensures id { IfOk result (λ t. t.id ≡ rules.used_id channel.now (V.accepts verifier.now) (tx_of bytes.now)) }
-    ensures candidate { IfOk result (λ t. seen t.candidate ≡ rules.candidate_of channel.now (V.accepts verifier.now) (rules.is_used world.now.first_uses earlier.now t.id) (tx_of bytes.now)) }
+    ensures id { IfOk result (λ t. t.id ≡ candidate.used_id channel.now (V.accepts verifier.now) (tx_of bytes.now)) }
+    ensures candidate { IfOk result (λ t. seen t.candidate ≡ candidate.candidate_of channel.now (V.accepts verifier.now) (candidate.is_used world.now.first_uses earlier.now t.id) (tx_of bytes.now)) }
 {
     let Some(tx) = decoded_tx(alloc, bytes)? else {
         return Ok(Place {
@@ -206,8 +206,8 @@ pub(crate) fn take_in<'a, V: Verify>(
     world: &World,
     txs: &[Slice<'a>],
 ) -> Result<Intake<'a>, AllocError>
-    ensures candidates { IfOk result (λ r. map seen r.candidates.items ≡ rules.candidates_from channel.now (V.accepts verifier.now) world.now.first_uses [] (map tx_of txs.now)) }
-    ensures ids { IfOk result (λ r. r.ids.items ≡ map (rules.used_id channel.now (V.accepts verifier.now)) (map tx_of txs.now)) }
+    ensures candidates { IfOk result (λ r. map seen r.candidates.items ≡ candidate.candidates_from channel.now (V.accepts verifier.now) world.now.first_uses [] (map tx_of txs.now)) }
+    ensures ids { IfOk result (λ r. r.ids.items ≡ map (candidate.used_id channel.now (V.accepts verifier.now)) (map tx_of txs.now)) }
 {
     let mut candidates = Vec::new(alloc);
     let mut ids = Vec::new(alloc);

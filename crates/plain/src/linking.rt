@@ -1,7 +1,7 @@
 ghost use Rattle.std.specs.Prelude.{◌≡◌, MatchResult};
 ghost use Rattle.block.specs.Grammar.{Spells};
 ghost use Rattle.header_hash.specs.Hashes.{data_hash_of};
-ghost use Rattle.rules.specs.World as rules;
+ghost use Rattle.rules.specs.World as world;
 ghost use Rattle.rules.specs.World.{last_header_hash, previous_from};
 ghost use Rattle.rules.specs.Linked.{IsLinked, IsUnlinked, IsRefused};
 
@@ -14,7 +14,7 @@ use values::{Hash, Slice};
 
 /// The block that the bytes spell, or why they spell none.
 pub(crate) fn decoded(alloc: Global, bytes: &[u8]) -> Result<Block<'_>, Refused>
-    ensures { MatchResult result (λ b. Spells bytes.now b) (λ r. (w : rules.World) → IsRefused w bytes.now r) }
+    ensures { MatchResult result (λ b. Spells bytes.now b) (λ r. (w : world.World) → IsRefused w bytes.now r) }
 {
     match decode_block(alloc, bytes) {
         Ok(block) => Ok(block),

@@ -23,10 +23,10 @@ pub struct World {
 }
 
 impl Model for World {
-    ghost use Rattle.rules.specs.World as rules;
+    ghost use Rattle.rules.specs.World as world;
     ghost use Rattle.rules.specs.Code.{world_code};
 
-    ghost Value = { rules.World };
+    ghost Value = { world.World };
 
     ghost coded = { world_code };
 

@@ -11,8 +11,8 @@ use Rattle.transaction.specs.declared.transaction.Endorsement.{Endorsement}
 use Rattle.transaction.specs.declared.transaction.Tx.{Tx}
 use Rattle.transaction.specs.Limits.{id_bytes, max_endorsements}
 use Rattle.transaction.specs.Combined.{Reader, counted_at, tested_at, pair_at, mapped_at, optional_at, listed_at, few_at}
-use Rattle.transaction.specs.Grammar.{counted, listed, optional, flag_byte, role_byte, identity_bytes, version_bytes, read_bytes, result_bytes, range_bytes, write_bytes, policy_write_bytes, namespace_bytes, endorsement_bytes, body_bytes, whole_bytes, IsIdentity, IsVersion, IsRead, IsResult, AreItems, IsRange, IsWrite, IsPolicyWrite, IsNsSet, IsEndorsement, IsBody, IsWhole}
-use Rattle.transaction.specs.Reading.{flag_of, role_of, name_at, key_at, bound_at, identity_at, version_at, read_at, result_at, range_at, write_at, policy_write_at, namespace_at, endorsement_at, Body, body_at, tx_from, tx_at}
+use Rattle.transaction.specs.Grammar.{counted, listed, optional, bool_byte, role_byte, identity_bytes, version_bytes, read_bytes, result_bytes, range_bytes, write_bytes, policy_write_bytes, namespace_bytes, endorsement_bytes, body_bytes, whole_bytes, IsIdentity, IsVersion, IsRead, IsResult, AreItems, IsRange, IsWrite, IsPolicyWrite, IsNsSet, IsEndorsement, IsBody, IsWhole}
+use Rattle.transaction.specs.Reading.{bool_of, role_of, name_at, key_at, bound_at, identity_at, version_at, read_at, result_at, range_at, write_at, policy_write_at, namespace_at, endorsement_at, Body, body_at, tx_from, tx_at}
 use Rattle.values.proofs.Numbers.{wide1, wide2, wide4, wide8}
 use Rattle.transaction.proofs.FieldLaws.{IsField, bytes_field, number_field, counted_field, tested_field, mapped_field, optional_field, listed_field, few_field, pair_field, byte_field, said_field, respelled_field}
 
@@ -87,18 +87,18 @@ role_forth Client = refl
 role_forth Peer = refl
 role_forth Orderer = refl
 
-flag_back : (b : ℕ) (f : Bool) → flag_of b ≡ Some f → b ≡ flag_byte f
+flag_back : (b : ℕ) (f : Bool) → bool_of b ≡ Some f → b ≡ bool_byte f
 flag_back b f e = by_0 (eqb b 0) refl e
   where
-    by_1 : (t : Bool) → eqb b 1 ≡ t → cond t (Some true) None ≡ Some f → b ≡ flag_byte f
-    by_1 true t h = let same : true ≡ f = cc in subst (λ (x : Bool). b ≡ flag_byte x) same (eqb-true _ _ t)
+    by_1 : (t : Bool) → eqb b 1 ≡ t → cond t (Some true) None ≡ Some f → b ≡ bool_byte f
+    by_1 true t h = let same : true ≡ f = cc in subst (λ (x : Bool). b ≡ bool_byte x) same (eqb-true _ _ t)
     by_1 false t h = absurd cc
 
-    by_0 : (t : Bool) → eqb b 0 ≡ t → cond t (Some false) (cond (eqb b 1) (Some true) None) ≡ Some f → b ≡ flag_byte f
-    by_0 true t h = let same : false ≡ f = cc in subst (λ (x : Bool). b ≡ flag_byte x) same (eqb-true _ _ t)
+    by_0 : (t : Bool) → eqb b 0 ≡ t → cond t (Some false) (cond (eqb b 1) (Some true) None) ≡ Some f → b ≡ bool_byte f
+    by_0 true t h = let same : false ≡ f = cc in subst (λ (x : Bool). b ≡ bool_byte x) same (eqb-true _ _ t)
     by_0 false t h = by_1 (eqb b 1) refl h
 
-flag_forth : (f : Bool) → flag_of (flag_byte f) ≡ Some f
+flag_forth : (f : Bool) → bool_of (bool_byte f) ≡ Some f
 flag_forth false = refl
 flag_forth true = refl
 
@@ -135,7 +135,7 @@ unfolding range_at
 range_field =
     said_of IsRange
     (mapped_of (λ p. record { start = p.0; end = p.1.0; exhausted = p.1.1.0; results = p.1.1.1 }) (λ r. (r.start, (r.end, (r.exhausted, r.results)))) (λ p. refl) (λ r. refl)
-    (pair_of bound_field (pair_of bound_field (pair_of (byte_field flag_of flag_byte flag_back flag_forth) (listed_of result_field)))))
+    (pair_of bound_field (pair_of bound_field (pair_of (byte_field bool_of bool_byte flag_back flag_forth) (listed_of result_field)))))
     (λ r h. record { start = h.0; end = h.1.0; results = h.1.1.1 }) (λ r h. (h.start, (h.end, (tt, h.results))))
 
 pub write_field : IsField write_at write_bytes IsWrite

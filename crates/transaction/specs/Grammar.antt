@@ -33,9 +33,9 @@ abbrev pub optional : {A : Type 0} → (A → List ℕ) → Option A → List �
 optional field None = 0 ∷ []
 optional field (Some x) = 1 ∷ field x
 
-abbrev pub flag_byte : Bool → ℕ
-flag_byte false = 0
-flag_byte true = 1
+abbrev pub bool_byte : Bool → ℕ
+bool_byte false = 0
+bool_byte true = 1
 
 abbrev pub role_byte : Role → ℕ
 role_byte Admin = 0
@@ -57,7 +57,7 @@ abbrev pub result_bytes : KeyVersion → List ℕ
 result_bytes r = counted 2 r.key ++ version_bytes r.version
 
 abbrev pub range_bytes : Range → List ℕ
-range_bytes r = counted 2 r.start ++ (counted 2 r.end ++ (flag_byte r.exhausted ∷ listed 2 result_bytes r.results))
+range_bytes r = counted 2 r.start ++ (counted 2 r.end ++ (bool_byte r.exhausted ∷ listed 2 result_bytes r.results))
 
 abbrev pub write_bytes : Write → List ℕ
 write_bytes w = counted 2 w.key ++ optional (counted 4) w.value

@@ -19,8 +19,8 @@ use Rattle.transaction.specs.declared.fault.TxFault.{TxFault}
 use Rattle.transaction.specs.declared.fault.TxFault.TheVariants.{Form, Memory}
 use Rattle.transaction.specs.Combined.{Reader, ◌>>=◌, bytes_at, number_at, counted_at, tested_at, pair_at, mapped_at, byte_at, optional_at, listed_at, few_at}
 
-abbrev pub flag_of : ℕ → Option Bool
-flag_of b = if b == 0 then Some false else if b == 1 then Some true else None
+abbrev pub bool_of : ℕ → Option Bool
+bool_of b = if b == 0 then Some false else if b == 1 then Some true else None
 
 abbrev pub role_of : ℕ → Option Role
 role_of b = if b == 0 then Some Admin else if b == 1 then Some Client else if b == 2 then Some Peer else if b == 3 then Some Orderer else None
@@ -49,7 +49,7 @@ result_at bytes = mapped_at (λ p. record { key = p.0; version = p.1 }) (pair_at
 unfoldable pub range_at : Reader Range
 range_at bytes =
     mapped_at (λ p. record { start = p.0; end = p.1.0; exhausted = p.1.1.0; results = p.1.1.1 })
-    (pair_at bound_at (pair_at bound_at (pair_at (byte_at flag_of) (listed_at 2 result_at)))) bytes
+    (pair_at bound_at (pair_at bound_at (pair_at (byte_at bool_of) (listed_at 2 result_at)))) bytes
 
 unfoldable pub write_at : Reader Write
 write_at bytes = mapped_at (λ p. record { key = p.0; value = p.1 }) (pair_at key_at (optional_at (counted_at 4))) bytes

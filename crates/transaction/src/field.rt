@@ -9,7 +9,7 @@ use byteorder::{BigEndian, ByteOrder};
 use std::alloc::{AllocError, Global};
 use values::{BoundRef, Items, KeyRef, NameRef, Slice, is_bound, is_key, is_name};
 
-pub(crate) fn bytes_of(n: usize, bytes: &[u8]) -> Result<(&[u8], &[u8]), TxFault>
+pub(crate) fn read_bytes(n: usize, bytes: &[u8]) -> Result<(&[u8], &[u8]), TxFault>
     ensures { Gives (λ x. (x.0.now, x.1.now)) result (bytes_at n bytes.now) }
 {
     if bytes.len() < n {
@@ -18,7 +18,7 @@ pub(crate) fn bytes_of(n: usize, bytes: &[u8]) -> Result<(&[u8], &[u8]), TxFault
     Ok(bytes.split_at(n))
 }
 
-pub(crate) fn u8_of(bytes: &[u8]) -> Result<(u8, &[u8]), TxFault>
+pub(crate) fn read_u8(bytes: &[u8]) -> Result<(u8, &[u8]), TxFault>
     ensures { Gives (λ x. (x.0, x.1.now)) result (number_at 1 bytes.now) }
 {
     if bytes.is_empty() {
@@ -27,7 +27,7 @@ pub(crate) fn u8_of(bytes: &[u8]) -> Result<(u8, &[u8]), TxFault>
     Ok((bytes[0], &bytes[1..]))
 }
 
-pub(crate) fn u16_of(bytes: &[u8]) -> Result<(u16, &[u8]), TxFault>
+pub(crate) fn read_u16(bytes: &[u8]) -> Result<(u16, &[u8]), TxFault>
     ensures { Gives (λ x. (x.0, x.1.now)) result (number_at 2 bytes.now) }
 {
     if bytes.len() < 2 {
@@ -36,7 +36,7 @@ pub(crate) fn u16_of(bytes: &[u8]) -> Result<(u16, &[u8]), TxFault>
     Ok((BigEndian::read_u16(bytes), &bytes[2..]))
 }
 
-pub(crate) fn u32_of(bytes: &[u8]) -> Result<(u32, &[u8]), TxFault>
+pub(crate) fn read_u32(bytes: &[u8]) -> Result<(u32, &[u8]), TxFault>
     ensures { Gives (λ x. (x.0, x.1.now)) result (number_at 4 bytes.now) }
 {
     if bytes.len() < 4 {
@@ -45,7 +45,7 @@ pub(crate) fn u32_of(bytes: &[u8]) -> Result<(u32, &[u8]), TxFault>
     Ok((BigEndian::read_u32(bytes), &bytes[4..]))
 }
 
-pub(crate) fn u64_of(bytes: &[u8]) -> Result<(u64, &[u8]), TxFault>
+pub(crate) fn read_u64(bytes: &[u8]) -> Result<(u64, &[u8]), TxFault>
     ensures { Gives (λ x. (x.0, x.1.now)) result (number_at 8 bytes.now) }
 {
     if bytes.len() < 8 {
@@ -54,53 +54,53 @@ pub(crate) fn u64_of(bytes: &[u8]) -> Result<(u64, &[u8]), TxFault>
     Ok((BigEndian::read_u64(bytes), &bytes[8..]))
 }
 
-fn counted8(bytes: &[u8]) -> Result<(&[u8], &[u8]), TxFault>
+fn read_counted8(bytes: &[u8]) -> Result<(&[u8], &[u8]), TxFault>
     ensures { Gives (λ x. (x.0.now, x.1.now)) result (counted_at 1 bytes.now) }
 {
-    let (len, rest) = u8_of(bytes)?;
-    bytes_of(len as usize, rest)
+    let (len, rest) = read_u8(bytes)?;
+    read_bytes(len as usize, rest)
 }
 
-fn counted16(bytes: &[u8]) -> Result<(&[u8], &[u8]), TxFault>
+fn read_counted16(bytes: &[u8]) -> Result<(&[u8], &[u8]), TxFault>
     ensures { Gives (λ x. (x.0.now, x.1.now)) result (counted_at 2 bytes.now) }
 {
-    let (len, rest) = u16_of(bytes)?;
-    bytes_of(len as usize, rest)
+    let (len, rest) = read_u16(bytes)?;
+    read_bytes(len as usize, rest)
 }
 
-fn counted32(bytes: &[u8]) -> Result<(&[u8], &[u8]), TxFault>
+fn read_counted32(bytes: &[u8]) -> Result<(&[u8], &[u8]), TxFault>
     ensures { Gives (λ x. (x.0.now, x.1.now)) result (counted_at 4 bytes.now) }
 {
-    let (len, rest) = u32_of(bytes)?;
-    bytes_of(len as usize, rest)
+    let (len, rest) = read_u32(bytes)?;
+    read_bytes(len as usize, rest)
 }
 
-pub(crate) fn bytes8_of(bytes: &[u8]) -> Result<(Slice<'_>, &[u8]), TxFault>
+pub(crate) fn read_bytes8(bytes: &[u8]) -> Result<(Slice<'_>, &[u8]), TxFault>
     ensures { Gives (λ x. (x.0, x.1.now)) result (counted_at 1 bytes.now) }
 {
-    let (field, rest) = counted8(bytes)?;
+    let (field, rest) = read_counted8(bytes)?;
     Ok((Slice::new(field), rest))
 }
 
-pub(crate) fn bytes16_of(bytes: &[u8]) -> Result<(Slice<'_>, &[u8]), TxFault>
+pub(crate) fn read_bytes16(bytes: &[u8]) -> Result<(Slice<'_>, &[u8]), TxFault>
     ensures { Gives (λ x. (x.0, x.1.now)) result (counted_at 2 bytes.now) }
 {
-    let (field, rest) = counted16(bytes)?;
+    let (field, rest) = read_counted16(bytes)?;
     Ok((Slice::new(field), rest))
 }
 
-pub(crate) fn bytes32_of(bytes: &[u8]) -> Result<(Slice<'_>, &[u8]), TxFault>
+pub(crate) fn read_bytes32(bytes: &[u8]) -> Result<(Slice<'_>, &[u8]), TxFault>
     ensures { Gives (λ x. (x.0, x.1.now)) result (counted_at 4 bytes.now) }
 {
-    let (field, rest) = counted32(bytes)?;
+    let (field, rest) = read_counted32(bytes)?;
     Ok((Slice::new(field), rest))
 }
 
 #[tactic(auto, unfolding(crate::specs::Reading::name_at))]
-pub(crate) fn name_of(bytes: &[u8]) -> Result<(NameRef<'_>, &[u8]), TxFault>
+pub(crate) fn read_name(bytes: &[u8]) -> Result<(NameRef<'_>, &[u8]), TxFault>
     ensures { Gives (λ x. (x.0, x.1.now)) result (name_at bytes.now) }
 {
-    let (field, rest) = counted8(bytes)?;
+    let (field, rest) = read_counted8(bytes)?;
     if !is_name(field) {
         return Err(TxFault::Form);
     }
@@ -108,10 +108,10 @@ pub(crate) fn name_of(bytes: &[u8]) -> Result<(NameRef<'_>, &[u8]), TxFault>
 }
 
 #[tactic(auto, unfolding(crate::specs::Reading::key_at))]
-pub(crate) fn key_of(bytes: &[u8]) -> Result<(KeyRef<'_>, &[u8]), TxFault>
+pub(crate) fn read_key(bytes: &[u8]) -> Result<(KeyRef<'_>, &[u8]), TxFault>
     ensures { Gives (λ x. (x.0, x.1.now)) result (key_at bytes.now) }
 {
-    let (field, rest) = counted16(bytes)?;
+    let (field, rest) = read_counted16(bytes)?;
     if !is_key(field) {
         return Err(TxFault::Form);
     }
@@ -119,10 +119,10 @@ pub(crate) fn key_of(bytes: &[u8]) -> Result<(KeyRef<'_>, &[u8]), TxFault>
 }
 
 #[tactic(auto, unfolding(crate::specs::Reading::bound_at))]
-pub(crate) fn bound_of(bytes: &[u8]) -> Result<(BoundRef<'_>, &[u8]), TxFault>
+pub(crate) fn read_bound(bytes: &[u8]) -> Result<(BoundRef<'_>, &[u8]), TxFault>
     ensures { Gives (λ x. (x.0, x.1.now)) result (bound_at bytes.now) }
 {
-    let (field, rest) = counted16(bytes)?;
+    let (field, rest) = read_counted16(bytes)?;
     if !is_bound(field) {
         return Err(TxFault::Form);
     }
@@ -149,7 +149,7 @@ fn room_for<'a, T: Field<'a>>(alloc: Global, count: u16, bytes: &[u8]) -> Result
     Vec::with_capacity(alloc, most.min(count as usize))
 }
 
-pub(crate) fn fields_of<'a, T: Field<'a>>(
+pub(crate) fn read_fields<'a, T: Field<'a>>(
     alloc: Global,
     count: u16,
     bytes: &'a [u8],
@@ -166,12 +166,12 @@ pub(crate) fn fields_of<'a, T: Field<'a>>(
     Ok((items, rest))
 }
 
-pub(crate) fn list_of<'a, T: Field<'a>>(
+pub(crate) fn read_list<'a, T: Field<'a>>(
     alloc: Global,
     bytes: &'a [u8],
 ) -> Result<(Items<T>, &'a [u8]), TxFault>
     ensures { Gives (λ x. (x.0, x.1.now)) result (listed_at 2 T.read_at bytes.now) }
 {
-    let (count, rest) = u16_of(bytes)?;
-    fields_of(alloc, count, rest)
+    let (count, rest) = read_u16(bytes)?;
+    read_fields(alloc, count, rest)
 }

@@ -8,12 +8,12 @@ ghost use Rattle.transaction.specs.Limits.{id_bytes, max_endorsements};
 ghost use Rattle.transaction.specs.BodyFields.{body_fields};
 ghost use Rattle.transaction.specs.Decoded.{tx_of};
 ghost use Rattle.transaction.specs.Combined.{bytes_at, byte_at, optional_at, counted_at, few_at};
-ghost use Rattle.transaction.specs.Reading.{Gives, role_of, flag_of, identity_at, version_at, read_at, result_at, range_at, write_at, policy_write_at, namespace_at, endorsement_at, body_at, tx_at, all_at, whole_tx_at};
+ghost use Rattle.transaction.specs.Reading.{Gives, role_of, bool_of, identity_at, version_at, read_at, result_at, range_at, write_at, policy_write_at, namespace_at, endorsement_at, body_at, tx_at, all_at, whole_tx_at};
 
 use crate::fault::TxFault;
 use crate::field::{
-    Field, bound_of, bytes8_of, bytes16_of, bytes32_of, fields_of, key_of, list_of, name_of, u8_of,
-    u32_of, u64_of,
+    Field, read_bound, read_bytes8, read_bytes16, read_bytes32, read_fields, read_key, read_list, read_name, read_u8,
+    read_u32, read_u64,
 };
 use crate::identity::{Identity, Role};
 use crate::limits::{ID_BYTES, MAX_ENDORSEMENTS, MAX_TX_BYTES};
@@ -24,7 +24,7 @@ use crate::transaction::{
 use std::alloc::Global;
 use values::{Items, NameRef, Slice};
 
-fn role_of(bytes: &[u8]) -> Result<(Role, &[u8]), TxFault>
+fn read_role(bytes: &[u8]) -> Result<(Role, &[u8]), TxFault>
     ensures { Gives (λ x. (x.0, x.1.now)) result (byte_at role_of bytes.now) }
 {
     match bytes {
@@ -36,8 +36,8 @@ fn role_of(bytes: &[u8]) -> Result<(Role, &[u8]), TxFault>
     }
 }
 
-fn flag_of(bytes: &[u8]) -> Result<(bool, &[u8]), TxFault>
-    ensures { Gives (λ x. (x.0, x.1.now)) result (byte_at flag_of bytes.now) }
+fn read_bool(bytes: &[u8]) -> Result<(bool, &[u8]), TxFault>
+    ensures { Gives (λ x. (x.0, x.1.now)) result (byte_at bool_of bytes.now) }
 {
     match bytes {
         [0, rest @ ..] => Ok((false, rest)),
@@ -47,57 +47,57 @@ fn flag_of(bytes: &[u8]) -> Result<(bool, &[u8]), TxFault>
 }
 
 #[tactic(auto, unfolding(crate::specs::Reading::identity_at))]
-fn identity_of(bytes: &[u8]) -> Result<(Identity<'_>, &[u8]), TxFault>
+fn read_identity(bytes: &[u8]) -> Result<(Identity<'_>, &[u8]), TxFault>
     ensures { Gives (λ x. (x.0, x.1.now)) result (identity_at bytes.now) }
 {
-    let (org, rest) = name_of(bytes)?;
-    let (role, rest) = role_of(rest)?;
-    let (label, rest) = bytes8_of(rest)?;
+    let (org, rest) = read_name(bytes)?;
+    let (role, rest) = read_role(rest)?;
+    let (label, rest) = read_bytes8(rest)?;
     Ok((Identity { org, role, label }, rest))
 }
 
 #[tactic(auto, unfolding(crate::specs::Reading::version_at))]
-fn version_of(bytes: &[u8]) -> Result<(Version, &[u8]), TxFault>
+fn read_version(bytes: &[u8]) -> Result<(Version, &[u8]), TxFault>
     ensures { Gives (λ x. (x.0, x.1.now)) result (version_at bytes.now) }
 {
-    let (block, rest) = u64_of(bytes)?;
-    let (tx, rest) = u32_of(rest)?;
+    let (block, rest) = read_u64(bytes)?;
+    let (tx, rest) = read_u32(rest)?;
     Ok((Version { block, tx }, rest))
 }
 
-fn optional_version_of(bytes: &[u8]) -> Result<(Option<Version>, &[u8]), TxFault>
+fn read_optional_version(bytes: &[u8]) -> Result<(Option<Version>, &[u8]), TxFault>
     ensures { Gives (λ x. (x.0, x.1.now)) result (optional_at version_at bytes.now) }
 {
     match bytes {
         [0, rest @ ..] => Ok((None, rest)),
         [1, rest @ ..] => {
-            let (version, rest) = version_of(rest)?;
+            let (version, rest) = read_version(rest)?;
             Ok((Some(version), rest))
         }
         _ => Err(TxFault::Form),
     }
 }
 
-fn optional_bytes32_of(bytes: &[u8]) -> Result<(Option<Slice<'_>>, &[u8]), TxFault>
+fn read_optional_bytes32(bytes: &[u8]) -> Result<(Option<Slice<'_>>, &[u8]), TxFault>
     ensures { Gives (λ x. (x.0, x.1.now)) result (optional_at (counted_at 4) bytes.now) }
 {
     match bytes {
         [0, rest @ ..] => Ok((None, rest)),
         [1, rest @ ..] => {
-            let (value, rest) = bytes32_of(rest)?;
+            let (value, rest) = read_bytes32(rest)?;
             Ok((Some(value), rest))
         }
         _ => Err(TxFault::Form),
     }
 }
 
-fn optional_bytes16_of(bytes: &[u8]) -> Result<(Option<Slice<'_>>, &[u8]), TxFault>
+fn read_optional_bytes16(bytes: &[u8]) -> Result<(Option<Slice<'_>>, &[u8]), TxFault>
     ensures { Gives (λ x. (x.0, x.1.now)) result (optional_at (counted_at 2) bytes.now) }
 {
     match bytes {
         [0, rest @ ..] => Ok((None, rest)),
         [1, rest @ ..] => {
-            let (text, rest) = bytes16_of(rest)?;
+            let (text, rest) = read_bytes16(rest)?;
             Ok((Some(text), rest))
         }
         _ => Err(TxFault::Form),
@@ -111,8 +111,8 @@ impl<'a> Field<'a> for Read<'a> {
 
     #[tactic(auto, unfolding(crate::specs::Reading::read_at))]
     fn read(_alloc: Global, bytes: &'a [u8]) -> Result<(Read<'a>, &'a [u8]), TxFault> {
-        let (key, rest) = key_of(bytes)?;
-        let (version, rest) = optional_version_of(rest)?;
+        let (key, rest) = read_key(bytes)?;
+        let (version, rest) = read_optional_version(rest)?;
         Ok((Read { key, version }, rest))
     }
 }
@@ -124,8 +124,8 @@ impl<'a> Field<'a> for KeyVersion<'a> {
 
     #[tactic(auto, unfolding(crate::specs::Reading::result_at))]
     fn read(_alloc: Global, bytes: &'a [u8]) -> Result<(KeyVersion<'a>, &'a [u8]), TxFault> {
-        let (key, rest) = key_of(bytes)?;
-        let (version, rest) = version_of(rest)?;
+        let (key, rest) = read_key(bytes)?;
+        let (version, rest) = read_version(rest)?;
         Ok((KeyVersion { key, version }, rest))
     }
 }
@@ -137,10 +137,10 @@ impl<'a> Field<'a> for Range<'a> {
 
     #[tactic(auto, unfolding(crate::specs::Reading::range_at))]
     fn read(alloc: Global, bytes: &'a [u8]) -> Result<(Range<'a>, &'a [u8]), TxFault> {
-        let (start, rest) = bound_of(bytes)?;
-        let (end, rest) = bound_of(rest)?;
-        let (exhausted, rest) = flag_of(rest)?;
-        let (results, rest) = list_of::<KeyVersion>(alloc, rest)?;
+        let (start, rest) = read_bound(bytes)?;
+        let (end, rest) = read_bound(rest)?;
+        let (exhausted, rest) = read_bool(rest)?;
+        let (results, rest) = read_list::<KeyVersion>(alloc, rest)?;
         let range = Range {
             start,
             end,
@@ -158,8 +158,8 @@ impl<'a> Field<'a> for Write<'a> {
 
     #[tactic(auto, unfolding(crate::specs::Reading::write_at))]
     fn read(_alloc: Global, bytes: &'a [u8]) -> Result<(Write<'a>, &'a [u8]), TxFault> {
-        let (key, rest) = key_of(bytes)?;
-        let (value, rest) = optional_bytes32_of(rest)?;
+        let (key, rest) = read_key(bytes)?;
+        let (value, rest) = read_optional_bytes32(rest)?;
         Ok((Write { key, value }, rest))
     }
 }
@@ -171,8 +171,8 @@ impl<'a> Field<'a> for PolicyWrite<'a> {
 
     #[tactic(auto, unfolding(crate::specs::Reading::policy_write_at))]
     fn read(_alloc: Global, bytes: &'a [u8]) -> Result<(PolicyWrite<'a>, &'a [u8]), TxFault> {
-        let (key, rest) = key_of(bytes)?;
-        let (policy, rest) = optional_bytes16_of(rest)?;
+        let (key, rest) = read_key(bytes)?;
+        let (policy, rest) = read_optional_bytes16(rest)?;
         Ok((PolicyWrite { key, policy }, rest))
     }
 }
@@ -184,11 +184,11 @@ impl<'a> Field<'a> for NsSet<'a> {
 
     #[tactic(auto, unfolding(crate::specs::Reading::namespace_at))]
     fn read(alloc: Global, bytes: &'a [u8]) -> Result<(NsSet<'a>, &'a [u8]), TxFault> {
-        let (name, rest) = name_of(bytes)?;
-        let (reads, rest) = list_of::<Read>(alloc, rest)?;
-        let (ranges, rest) = list_of::<Range>(alloc, rest)?;
-        let (writes, rest) = list_of::<Write>(alloc, rest)?;
-        let (policy_writes, rest) = list_of::<PolicyWrite>(alloc, rest)?;
+        let (name, rest) = read_name(bytes)?;
+        let (reads, rest) = read_list::<Read>(alloc, rest)?;
+        let (ranges, rest) = read_list::<Range>(alloc, rest)?;
+        let (writes, rest) = read_list::<Write>(alloc, rest)?;
+        let (policy_writes, rest) = read_list::<PolicyWrite>(alloc, rest)?;
         let namespace = NsSet {
             name,
             reads,
@@ -207,8 +207,8 @@ impl<'a> Field<'a> for Endorsement<'a> {
 
     #[tactic(auto, unfolding(crate::specs::Reading::endorsement_at))]
     fn read(_alloc: Global, bytes: &'a [u8]) -> Result<(Endorsement<'a>, &'a [u8]), TxFault> {
-        let (endorser, rest) = identity_of(bytes)?;
-        let (signature, rest) = bytes16_of(rest)?;
+        let (endorser, rest) = read_identity(bytes)?;
+        let (signature, rest) = read_bytes16(rest)?;
         let endorsement = Endorsement {
             endorser,
             signature,
@@ -228,7 +228,7 @@ struct BodyFields<'a> {
     namespaces: Items<NsSet<'a>>,
 }
 
-fn id_of(bytes: &[u8]) -> Result<(TxId, &[u8]), TxFault>
+fn read_id(bytes: &[u8]) -> Result<(TxId, &[u8]), TxFault>
     ensures { Gives (λ x. (x.0, x.1.now)) result (bytes_at id_bytes bytes.now) }
 {
     if bytes.len() < ID_BYTES {
@@ -241,15 +241,15 @@ fn id_of(bytes: &[u8]) -> Result<(TxId, &[u8]), TxFault>
 }
 
 #[tactic(auto, unfolding(crate::specs::Reading::body_at))]
-fn body_of(alloc: Global, bytes: &[u8]) -> Result<(BodyFields<'_>, &[u8]), TxFault>
+fn read_body(alloc: Global, bytes: &[u8]) -> Result<(BodyFields<'_>, &[u8]), TxFault>
     ensures { Gives (λ x. (body_fields x.0, x.1.now)) result (body_at bytes.now) }
 {
-    let (channel, rest) = name_of(bytes)?;
-    let (id, rest) = id_of(rest)?;
-    let (creator, rest) = identity_of(rest)?;
-    let (nonce, rest) = bytes8_of(rest)?;
-    let (chaincode, rest) = name_of(rest)?;
-    let (namespaces, rest) = list_of::<NsSet>(alloc, rest)?;
+    let (channel, rest) = read_name(bytes)?;
+    let (id, rest) = read_id(rest)?;
+    let (creator, rest) = read_identity(rest)?;
+    let (nonce, rest) = read_bytes8(rest)?;
+    let (chaincode, rest) = read_name(rest)?;
+    let (namespaces, rest) = read_list::<NsSet>(alloc, rest)?;
     let body = BodyFields {
         channel,
         id,
@@ -261,23 +261,23 @@ fn body_of(alloc: Global, bytes: &[u8]) -> Result<(BodyFields<'_>, &[u8]), TxFau
     Ok((body, rest))
 }
 
-fn endorsements_of(alloc: Global, bytes: &[u8]) -> Result<(Items<Endorsement<'_>>, &[u8]), TxFault>
+fn read_endorsements(alloc: Global, bytes: &[u8]) -> Result<(Items<Endorsement<'_>>, &[u8]), TxFault>
     ensures { Gives (λ x. (x.0, x.1.now)) result (few_at max_endorsements endorsement_at bytes.now) }
 {
-    let (count, rest) = u8_of(bytes)?;
+    let (count, rest) = read_u8(bytes)?;
     if MAX_ENDORSEMENTS < count as usize {
         return Err(TxFault::Form);
     }
-    fields_of::<Endorsement>(alloc, u16::from(count), rest)
+    read_fields::<Endorsement>(alloc, u16::from(count), rest)
 }
 
 #[tactic(auto, unfolding(crate::specs::Reading::tx_at))]
-fn tx_of(alloc: Global, bytes: &[u8]) -> Result<(Tx<'_>, &[u8]), TxFault>
+fn read_tx(alloc: Global, bytes: &[u8]) -> Result<(Tx<'_>, &[u8]), TxFault>
     ensures { Gives (λ x. (x.0, x.1.now)) result (tx_at bytes.now) }
 {
-    let (body, rest) = body_of(alloc, bytes)?;
-    let (endorsements, rest) = endorsements_of(alloc, rest)?;
-    let (signature, rest) = bytes16_of(rest)?;
+    let (body, rest) = read_body(alloc, bytes)?;
+    let (endorsements, rest) = read_endorsements(alloc, rest)?;
+    let (signature, rest) = read_bytes16(rest)?;
     let BodyFields {
         channel,
         id,
@@ -300,32 +300,32 @@ fn tx_of(alloc: Global, bytes: &[u8]) -> Result<(Tx<'_>, &[u8]), TxFault>
 }
 
 #[tactic(auto, unfolding(crate::specs::Reading::whole_tx_at))]
-fn bare_tx_of(alloc: Global, bytes: &[u8]) -> Result<Tx<'_>, TxFault>
+fn read_bare_tx(alloc: Global, bytes: &[u8]) -> Result<Tx<'_>, TxFault>
     ensures { Gives (λ tx. tx) result (whole_tx_at bytes.now) }
 {
     if MAX_TX_BYTES < bytes.len() {
         return Err(TxFault::Form);
     }
-    let (tx, rest) = tx_of(alloc, bytes)?;
+    let (tx, rest) = read_tx(alloc, bytes)?;
     if !rest.is_empty() {
         return Err(TxFault::Form);
     }
     Ok(tx)
 }
 
-fn whole_tx_of(alloc: Global, bytes: &[u8]) -> Result<SpelledTx<'_>, TxFault>
+fn read_whole_tx(alloc: Global, bytes: &[u8]) -> Result<SpelledTx<'_>, TxFault>
     ensures { Gives (λ tx. tx) result (whole_tx_at bytes.now) }
 {
-    match bare_tx_of(alloc, bytes) {
+    match read_bare_tx(alloc, bytes) {
         Ok(tx) => Ok(SpelledTx::new(tx, bytes)),
         Err(fault) => Err(fault),
     }
 }
 
-fn whole_identity_of(bytes: &[u8]) -> Result<Identity<'_>, TxFault>
+fn read_whole_identity(bytes: &[u8]) -> Result<Identity<'_>, TxFault>
     ensures { Gives (λ i. i) result (all_at identity_at bytes.now) }
 {
-    let (identity, rest) = identity_of(bytes)?;
+    let (identity, rest) = read_identity(bytes)?;
     if !rest.is_empty() {
         return Err(TxFault::Form);
     }
@@ -342,7 +342,7 @@ pub fn decode_identity(bytes: &[u8]) -> Result<Identity<'_>, TxFault>
     ensures spelled { (i : Identity) → SpellsIdentity bytes.now i → GivesUnless Memory result (Ok i) }
     ensures form { result ≡ Err Form → (i : Identity) → ¬ SpellsIdentity bytes.now i }
 {
-    whole_identity_of(bytes)
+    read_whole_identity(bytes)
 }
 
 /// The transaction that the bytes spell, all of the bytes, which it lends. One pass; nothing is copied but the id, and
@@ -363,5 +363,5 @@ pub fn decode_tx(alloc: Global, bytes: &[u8]) -> Result<SpelledTx<'_>, TxFault>
     ensures reading { IfOk result (λ tx. tx_of bytes.now ≡ Some tx) }
     ensures no_reading { result ≡ Err Form → tx_of bytes.now ≡ None }
 {
-    whole_tx_of(alloc, bytes)
+    read_whole_tx(alloc, bytes)
 }

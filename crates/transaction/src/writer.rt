@@ -5,7 +5,7 @@ ghost use Rattle.values.specs.Name.{is_name};
 ghost use Rattle.values.specs.Key.{is_key, is_bound};
 ghost use Rattle.values.specs.Memory.{GivesUnless};
 ghost use Rattle.transaction.specs.declared.fault.EncodeFault.TheVariants.{TooLarge, Memory};
-ghost use Rattle.transaction.specs.Grammar.{counted, listed, optional, flag_byte, role_byte, identity_bytes, version_bytes, read_bytes, result_bytes, range_bytes, write_bytes, policy_write_bytes, namespace_bytes, endorsement_bytes, body_bytes, signed_bytes, whole_bytes, IsIdentity, IsVersion, IsRead, IsResult, AreItems, AreEndorsements, IsRange, IsWrite, IsPolicyWrite, IsNsSet, IsEndorsement, IsBody, IsSigned, IsWhole, SpellsIdentity, SpellsBody, SpellsSigned, SpellsTx};
+ghost use Rattle.transaction.specs.Grammar.{counted, listed, optional, bool_byte, role_byte, identity_bytes, version_bytes, read_bytes, result_bytes, range_bytes, write_bytes, policy_write_bytes, namespace_bytes, endorsement_bytes, body_bytes, signed_bytes, whole_bytes, IsIdentity, IsVersion, IsRead, IsResult, AreItems, AreEndorsements, IsRange, IsWrite, IsPolicyWrite, IsNsSet, IsEndorsement, IsBody, IsSigned, IsWhole, SpellsIdentity, SpellsBody, SpellsSigned, SpellsTx};
 ghost use Rattle.transaction.specs.Limits.{id_bytes, max_tx_bytes};
 ghost use Rattle.transaction.specs.Putting.{Puts};
 

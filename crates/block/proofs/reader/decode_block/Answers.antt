@@ -3,19 +3,19 @@ use Rattle.block.proofs.Answered.{is_spelled, is_one_block, is_one_spelling, is_
 use Rattle.block.proofs.reader.decode_block.Goals as goal
 
 pub returns-clause-found : goal.returns-clause-found
-returns-clause-found c = is_spelled c.args.bytes.now c.block_of.result (λ i. omega (arith, c.type_inv.bytes i)) c.block_of.ensures
+returns-clause-found c = is_spelled c.args.bytes.now c.read_block.result (λ i. omega (arith, c.type_inv.bytes i)) c.read_block.ensures
 
 pub returns-clause-one_block : goal.returns-clause-one_block
-returns-clause-one_block c = is_one_block c.args.bytes.now c.block_of.result c.block_of.ensures
+returns-clause-one_block c = is_one_block c.args.bytes.now c.read_block.result c.read_block.ensures
 
 pub returns-clause-one_spelling : goal.returns-clause-one_spelling
-returns-clause-one_spelling c = is_one_spelling c.args.bytes.now c.block_of.result (λ i. omega (arith, c.type_inv.bytes i)) c.block_of.ensures
+returns-clause-one_spelling c = is_one_spelling c.args.bytes.now c.read_block.result (λ i. omega (arith, c.type_inv.bytes i)) c.read_block.ensures
 
 pub returns-clause-spelled : goal.returns-clause-spelled
-returns-clause-spelled c = λ b spells. is_read c.args.bytes.now c.block_of.result b c.block_of.ensures spells
+returns-clause-spelled c = λ b spells. is_read c.args.bytes.now c.read_block.result b c.read_block.ensures spells
 
 pub returns-clause-fault : goal.returns-clause-fault
-returns-clause-fault c = is_faulty c.args.bytes.now c.block_of.result (λ i. omega (arith, c.type_inv.bytes i)) c.block_of.ensures
+returns-clause-fault c = is_faulty c.args.bytes.now c.read_block.result (λ i. omega (arith, c.type_inv.bytes i)) c.read_block.ensures
 
 pub returns-clause-faulty : goal.returns-clause-faulty
-returns-clause-faulty c = λ f faulty. is_refused c.args.bytes.now c.block_of.result f c.block_of.ensures faulty
+returns-clause-faulty c = λ f faulty. is_refused c.args.bytes.now c.read_block.result f c.read_block.ensures faulty

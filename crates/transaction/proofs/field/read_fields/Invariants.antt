@@ -1,7 +1,7 @@
 use Rattle.std.proofs.Common.{◌≡◌, ◌-◌}
 use Rattle.transaction.specs.Combined.{fields_at}
 use Rattle.transaction.proofs.FieldLoop.{with_front}
-use Rattle.transaction.proofs.field.fields_of.Given as goal
+use Rattle.transaction.proofs.field.read_fields.Given as goal
 
 -- what was read before, and what is still read, is what is read of all
 abbrev pub invariant-loop : goal.invariant-loop

@@ -1,7 +1,7 @@
 use Rattle.std.proofs.lemmas.Result.{err_from_is_err_and}
 use Rattle.transaction.specs.Combined.{fields_at}
 use Rattle.transaction.proofs.FieldLoop.{goes_on, ends, is_done}
-use Rattle.transaction.proofs.field.fields_of.Goals as goal
+use Rattle.transaction.proofs.field.read_fields.Goals as goal
 
 pub returns-in_err-item : goal.returns-in_err-item
 returns-in_err-item g c =

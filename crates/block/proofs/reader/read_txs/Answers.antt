@@ -1,7 +1,7 @@
 use Rattle.std.proofs.lemmas.Result.{err_from_is_err_and}
 use Rattle.block.specs.Reading.{txs_at}
 use Rattle.block.proofs.Transactions.{goes_on, ends, is_done}
-use Rattle.block.proofs.reader.txs_of.Goals as goal
+use Rattle.block.proofs.reader.read_txs.Goals as goal
 
 pub returns-in_err-tx : goal.returns-in_err-tx
 returns-in_err-tx c =

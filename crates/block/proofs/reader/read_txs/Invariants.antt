@@ -1,7 +1,7 @@
 use Rattle.std.proofs.Common.{◌≡◌, ◌-◌}
 use Rattle.block.specs.Reading.{txs_at}
 use Rattle.block.proofs.Transactions.{with_front}
-use Rattle.block.proofs.reader.txs_of.Given as goal
+use Rattle.block.proofs.reader.read_txs.Given as goal
 
 -- what was read before, and what is still read, is what is read of all
 abbrev pub invariant-loop : goal.invariant-loop
