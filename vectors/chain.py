@@ -42,7 +42,7 @@ def rust_block(octets, header_hash, flags):
 
 
 def rust_blocks(name, blocks):
-    yield "//! Blocks of one chain, made by vectors/chain.py.\n"
+    yield "//! Blocks of one chain, made by vectors/make.py.\n"
     yield "use super::Committed;\n"
     yield from rust_table(name, "Committed", ["\n".join(rust_block(*block)) for block in blocks])
 
@@ -83,13 +83,13 @@ def rust_left(world, place):
 
 
 def rust_rows(world):
-    yield "//! What the chain leaves at each key, made by vectors/chain.py.\n"
+    yield "//! What the chain leaves at each key, made by vectors/make.py.\n"
     yield "use super::{Left, LeftRow};\n"
     yield from rust_table("rows", "Left", ["\n".join(rust_left(world, place)) for place in written_keys(world)])
 
 
 def rust_uses(world):
-    yield "//! Where the chain uses each id first, made by vectors/chain.py.\n"
+    yield "//! Where the chain uses each id first, made by vectors/make.py.\n"
     octets = b"".join(id + bytes(use) for id, use in world.first_uses.items())
     yield "/// The id's 64 bytes, then the block, the place and the number of the flag, a byte each."
     yield "pub fn uses() -> &'static [[u8; 67]] {\n    USES.as_chunks().0\n}\n"
@@ -97,9 +97,11 @@ def rust_uses(world):
 
 
 def rust_worked():
-    yield "//! Chains that each show one thing, made by vectors/chain.py.\n"
+    yield "//! Chains that each show one thing, made by vectors/make.py.\n"
     for name, blocks, _ in worked():
-        yield f"pub const {name}: [&[u8]; {len(blocks)}] = ["
+        item = f"[&'static [u8]; {len(blocks)}]"
+        yield f"pub fn {name.lower()}() -> &'static {item} {{\n    &{name}\n}}\n"
+        yield f"static {name}: {item} = ["
         for octets in blocks:
             yield f"    {rust_string(octets)},"
         yield "];\n"
@@ -114,7 +116,7 @@ def told_blocks(blocks, reasons):
 
 
 def told_story(world):
-    yield "The blocks of the chain, made by vectors/chain.py: for each transaction its place, flag and why, and what it is."
+    yield "The blocks of the chain, made by vectors/make.py: for each transaction its place, flag and why, and what it is."
     yield "Keys and values are words, in which % and two digits stand for a byte, and % alone for none. An endorser with ! behind"
     yield "its name has a bad signature.\n"
     yield from told_blocks(world.blocks, world.reasons)
@@ -128,7 +130,7 @@ def told_story(world):
 
 
 def told_worked():
-    yield "Chains that each show one thing, made by vectors/chain.py and told as in story.txt."
+    yield "Chains that each show one thing, made by vectors/make.py and told as in story.txt."
     for name, blocks, chain in worked():
         yield f"\n{name}"
         if chain:

@@ -5,7 +5,7 @@ from hashlib import sha256
 from pyasn1.codec.der.encoder import encode
 from pyasn1.type.univ import Integer, OctetString, Sequence
 
-from rust import rust_array, rust_file
+from rust import rust_file, rust_octets
 
 NUMBERS = [0, 0, 127, 128, 255, 256, 32767, 32768, 2**31, 2**63, 2**64 - 1]
 
@@ -33,12 +33,17 @@ def rows():
 HEAD = """\
 //! Headers with their DER bytes and header hashes, made by vectors/make.py.
 
-use block::{Header, Previous};
-
+/// The previous hash is empty or has 32 bytes.
 pub struct Row {
-    pub header: Header,
+    pub number: u64,
+    pub previous: &'static [u8],
+    pub data_hash: &'static [u8; 32],
     pub der: &'static [u8],
-    pub hash: [u8; 32],
+    pub hash: &'static [u8; 32],
+}
+
+pub fn rows() -> &'static [Row] {
+    &ROWS
 }
 """
 
@@ -46,17 +51,15 @@ pub struct Row {
 def rust_rows():
     all_rows = list(rows())
     yield HEAD
-    yield f"pub const ROWS: [Row; {len(all_rows)}] = ["
+    yield f"static ROWS: [Row; {len(all_rows)}] = ["
     for number, previous, data_hash in all_rows:
         octets = der(number, previous, data_hash)
         yield "    Row {"
-        yield "        header: Header {"
-        yield f"            number: {number},"
-        yield f"            previous: Previous::{f'Hash({rust_array(previous, 12)})' if previous else 'Empty'},"
-        yield f"            data_hash: {rust_array(data_hash, 12)},"
-        yield "        },"
-        yield f"        der: &{rust_array(octets, 8)},"
-        yield f"        hash: {rust_array(sha256(octets).digest(), 8)},"
+        yield f"        number: {number},"
+        yield f"        previous: {rust_octets(previous)},"
+        yield f"        data_hash: {rust_octets(data_hash)},"
+        yield f"        der: {rust_octets(octets)},"
+        yield f"        hash: {rust_octets(sha256(octets).digest())},"
         yield "    },"
     yield "];"
 

@@ -16,8 +16,8 @@ import sample
 import signatures
 
 CRATES = pathlib.Path(__file__).resolve().parent.parent / "crates"
-CHAIN = CRATES / "plain/src/tests/vectors"
-HEADERS = CRATES / "header_hash/src/tests"
+CHAIN = CRATES / "plain_tests/src/vectors"
+HEADERS = CRATES / "bytes_tests/src/header_hashes"
 SAMPLE = CRATES / "fabcommit"
 SIGNATURES = CRATES / "command_line_tests/src/signatures"
 

@@ -20,12 +20,10 @@ def rust_string(octets):
     return 'b"' + "\\\n    ".join(lines + [line]) + '"'
 
 
-def rust_array(octets, indent):
-    """An array whose first line begins behind so many spaces, or behind a name there."""
-    count = (101 - indent - 4) // len("0x00, ")
-    rows = [octets[start : start + count] for start in range(0, len(octets), count)]
-    lines = [" " * (indent + 4) + ", ".join(f"0x{octet:02x}" for octet in row) + ",\n" for row in rows]
-    return "[\n" + "".join(lines) + " " * indent + "]"
+def rust_octets(octets):
+    """A byte string in hexadecimal digits, 24 octets a line."""
+    lines = [octets[start : start + 24] for start in range(0, len(octets), 24)]
+    return 'b"' + "\\\n    ".join("".join(f"\\x{octet:02x}" for octet in line) for line in lines) + '"'
 
 
 def rust_table(name, item, rows):

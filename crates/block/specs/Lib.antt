@@ -2,3 +2,8 @@ pub mod Faults
 pub mod Grammar
 pub mod Limits
 pub mod Reading
+
+-- what crates above name
+unfoldable pub use Faults.{HasFault}
+pub use Grammar.{Spells}
+unfoldable pub use Limits.{max_txs}

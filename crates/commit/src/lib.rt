@@ -7,6 +7,3 @@ pub use channel::{Channel, ChannelFault};
 pub use ledger::Ledger;
 pub use plain::World;
 pub use rules::{Accepted, CommittedBlock, Flag, Refused};
-
-#[cfg(test)]
-mod tests;

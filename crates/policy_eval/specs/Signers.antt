@@ -4,8 +4,7 @@ use Rattle.std.specs.List.{Contains}
 use Rattle.transaction.specs.declared.identity.Identity.{Identity}
 use Rattle.transaction.specs.declared.transaction.Endorsement.{Endorsement}
 use Rattle.transaction.specs.declared.transaction.Tx.{Tx}
-use Rattle.transaction.specs.Grammar.{body_bytes, identity_bytes}
-use Rattle.transaction.specs.Same.{is_same_identity}
+use Rattle.transaction.specs.{body_bytes, identity_bytes, is_same_identity}
 use Rattle.policy_eval.specs.Accepts.{Accepts}
 
 -- an endorser signs the body followed by its own identity bytes

@@ -1,4 +1,4 @@
-//! Headers with their DER bytes and header hashes, made by vectors/headers.py.
+//! Headers with their DER bytes and header hashes, made by vectors/make.py.
 
 /// The previous hash is empty or has 32 bytes.
 pub struct Row {

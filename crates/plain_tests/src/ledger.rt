@@ -1,10 +1,11 @@
-use super::*;
 use block::{Block, BlockFault, Header, Previous, encode_block};
+use transaction::Identity;
+use commit::{Channel, ChannelFault, Flag, Ledger, Refused};
+use header_hash::header_hash;
 use policy_eval::Verify;
 use std::alloc::{AllocError, Global};
 use std::test::Fail;
-use transaction::Identity;
-use values::{Bytes, Items};
+use values::{Bytes, Items, Slice};
 
 // SHA-256 of no bytes and of `abc` (FIPS 180-4).
 const NO_DATA: [u8; 32] = [
@@ -36,7 +37,7 @@ impl Verify for NoSigner {
 
     ghost accepts = { λ _ _ _ _. false };
 
-    fn verify(&self, _identity: &Identity, _message: &[u8], _signature: &[u8]) -> bool {
+    fn verify(&self, _identity: &Identity<'_>, _message: &[u8], _signature: &[u8]) -> bool {
         false
     }
 }
@@ -54,7 +55,7 @@ fn block_of(
 ) -> Result<Bytes, Fail> {
     let mut items = Items::new(alloc);
     for tx in txs {
-        items.push(Bytes::from_slice(alloc, tx)?)?;
+        items.push(Slice::new(tx))?;
     }
     let header = Header {
         number,
@@ -153,7 +154,7 @@ fn malformed_bytes(rt: HostRuntime) -> Result<(), Fail> {
         assert_eq!(rt;
             refusal_of(&mut ledger, &cut),
             Some(Refused::Malformed(fault)),
-            "cut to {len}"
+            "{len}"
         );
     }
     assert_eq!(rt; ledger.view().height(), 0);
@@ -202,6 +203,28 @@ fn all_at_once(rt: HostRuntime) -> Result<(), Fail> {
     ];
     assert!(rt; hashes.eq(want));
     assert_eq!(rt; ledger.submit_all(&[], &NoSigner)?.len(), 0);
+    Ok(())
+}
+
+#[test]
+fn a_long_list(rt: HostRuntime) -> Result<(), Fail> {
+    let alloc = rt.alloc();
+    let mut ledger = open(alloc)?;
+    let mut blocks = Vec::new(alloc);
+    let mut previous = Previous::Empty;
+    for number in 0..12u64 {
+        blocks.push(block_of(alloc, number, previous, NO_DATA, &[])?)?;
+        let header = Header {
+            number,
+            previous,
+            data_hash: NO_DATA,
+        };
+        previous = Previous::Hash(header_hash(&header));
+    }
+    let answers = ledger.submit_all(&blocks, &NoSigner)?;
+    let accepted = answers.as_slice().iter().filter(|answer| answer.is_ok());
+    assert_eq!(rt; accepted.count(), 12);
+    assert_eq!(rt; ledger.view().height(), 12);
     Ok(())
 }
 

@@ -1,0 +1,34 @@
+//! Tests of the serial committer and of the ledger over it. Its blocks were made by scripts or are put together here,
+//! and their answers come from a committer in Python or were worked out by hand.
+#![tactic(auto)]
+
+#[cfg(test)]
+mod building;
+#[cfg(test)]
+mod chain;
+#[cfg(test)]
+mod endorsing;
+#[cfg(test)]
+mod fixture;
+#[cfg(test)]
+mod large_blocks;
+#[cfg(test)]
+mod ledger;
+#[cfg(test)]
+mod long_block;
+#[cfg(test)]
+mod memory;
+#[cfg(test)]
+mod policy_writes;
+#[cfg(test)]
+mod reading;
+#[cfg(test)]
+mod refusals;
+#[cfg(test)]
+mod shown;
+#[cfg(test)]
+mod signing;
+#[cfg(test)]
+mod told;
+#[cfg(test)]
+mod vectors;

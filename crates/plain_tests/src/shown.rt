@@ -1,0 +1,82 @@
+//! Parts of a world as bytes, which tell one from another.
+
+use crate::fixture::{key, name, policy_text, row_at};
+use crate::vectors::rows::rows;
+use crate::vectors::uses::uses;
+use crate::vectors::{Left, read_use};
+use plain::World;
+use rules::{HistoryEntry, Row};
+use std::alloc::Global;
+use std::test::Fail;
+
+pub fn show_row(alloc: Global, shown: &mut Vec<u8>, row: Option<&Row>) -> Result<(), Fail> {
+    let Some(row) = row else {
+        shown.push(0)?;
+        return Ok(());
+    };
+    shown.push(1)?;
+    shown.extend_from_slice(row.value.as_slice())?;
+    shown.extend_from_slice(&row.version.block.to_be_bytes())?;
+    shown.extend_from_slice(&row.version.tx.to_be_bytes())?;
+    shown.extend_from_slice(policy_text(alloc, row)?.as_bytes())?;
+    Ok(())
+}
+
+// As `Left::history` has it.
+fn show_entry(shown: &mut Vec<u8>, entry: &HistoryEntry) -> Result<(), Fail> {
+    shown.extend_from_slice(&entry.version.block.to_be_bytes())?;
+    shown.extend_from_slice(&entry.version.tx.to_be_bytes())?;
+    shown.extend_from_slice(&entry.id)?;
+    match &entry.value {
+        None => shown.push(b'-')?,
+        Some(value) => {
+            shown.push(b'=')?;
+            shown.extend_from_slice(&value.len().to_be_bytes())?;
+            shown.extend_from_slice(value.as_slice())?;
+        }
+    }
+    Ok(())
+}
+
+pub fn show_history(
+    alloc: Global,
+    shown: &mut Vec<u8>,
+    world: &World,
+    left: &Left,
+) -> Result<(), Fail> {
+    let namespace = name(alloc, left.namespace)?;
+    let at = key(alloc, left.key)?;
+    let entries = world.history(alloc, &namespace, &at)?;
+    for entry in &entries {
+        show_entry(shown, entry)?;
+    }
+    Ok(())
+}
+
+fn show_uses(shown: &mut Vec<u8>, world: &World) -> Result<(), Fail> {
+    for bytes in uses() {
+        if let Some(used) = world.first_use(&read_use(bytes).id) {
+            shown.extend_from_slice(&used.block.to_be_bytes())?;
+            shown.extend_from_slice(&used.place.to_be_bytes())?;
+            shown.push(used.flag.number())?;
+        }
+        shown.push(b';')?;
+    }
+    Ok(())
+}
+
+// Height, last header hash, and what is at each key and id that the chain writes, as bytes that tell one
+// world from another.
+pub fn shown(alloc: Global, world: &World) -> Result<Vec<u8>, Fail> {
+    let mut shown = Vec::from_slice(alloc, &world.height().to_be_bytes())?;
+    if let Some(hash) = world.header_hash() {
+        shown.extend_from_slice(&hash)?;
+    }
+    for left in rows() {
+        let row = row_at(alloc, world, left.namespace, left.key)?;
+        show_row(alloc, &mut shown, row)?;
+        show_history(alloc, &mut shown, world, left)?;
+    }
+    show_uses(&mut shown, world)?;
+    Ok(shown)
+}

@@ -1,0 +1,52 @@
+//! What vectors/chain.py makes.
+
+pub mod first_blocks;
+pub mod later_blocks;
+pub mod rows;
+pub mod uses;
+pub mod worked;
+
+/// A block with its header hash and the numbers of its flags.
+pub struct Committed {
+    pub bytes: &'static [u8],
+    pub header_hash: &'static [u8; 32],
+    pub flags: &'static [u8],
+}
+
+/// What is left at a key. Its history has for each entry, the newest first, the block in 8 bytes and the transaction in
+/// 4, the id's 64 bytes, and `-` for a delete, or `=`, the length of the value in 8 bytes and the value.
+pub struct Left {
+    pub namespace: &'static [u8],
+    pub key: &'static [u8],
+    pub row: Option<LeftRow>,
+    pub history: &'static [u8],
+}
+
+/// A value, its version, and the text of its own policy, which is empty where it has none.
+pub struct LeftRow {
+    pub value: &'static [u8],
+    pub block: u64,
+    pub tx: u32,
+    pub policy: &'static str,
+}
+
+/// The first use of an id, with the number of its flag.
+#[derive(Clone, Copy)]
+pub struct Used {
+    pub id: [u8; 64],
+    pub block: u64,
+    pub place: u32,
+    pub flag: u8,
+}
+
+/// What 67 bytes of `uses` say.
+pub fn read_use(bytes: &[u8; 67]) -> Used {
+    let mut id = [0; 64];
+    id.copy_from_slice(&bytes[..64]);
+    Used {
+        id,
+        block: u64::from(bytes[64]),
+        place: u32::from(bytes[65]),
+        flag: bytes[66],
+    }
+}
