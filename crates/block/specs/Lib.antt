@@ -2,7 +2,6 @@ pub mod Faults
 pub mod Grammar
 pub mod Limits
 pub mod Reading
-
 -- what crates above name
 unfoldable pub use Faults.{HasFault}
 pub use Grammar.{Spells}

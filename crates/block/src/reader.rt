@@ -133,7 +133,11 @@ fn room_for<'a>(alloc: Global, count: u32, bytes: &[u8]) -> Result<Vec<Slice<'a>
     Vec::with_capacity(alloc, most.min(count as usize))
 }
 
-fn read_txs(alloc: Global, count: u32, bytes: &[u8]) -> Result<(Items<Slice<'_>>, &[u8]), BlockFault>
+fn read_txs(
+    alloc: Global,
+    count: u32,
+    bytes: &[u8],
+) -> Result<(Items<Slice<'_>>, &[u8]), BlockFault>
     ensures { Gives (λ x. (x.0, x.1.now)) result (txs_at count bytes.now) }
 {
     let mut txs = Items::from_vec(room_for(alloc, count, bytes)?);

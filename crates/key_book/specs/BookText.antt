@@ -26,9 +26,13 @@ role_of word =
     else if bytes_eq word (codes "orderer") then Some Orderer
     else None
 
+-- the most bytes of a label
+abbrev pub max_label_bytes : ℕ
+max_label_bytes = 255
+
 -- a word that spells at most 255 bytes
 abbrev pub label_of : List ℕ → Option (List ℕ)
-label_of word = option_and_then (λ label. if nat_le (length label) 255 then Some label else None) (word_bytes word)
+label_of word = option_and_then (λ label. if nat_le (length label) max_label_bytes then Some label else None) (word_bytes word)
 
 abbrev pub member_of : List ℕ → List ℕ → List ℕ → Option Identity
 member_of org role label =
@@ -40,9 +44,13 @@ abbrev pub identity_of : List ℕ → Option Identity
 identity_of text =
     option_and_then (λ org. option_and_then (λ role. member_of org.0 role.0 role.1) (around_colon org.1)) (around_colon text)
 
--- 2 to 128 hexadecimal digits of either case, two for each byte
+-- the most digits of a key, two for each byte
+abbrev pub max_digits : ℕ
+max_digits = 128
+
+-- 2 to 128 hexadecimal digits of either case
 abbrev pub key_of_digits : List ℕ → Option (List ℕ)
-key_of_digits digits = if nat_le 2 (length digits) && nat_le (length digits) 128 then result_ok (decode_of digits) else None
+key_of_digits digits = if nat_le 2 (length digits) && nat_le (length digits) max_digits then result_ok (decode_of digits) else None
 
 -- `IDENTITY HEXKEY`
 abbrev pub entry_of : List ℕ → Option Entry

@@ -7,6 +7,10 @@ pub record Entry : Type 0 where
   pub identity : Identity
   pub key : List ℕ
 
+-- the most bytes of a key
+abbrev pub max_key_bytes : ℕ
+max_key_bytes = 64
+
 -- 1 to 64 bytes
 abbrev pub is_key : List ℕ → Bool
-is_key key = nat_le 1 (length key) && nat_le (length key) 64
+is_key key = nat_le 1 (length key) && nat_le (length key) max_key_bytes

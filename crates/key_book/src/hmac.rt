@@ -5,7 +5,7 @@ use sha2::{Digest, Sha256};
 use values::Hash;
 
 // RFC 2104, section 2: the block length of the hash function in bytes, and the two paddings' bytes.
-const BLOCK: usize = 64;
+pub(crate) const BLOCK: usize = 64;
 
 const IPAD: u8 = 0x36;
 

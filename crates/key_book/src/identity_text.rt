@@ -6,7 +6,7 @@ use text_lines::read_word;
 use transaction::{OwnedIdentity, Role};
 use values::{Bytes, Name, is_name};
 
-const MAX_LABEL: usize = 255;
+pub(crate) const MAX_LABEL: usize = 255;
 
 fn colon_in(text: &[u8]) -> Option<usize>
     ensures place { result ≡ position (λ b. b == 58) text.now }

@@ -12,7 +12,7 @@ use values::Bytes;
 // A key has 1 to 64 bytes, of two digits each.
 const MIN_DIGITS: usize = 2;
 
-const MAX_DIGITS: usize = 128;
+pub(crate) const MAX_DIGITS: usize = 128;
 
 fn read_key(alloc: Global, digits: &[u8]) -> Result<Option<Bytes>, AllocError>
     ensures { IfOk result (λ key. key ≡ key_of_digits digits.now) }

@@ -1,12 +1,12 @@
 //! A channel, a verifier, and what stands in a world.
 
-use transaction::Identity;
 use channel::Channel;
 use plain::{World, submit};
 use policy_eval::Verify;
 use rules::{Flag, Row};
 use std::alloc::Global;
 use std::test::Fail;
+use transaction::Identity;
 use values::{Key, Name, is_key, is_name};
 
 pub const CHANNEL: &str = "channel ch

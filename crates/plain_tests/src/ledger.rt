@@ -1,10 +1,10 @@
 use block::{Block, BlockFault, Header, Previous, encode_block};
-use transaction::Identity;
 use commit::{Channel, ChannelFault, Flag, Ledger, Refused};
 use header_hash::header_hash;
 use policy_eval::Verify;
 use std::alloc::{AllocError, Global};
 use std::test::Fail;
+use transaction::Identity;
 use values::{Bytes, Items, Slice};
 
 // SHA-256 of no bytes and of `abc` (FIPS 180-4).

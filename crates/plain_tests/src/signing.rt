@@ -2,12 +2,12 @@
 
 use crate::building::{P0, Q0, body, flags_of};
 use crate::fixture::CHANNEL;
-use transaction::Identity;
 use channel::Channel;
 use plain::World;
 use policy_eval::Verify;
 use std::alloc::{AllocError, Global};
 use std::test::Fail;
+use transaction::Identity;
 use values::Bytes;
 
 // A signature is the message itself.

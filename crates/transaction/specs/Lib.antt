@@ -7,7 +7,6 @@ pub mod Putting
 pub mod Reading
 pub mod Same
 pub mod Spelled
-
 -- what crates above name
 unfoldable pub use Decoded.{tx_of}
 unfoldable pub use Grammar.{identity_bytes, body_bytes, signed_bytes}

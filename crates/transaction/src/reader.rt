@@ -12,8 +12,8 @@ ghost use Rattle.transaction.specs.Reading.{Gives, role_of, bool_of, identity_at
 
 use crate::fault::TxFault;
 use crate::field::{
-    Field, read_bound, read_bytes8, read_bytes16, read_bytes32, read_fields, read_key, read_list, read_name, read_u8,
-    read_u32, read_u64,
+    Field, read_bound, read_bytes8, read_bytes16, read_bytes32, read_fields, read_key, read_list,
+    read_name, read_u8, read_u32, read_u64,
 };
 use crate::identity::{Identity, Role};
 use crate::limits::{ID_BYTES, MAX_ENDORSEMENTS, MAX_TX_BYTES};
@@ -261,7 +261,10 @@ fn read_body(alloc: Global, bytes: &[u8]) -> Result<(BodyFields<'_>, &[u8]), TxF
     Ok((body, rest))
 }
 
-fn read_endorsements(alloc: Global, bytes: &[u8]) -> Result<(Items<Endorsement<'_>>, &[u8]), TxFault>
+fn read_endorsements(
+    alloc: Global,
+    bytes: &[u8],
+) -> Result<(Items<Endorsement<'_>>, &[u8]), TxFault>
     ensures { Gives (λ x. (x.0, x.1.now)) result (few_at max_endorsements endorsement_at bytes.now) }
 {
     let (count, rest) = read_u8(bytes)?;

@@ -3,7 +3,6 @@ pub mod Key
 pub mod Memory
 pub mod Name
 pub mod Order
-
 -- what crates above name
 unfoldable pub use Hash.{hash_bytes, IsHash}
 unfoldable pub use Key.{max_key_bytes, is_key, is_bound}

@@ -76,37 +76,3 @@ impl Key {
         self.bytes.as_slice() == other.bytes.as_slice()
     }
 }
-
-/// Where a range of keys begins or ends; empty where it is unbounded. A contract sees the list of its
-/// bytes.
-#[derive(Debug, Drop)]
-pub struct Bound {
-    bytes: Vec<u8>,
-}
-
-impl Model for Bound {
-    ghost Value = { List ℕ };
-
-    ghost view = { λ b. b.bytes.items };
-
-    ghost invariant = { λ b. IsTrue (is_bound b.bytes.items) };
-}
-
-impl Bound {
-    /// Copies the bytes once.
-    pub fn from_slice(alloc: Global, bytes: &[u8]) -> Result<Bound, AllocError>
-        requires { IsTrue (is_bound bytes.now) }
-        ensures { IfOk result (λ bound. bound ≡ bytes.now) }
-    {
-        Ok(Bound {
-            bytes: Vec::from_slice(alloc, bytes)?,
-        })
-    }
-
-    pub fn as_slice(&self) -> &[u8]
-        ensures value { result.now ≡ self.now }
-        ensures bound { IsTrue (is_bound result.now) }
-    {
-        self.bytes.as_slice()
-    }
-}

@@ -4,7 +4,7 @@ ghost use Rattle.values.specs.Key.{is_key, is_bound};
 ghost use Rattle.values.specs.Name.{max_name_bytes, is_name};
 
 use crate::bytes::Bytes;
-use crate::key::{Bound, Key};
+use crate::key::Key;
 use crate::name::Name;
 use std::alloc::{AllocError, Global};
 use std::marker::Model;
@@ -179,7 +179,7 @@ impl<'a> KeyRef<'a> {
     }
 }
 
-/// A bound that is lent.
+/// Where a range of keys begins or ends, lent; empty where it is unbounded.
 #[derive(Debug, Drop)]
 pub struct BoundRef<'a> {
     bytes: &'a [u8],
@@ -213,13 +213,6 @@ impl<'a> BoundRef<'a> {
         ensures { result ≡ self.now }
     {
         BoundRef { bytes: self.bytes }
-    }
-
-    /// The same bytes, copied once.
-    pub fn copy(&self, alloc: Global) -> Result<Bound, AllocError>
-        ensures { IfOk result (λ copied. copied ≡ self.now) }
-    {
-        Bound::from_slice(alloc, self.bytes)
     }
 
     /// Whether both have the same bytes. Linear in their number.

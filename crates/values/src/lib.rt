@@ -14,7 +14,7 @@ mod name;
 pub use bytes::Bytes;
 pub use hash::{HASH_BYTES, Hash};
 pub use items::Items;
-pub use key::{Bound, Key, MAX_KEY, is_bound, is_key};
+pub use key::{Key, MAX_KEY, is_bound, is_key};
 pub use laws::limits_are_the_definitions;
 pub use lent::{BoundRef, KeyRef, NameRef, Slice};
 pub use name::{MAX_NAME, Name, is_name};
