@@ -1,4 +1,5 @@
--- The next token of a text, computed. It stands between the code and the grammar: no public contract names it.
+-- The next token of a text, computed. It stands between the code and the grammar, to which the law `policy_reading`
+-- joins it.
 use Rattle.std.specs.Prelude.{ℕ, ◌+◌, ◌-◌, ◌*◌, List, [], ◌∷◌, length, drop, take, Bool, ◌||◌, ◌==◌, nat_lt, if◌then◌else◌, codes}
 use Rattle.std.specs.Char.{is_ascii_digit, is_ascii_alphabetic}
 use Rattle.std.specs.List.{prefix_len, position_or_len, before_first, after_first}

@@ -1,4 +1,4 @@
--- The parts of a canonical text that the code writes at once.
+-- The parts of a canonical text that the code writes at once. No public contract cites this.
 use Rattle.std.specs.Prelude.{ℕ, List, Bool, if◌then◌else◌, codes}
 use Rattle.policy.specs.declared.tree.Principal.{Principal}
 use Rattle.policy.specs.Token.{named, quoted}

@@ -81,8 +81,8 @@ nested_fails = refl
 
 -- ---- signers
 
-abbrev tx_of : List Endorsement → Tx
-tx_of endorsements = record {
+abbrev endorsed_tx : List Endorsement → Tx
+endorsed_tx endorsements = record {
   channel = codes "c";
   id = replicate 64 0;
   creator = identity (codes "A") Admin [];
@@ -100,18 +100,18 @@ endorsed endorser signature = record { endorser = endorser; signature = signatur
 abbrev accepts_one : Accepts
 accepts_one who message signature = bytes_eq signature (1 ∷ [])
 
-pub counts_once : signers_of accepts_one (tx_of (endorsed p0 (1 ∷ []) ∷ endorsed p0 (1 ∷ []) ∷ [])) ≡ p0 ∷ []
+pub counts_once : signers_of accepts_one (endorsed_tx (endorsed p0 (1 ∷ []) ∷ endorsed p0 (1 ∷ []) ∷ [])) ≡ p0 ∷ []
 counts_once = refl
 
 -- refused at first, and accepted behind another one
-pub counts_where_accepted : signers_of accepts_one (tx_of (endorsed p0 (0 ∷ []) ∷ endorsed p1 (1 ∷ []) ∷ endorsed p0 (1 ∷ []) ∷ [])) ≡ p1 ∷ p0 ∷ []
+pub counts_where_accepted : signers_of accepts_one (endorsed_tx (endorsed p0 (0 ∷ []) ∷ endorsed p1 (1 ∷ []) ∷ endorsed p0 (1 ∷ []) ∷ [])) ≡ p1 ∷ p0 ∷ []
 counts_where_accepted = refl
 
 -- accepted at first, and once more behind another one
-pub counts_at_first : signers_of accepts_one (tx_of (endorsed p0 (1 ∷ []) ∷ endorsed p1 (1 ∷ []) ∷ endorsed p0 (1 ∷ []) ∷ [])) ≡ p0 ∷ p1 ∷ []
+pub counts_at_first : signers_of accepts_one (endorsed_tx (endorsed p0 (1 ∷ []) ∷ endorsed p1 (1 ∷ []) ∷ endorsed p0 (1 ∷ []) ∷ [])) ≡ p0 ∷ p1 ∷ []
 counts_at_first = refl
 
-pub refused_is_no_signer : signers_of accepts_one (tx_of (endorsed p0 (0 ∷ []) ∷ [])) ≡ []
+pub refused_is_no_signer : signers_of accepts_one (endorsed_tx (endorsed p0 (0 ∷ []) ∷ [])) ≡ []
 refused_is_no_signer = refl
 
 -- channel, id, creator, nonce, chaincode, no namespaces; then the endorser B, a peer, p
@@ -122,5 +122,5 @@ abbrev accepts_that_message : Accepts
 accepts_that_message who message signature = bytes_eq message message_of_b
 
 -- each endorser signs the body and its own bytes
-pub signs_its_own_bytes : signers_of accepts_that_message (tx_of (endorsed (of_org (codes "A")) [] ∷ endorsed (of_org (codes "B")) [] ∷ [])) ≡ of_org (codes "B") ∷ []
+pub signs_its_own_bytes : signers_of accepts_that_message (endorsed_tx (endorsed (of_org (codes "A")) [] ∷ endorsed (of_org (codes "B")) [] ∷ [])) ≡ of_org (codes "B") ∷ []
 signs_its_own_bytes = refl

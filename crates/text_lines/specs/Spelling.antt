@@ -1,4 +1,4 @@
--- How a word is read from the front.
+-- How a word is read from the front. No public contract cites this.
 use Rattle.std.specs.Prelude.{ℕ, ◌==◌, if◌then◌else◌, List, [], ◌∷◌, Option, Some, None, option_map}
 use Rattle.text_lines.specs.Words.{stands_for_itself, hex_byte}
 

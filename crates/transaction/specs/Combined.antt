@@ -1,4 +1,4 @@
--- Reading fields one after the other. No public contract cites this.
+-- Reading fields one after the other: what `Reading` is made of.
 use Rattle.std.specs.Prelude.{ℕ, zero, suc, Bool, nat_lt, nat_le, if◌then◌else◌, List, [], ◌∷◌, length, take, drop, Option, Some, None, option_map, option_and_then}
 use Rattle.byteorder.specs.Endian.{big_number}
 

@@ -1,4 +1,5 @@
--- Reading identities and transactions from left to right. No public contract cites this.
+-- Reading identities and transactions from left to right. It stands between the code and the grammar, to which the law
+-- `transaction_reading` joins it.
 use Rattle.std.specs.Prelude.{◌≡◌, ℕ, ◌==◌, nat_le, Bool, true, false, List, length, if◌then◌else◌, Option, Some, None, Result, Ok, Err}
 use Rattle.values.specs.Name.{is_name}
 use Rattle.values.specs.Key.{is_key, is_bound}
