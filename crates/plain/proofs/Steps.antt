@@ -13,7 +13,7 @@ use Rattle.rules.specs.declared.flag.Flag.{Flag}
 use Rattle.rules.specs.Candidate as candidate
 use Rattle.rules.specs.Commit.{txs_of, job_of, uses_from, committed_of, world_after}
 use Rattle.rules.specs.Delta.{changes_in, entries_in, uses_in, applied}
-use Rattle.rules.specs.Fold.{flag, flags}
+use Rattle.rules.specs.Fold.{flag}
 use Rattle.rules.specs.Job.{Job}
 use Rattle.rules.specs.Linked.{IsLinked}
 use Rattle.rules.specs.Step.{Step}

@@ -1,13 +1,11 @@
-use Rattle.std.proofs.Common.{◌≡◌, ℕ, List, [], length, map, sym, ap, subst, ◌∙◌, arith}
+use Rattle.std.proofs.Common.{ℕ, List, [], length, map, sym, ap, subst, ◌∙◌, arith}
 use Rattle.transaction.specs.Decoded.{tx_of}
 use Rattle.policy.specs.Policies.{Policies}
 use Rattle.rules.specs.Candidate.{used_id, candidates_from}
-use Rattle.rules.specs.Commit.{txs_of, job_of, uses_from}
-use Rattle.rules.specs.Job.{Job}
 use Rattle.plain.specs.declared.candidate.Candidate.{Candidate}
 use Rattle.plain.specs.Seen.{job_over}
 use Rattle.plain.specs.Taking.{IsFolded}
-use Rattle.plain.proofs.Steps.{count-candidates, count-ids, count-flags, own_job}
+use Rattle.plain.proofs.Steps.{count-candidates, count-ids, count-flags}
 use Rattle.plain.proofs.step.taken.Goals as goal
 
 pub fold-requires : goal.fold-requires

@@ -1,4 +1,4 @@
-use Rattle.std.proofs.Common.{ℕ, ◌-◌, List, length, take, ap, subst}
+use Rattle.std.proofs.Common.{ℕ, ◌-◌, length, take, ap, subst}
 use Rattle.transaction.specs.declared.transaction.Tx.{Tx}
 use Rattle.transaction.specs.Grammar.{SpellsSigned}
 use Rattle.transaction.proofs.SignedPart.{signed-from_whole}
