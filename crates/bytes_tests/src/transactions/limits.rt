@@ -5,8 +5,8 @@ use std::alloc::Global;
 use std::process::Abort;
 use std::test::Fail;
 use transaction::{
-    EncodeFault, Endorsement, NsSet, Tx, TxFault, Write, decode_identity, decode_tx, encode_body,
-    encode_identity, encode_signed, encode_tx,
+    EncodeFault, Endorsement, Identity, NsSet, Role, Tx, TxFault, Write, decode_identity,
+    decode_tx, encode_body, encode_identity, encode_signed, encode_tx,
 };
 use values::{Items, KeyRef, NameRef, Slice, is_key, is_name};
 
@@ -34,27 +34,47 @@ fn labels_and_nonces_at_their_limits(rt: HostRuntime) -> Result<(), Fail> {
     Ok(())
 }
 
-fn with_endorsements(alloc: Global, bytes: &[u8], count: usize) -> Result<Tx<'_>, Fail> {
-    let mut tx = decode_tx(alloc, bytes)?.into_tx();
+// Channel `ch`, creator `Org1:client:c0`, nonce `n1`, chaincode `cc`, no signature.
+fn tx_with<'a>(
+    rt: &impl Abort,
+    namespaces: Items<NsSet<'a>>,
+    endorsements: Items<Endorsement<'a>>,
+) -> Tx<'a> {
+    assert!(rt; is_name(b"ch") && is_name(b"cc") && is_name(b"Org1"));
+    Tx {
+        channel: NameRef::new(b"ch"),
+        id: [5; 64],
+        creator: Identity {
+            org: NameRef::new(b"Org1"),
+            role: Role::Client,
+            label: Slice::new(b"c0"),
+        },
+        nonce: Slice::new(b"n1"),
+        chaincode: NameRef::new(b"cc"),
+        namespaces,
+        endorsements,
+        signature: Slice::new(b""),
+    }
+}
+
+fn with_endorsements(rt: &impl Abort, alloc: Global, count: usize) -> Result<Tx<'static>, Fail> {
     let mut endorsements = Items::new(alloc);
     for _ in 0..count {
         endorsements.push(Endorsement {
             endorser: decode_identity(b"\x01O\x02\0")?,
-            signature: Slice::new(&[]),
+            signature: Slice::new(b""),
         })?;
     }
-    tx.endorsements = endorsements;
-    Ok(tx)
+    Ok(tx_with(rt, Items::new(alloc), endorsements))
 }
 
 #[test]
 fn sixty_four_endorsements_and_one_more(rt: HostRuntime) -> Result<(), Fail> {
     let alloc = rt.alloc();
-    let bytes = example(alloc)?;
-    let full = encode_tx(alloc, &with_endorsements(alloc, &bytes, 64)?)?;
+    let full = encode_tx(alloc, &with_endorsements(&rt, alloc, 64)?)?;
     let read = decode_tx(alloc, full.as_slice())?;
     assert_eq!(rt; read.tx().endorsements.len(), 64);
-    let over = with_endorsements(alloc, &bytes, 65)?;
+    let over = with_endorsements(&rt, alloc, 65)?;
     assert_eq!(rt; encode_tx(alloc, &over).err(), Some(EncodeFault::TooLarge));
     assert_eq!(rt;
         encode_signed(alloc, &over).err(),
@@ -64,15 +84,9 @@ fn sixty_four_endorsements_and_one_more(rt: HostRuntime) -> Result<(), Fail> {
     Ok(())
 }
 
-// The example, whose bytes are given, without endorsements and signature, and with one write of this value. Its
-// body has 104 bytes beside the value, its signed part 105, the whole 107.
-fn with_value<'a>(
-    rt: &impl Abort,
-    alloc: Global,
-    bytes: &'a [u8],
-    value: &'a [u8],
-) -> Result<Tx<'a>, Fail> {
-    let mut tx = decode_tx(alloc, bytes)?.into_tx();
+// One write of this value, and no endorsements. The body has 104 bytes beside the value, the signed part 105, the
+// whole 107.
+fn with_value<'a>(rt: &impl Abort, alloc: Global, value: &'a [u8]) -> Result<Tx<'a>, Fail> {
     assert!(rt; is_name(b"cc") && is_key(b"k3"));
     let mut writes = Items::new(alloc);
     writes.push(Write {
@@ -87,10 +101,7 @@ fn with_value<'a>(
         writes,
         policy_writes: Items::new(alloc),
     })?;
-    tx.namespaces = namespaces;
-    tx.endorsements = Items::new(alloc);
-    tx.signature = Slice::new(&[]);
-    Ok(tx)
+    Ok(tx_with(rt, namespaces, Items::new(alloc)))
 }
 
 #[test]
@@ -103,10 +114,9 @@ fn each_part_at_its_limit(rt: HostRuntime) -> Result<(), Fail> {
         (1_048_576 - 104, [true, false, false]),
         (1_048_576 - 103, [false, false, false]),
     ];
-    let bytes = example(alloc)?;
     for (len, [body, signed, whole]) in rows {
         let value = vec![in alloc; 3; len]?;
-        let tx = with_value(&rt, alloc, &bytes, &value)?;
+        let tx = with_value(&rt, alloc, &value)?;
         assert_eq!(rt; encode_body(alloc, &tx).is_ok(), body, "{len}");
         assert_eq!(rt; encode_signed(alloc, &tx).is_ok(), signed, "{len}");
         assert_eq!(rt; encode_tx(alloc, &tx).is_ok(), whole, "{len}");
@@ -117,9 +127,8 @@ fn each_part_at_its_limit(rt: HostRuntime) -> Result<(), Fail> {
 #[test]
 fn a_byte_over_the_limit_is_not_read(rt: HostRuntime) -> Result<(), Fail> {
     let alloc = rt.alloc();
-    let bytes = example(alloc)?;
     let value = vec![in alloc; 3; 1_048_576 - 107]?;
-    let longest = encode_tx(alloc, &with_value(&rt, alloc, &bytes, &value)?)?;
+    let longest = encode_tx(alloc, &with_value(&rt, alloc, &value)?)?;
     assert_eq!(rt; longest.len(), 1_048_576);
     let read = decode_tx(alloc, longest.as_slice())?;
     assert_eq!(rt; encode_tx(alloc, read.tx())?.as_slice(), longest.as_slice());
