@@ -1,0 +1,5 @@
+//! Tests of what a ledger holds: used ids.
+#![tactic(auto)]
+
+#[cfg(test)]
+mod ids;
