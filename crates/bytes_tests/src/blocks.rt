@@ -1,5 +1,6 @@
 use block::{Block, BlockFault, Header, Previous, decode_block, encode_block};
 use std::alloc::{AllocError, Global};
+use std::process::Abort;
 use std::test::Fail;
 use transaction::EncodeFault;
 use values::{Items, Slice};
@@ -30,42 +31,64 @@ fn fault_of(alloc: Global, bytes: &[u8]) -> Option<BlockFault> {
     decode_block(alloc, bytes).err()
 }
 
-#[test]
-fn the_empty_block_both_ways(rt: HostRuntime) -> Result<(), Fail> {
-    let alloc = rt.alloc();
-    let bytes = empty_block(alloc)?;
-    assert_eq!(rt; bytes.len(), 49);
-    let block = decode_block(alloc, &bytes)?;
-    assert_eq!(rt;
-        block.header,
-        Header {
-            number: 0,
-            previous: Previous::Empty,
-            data_hash: NO_DATA
-        }
-    );
-    assert_eq!(rt; block.txs.len(), 0);
-    assert_eq!(rt; encode_block(alloc, &block)?.as_slice(), bytes.as_slice());
-    Ok(())
+fn is_written_again(alloc: Global, bytes: &[u8]) -> bool {
+    let Ok(block) = decode_block(alloc, bytes) else {
+        return false;
+    };
+    match encode_block(alloc, &block) {
+        Ok(written) => written.as_slice() == bytes,
+        Err(_) => false,
+    }
 }
 
 #[test]
-fn a_block_with_transactions_both_ways(rt: HostRuntime) -> Result<(), Fail> {
-    let alloc = rt.alloc();
+fn the_empty_block_both_ways(rt: HostRuntime) -> Result<(), Fail> {
+    let bytes = empty_block(rt.alloc())?;
+    assert!(rt; bytes.len() == 49);
+    assert!(rt; is_written_again(rt.alloc(), &bytes));
+    let block = decode_block(rt.alloc(), &bytes)?;
+    let header = Header {
+        number: 0,
+        previous: Previous::Empty,
+        data_hash: NO_DATA,
+    };
+    assert!(rt; block.header == header);
+    assert!(rt; block.txs.is_empty());
+    Ok(())
+}
+
+// Three transactions: two bytes, none, one.
+fn three(alloc: Global) -> Result<Vec<u8>, AllocError> {
     let mut bytes = Vec::from_slice(alloc, b"FBK1\xff\xfe\xfd\xfc\xfb\xfa\xf9\xf8\x20")?;
     bytes.extend_from_slice(&[7; 32])?;
     bytes.extend_from_slice(&[9; 32])?;
     bytes.extend_from_slice(b"\0\0\0\x03\0\0\0\x02ab\0\0\0\0\0\0\0\x01c")?;
-    let block = decode_block(alloc, &bytes)?;
-    assert_eq!(rt; block.header.number, 0xfffe_fdfc_fbfa_f9f8);
-    assert_eq!(rt; block.header.previous, Previous::Hash([7; 32]));
-    assert_eq!(rt; block.header.data_hash, [9; 32]);
-    let txs = block.txs.as_slice();
-    assert_eq!(rt; txs.len(), 3);
-    assert_eq!(rt; txs[0].as_slice(), b"ab".as_slice());
-    assert_eq!(rt; txs[1].as_slice(), b"".as_slice());
-    assert_eq!(rt; txs[2].as_slice(), b"c".as_slice());
-    assert_eq!(rt; encode_block(alloc, &block)?.as_slice(), bytes.as_slice());
+    Ok(bytes)
+}
+
+fn expect_three(rt: &impl Abort, block: &Block<'_>) {
+    let header = Header {
+        number: 0xfffe_fdfc_fbfa_f9f8,
+        previous: Previous::Hash([7; 32]),
+        data_hash: [9; 32],
+    };
+    assert!(rt; block.header == header);
+    match block.txs.as_slice() {
+        [first, second, third] => {
+            assert!(rt; first.as_slice() == b"ab".as_slice());
+            assert!(rt; second.is_empty());
+            assert!(rt; third.as_slice() == b"c".as_slice());
+        }
+        _ => assert!(rt; false),
+    }
+}
+
+#[test]
+fn a_block_with_transactions_both_ways(rt: HostRuntime) -> Result<(), Fail> {
+    let bytes = three(rt.alloc())?;
+    assert!(rt; is_written_again(rt.alloc(), &bytes));
+    let block = decode_block(rt.alloc(), &bytes)?;
+    expect_three(&rt, &block);
     Ok(())
 }
 
@@ -88,17 +111,20 @@ fn cut_and_lengthened(rt: HostRuntime) -> Result<(), Fail> {
 }
 
 #[test]
-fn the_first_fault_from_the_left(rt: HostRuntime) -> Result<(), Fail> {
-    let alloc = rt.alloc();
-    assert_eq!(rt; fault_of(alloc, b"FBK2"), Some(BlockFault::BadMagic));
-    assert_eq!(rt;
-        fault_of(alloc, b"FBK1\0\0\0\0\0\0\0\0\x01"),
-        Some(BlockFault::PreviousLength)
-    );
-    assert_eq!(rt;
-        fault_of(alloc, b"FBK1\0\0\0\0\0\0\0\0\x20"),
-        Some(BlockFault::Truncated)
-    );
+fn the_first_fault_of_a_header(rt: HostRuntime) -> Result<(), Fail> {
+    let rows: [(&[u8], BlockFault); 3] = [
+        (b"FBK2", BlockFault::BadMagic),
+        (b"FBK1\0\0\0\0\0\0\0\0\x01", BlockFault::PreviousLength),
+        (b"FBK1\0\0\0\0\0\0\0\0\x20", BlockFault::Truncated),
+    ];
+    for (bytes, want) in &rows {
+        assert!(rt; fault_of(rt.alloc(), bytes) == Some(*want), "{bytes:?}");
+    }
+    Ok(())
+}
+
+#[test]
+fn the_first_fault_of_the_transactions(rt: HostRuntime) -> Result<(), Fail> {
     let rows: [(&[u8], BlockFault); 9] = [
         (b"\xff\xff\xff\xff", BlockFault::TooManyTxs),
         (b"\0\0\x10\x01", BlockFault::TooManyTxs),
@@ -111,8 +137,11 @@ fn the_first_fault_from_the_left(rt: HostRuntime) -> Result<(), Fail> {
         (b"\0\0\0\x01\0\0\0\x01ab", BlockFault::TrailingBytes),
     ];
     for (from_count, want) in &rows {
-        let bytes = with_count(alloc, from_count)?;
-        assert_eq!(rt; fault_of(alloc, &bytes), Some(*want), "{from_count:?}");
+        let bytes = with_count(rt.alloc(), from_count)?;
+        assert!(rt;
+            fault_of(rt.alloc(), &bytes) == Some(*want),
+            "{from_count:?}"
+        );
     }
     Ok(())
 }
@@ -132,21 +161,33 @@ fn block_of<'a>(alloc: Global, empty: usize, last: &'a [u8]) -> Result<Block<'a>
     Ok(Block { header, txs })
 }
 
+fn tx_count(alloc: Global, bytes: &[u8]) -> Option<usize> {
+    match decode_block(alloc, bytes) {
+        Ok(block) => Some(block.txs.len()),
+        Err(_) => None,
+    }
+}
+
 #[test]
-fn at_the_limits_and_one_past(rt: HostRuntime) -> Result<(), Fail> {
-    let alloc = rt.alloc();
-    let zeros = vec![in alloc; 0; 1_048_577]?;
-    let full = block_of(alloc, 4095, &zeros[1..])?;
-    let bytes = encode_block(alloc, &full)?;
-    assert_eq!(rt; bytes.len(), 81 + 4 * 4096 + 1_048_576);
-    let again = decode_block(alloc, bytes.as_slice())?;
-    assert_eq!(rt; again.txs.len(), 4096);
+fn at_the_limits(rt: HostRuntime) -> Result<(), Fail> {
+    let zeros = vec![in rt.alloc(); 0; 1_048_576]?;
+    let full = block_of(rt.alloc(), 4095, &zeros)?;
+    match encode_block(rt.alloc(), &full) {
+        Ok(bytes) => {
+            assert!(rt; bytes.len() == 81 + 4 * 4096 + 1_048_576);
+            assert!(rt; tx_count(rt.alloc(), bytes.as_slice()) == Some(4096));
+        }
+        Err(_) => assert!(rt; false),
+    }
+    Ok(())
+}
+
+#[test]
+fn one_past_the_limits(rt: HostRuntime) -> Result<(), Fail> {
+    let zeros = vec![in rt.alloc(); 0; 1_048_577]?;
     for (empty, last) in [(4096, &[] as &[u8]), (0, zeros.as_slice())] {
-        let over = block_of(alloc, empty, last)?;
-        assert_eq!(rt;
-            encode_block(alloc, &over).err(),
-            Some(EncodeFault::TooLarge)
-        );
+        let over = block_of(rt.alloc(), empty, last)?;
+        assert!(rt; encode_block(rt.alloc(), &over).err() == Some(EncodeFault::TooLarge));
     }
     Ok(())
 }

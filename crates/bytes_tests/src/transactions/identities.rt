@@ -1,18 +1,30 @@
+use std::alloc::{AllocError, Global};
 use std::test::Fail;
 use transaction::{Role, decode_identity, encode_identity};
 
+fn is_written_again(alloc: Global, bytes: &[u8]) -> bool {
+    let Ok(identity) = decode_identity(bytes) else {
+        return false;
+    };
+    match encode_identity(alloc, &identity) {
+        Ok(written) => written.as_slice() == bytes,
+        Err(_) => false,
+    }
+}
+
 #[test]
-fn identities(rt: HostRuntime) -> Result<(), Fail> {
-    let alloc = rt.alloc();
+fn an_identity_both_ways(rt: HostRuntime) -> Result<(), Fail> {
     let bytes = b"\x04Org1\x02\x02p0";
     let identity = decode_identity(bytes)?;
-    assert_eq!(rt; identity.org.as_slice(), b"Org1".as_slice());
-    assert_eq!(rt; identity.role, Role::Peer);
-    assert_eq!(rt; identity.label.as_slice(), b"p0".as_slice());
-    assert_eq!(rt;
-        encode_identity(alloc, &identity)?.as_slice(),
-        bytes.as_slice()
-    );
+    assert!(rt; identity.org.as_slice() == b"Org1".as_slice());
+    assert!(rt; identity.role == Role::Peer);
+    assert!(rt; identity.label.as_slice() == b"p0".as_slice());
+    assert!(rt; is_written_again(rt.alloc(), bytes));
+    Ok(())
+}
+
+#[test]
+fn bytes_that_are_none(rt: HostRuntime) -> Result<(), Fail> {
     let rows: [(&[u8], bool); 7] = [
         (b"\x04Org1\x03\x02\xff\0", true),
         (b"\x04Org1\0\0", true),
@@ -23,13 +35,24 @@ fn identities(rt: HostRuntime) -> Result<(), Fail> {
         (b"\x04Org1\x02\x03p0", false),
     ];
     for (text, good) in &rows {
-        assert_eq!(rt; decode_identity(text).is_ok(), *good, "{text:?}");
+        assert!(rt; decode_identity(text).is_ok() == *good, "{text:?}");
     }
-    for (len, good) in [(64usize, true), (65, false)] {
-        let mut long = Vec::from_slice(alloc, &[len as u8])?;
-        long.extend_from_slice(&vec![in alloc; b'a'; len]?)?;
-        long.extend_from_slice(b"\0\0")?;
-        assert_eq!(rt; decode_identity(&long).is_ok(), good, "{len}");
+    Ok(())
+}
+
+// An organization of so many letters.
+fn with_organization(alloc: Global, len: u8) -> Result<Vec<u8>, AllocError> {
+    let mut bytes = vec![in alloc; b'a'; len as usize]?;
+    bytes.insert(0, len)?;
+    bytes.extend_from_slice(b"\0\0")?;
+    Ok(bytes)
+}
+
+#[test]
+fn organizations_at_their_limit(rt: HostRuntime) -> Result<(), Fail> {
+    for (len, good) in [(64u8, true), (65, false)] {
+        let bytes = with_organization(rt.alloc(), len)?;
+        assert!(rt; decode_identity(&bytes).is_ok() == good, "{len}");
     }
     Ok(())
 }

@@ -1,7 +1,7 @@
 //! What a transaction's parts can be, up to their limits.
 
 use super::{example, fault_of};
-use std::alloc::Global;
+use std::alloc::{AllocError, Global};
 use std::process::Abort;
 use std::test::Fail;
 use transaction::{
@@ -10,26 +10,49 @@ use transaction::{
 };
 use values::{Items, KeyRef, NameRef, Slice, is_key, is_name};
 
+fn is_written(tx: &Tx<'_>, alloc: Global) -> bool {
+    encode_tx(alloc, tx).is_ok()
+}
+
+// The example with this nonce.
+fn is_nonce(alloc: Global, bytes: &[u8], nonce: &[u8]) -> Result<bool, TxFault> {
+    let mut tx = decode_tx(alloc, bytes)?.into_tx();
+    tx.nonce = Slice::new(nonce);
+    Ok(is_written(&tx, alloc))
+}
+
+// The example with this signature of its creator.
+fn is_signature(alloc: Global, bytes: &[u8], signature: &[u8]) -> Result<bool, TxFault> {
+    let mut tx = decode_tx(alloc, bytes)?.into_tx();
+    tx.signature = Slice::new(signature);
+    Ok(is_written(&tx, alloc))
+}
+
+fn is_label(alloc: Global, label: &[u8]) -> Result<bool, TxFault> {
+    let mut identity = decode_identity(b"\x04Org1\x02\x02p0")?;
+    identity.label = Slice::new(label);
+    Ok(encode_identity(alloc, &identity).is_ok())
+}
+
 #[test]
 fn labels_and_nonces_at_their_limits(rt: HostRuntime) -> Result<(), Fail> {
     let alloc = rt.alloc();
+    let bytes = example(alloc)?;
     for (len, good) in [(0usize, true), (255, true), (256, false)] {
-        let bytes = example(alloc)?;
         let long = vec![in alloc; 1; len]?;
-        let mut tx = decode_tx(alloc, &bytes)?.into_tx();
-        tx.nonce = Slice::new(&long);
-        assert_eq!(rt; encode_tx(alloc, &tx).is_ok(), good, "{len}");
-        let mut identity = decode_identity(b"\x04Org1\x02\x02p0")?;
-        identity.label = Slice::new(&long);
-        assert_eq!(rt; encode_identity(alloc, &identity).is_ok(), good, "{len}");
+        assert!(rt; is_nonce(alloc, &bytes, &long) == Ok(good), "{len}");
+        assert!(rt; is_label(alloc, &long) == Ok(good), "{len}");
     }
+    Ok(())
+}
+
+#[test]
+fn signatures_at_their_limit(rt: HostRuntime) -> Result<(), Fail> {
+    let alloc = rt.alloc();
+    let bytes = example(alloc)?;
     for (len, good) in [(65_535usize, true), (65_536, false)] {
-        let bytes = example(alloc)?;
         let long = vec![in alloc; 1; len]?;
-        let mut tx = decode_tx(alloc, &bytes)?.into_tx();
-        tx.signature = Slice::new(&long);
-        let fault = encode_tx(alloc, &tx).err();
-        assert_eq!(rt; fault.is_none(), good, "{len}");
+        assert!(rt; is_signature(alloc, &bytes, &long) == Ok(good), "{len}");
     }
     Ok(())
 }
@@ -57,36 +80,57 @@ fn tx_with<'a>(
     }
 }
 
-fn with_endorsements(rt: &impl Abort, alloc: Global, count: usize) -> Result<Tx<'static>, Fail> {
+fn with_endorsements(
+    rt: &impl Abort,
+    alloc: Global,
+    count: usize,
+) -> Result<Tx<'static>, AllocError> {
+    assert!(rt; is_name(b"O"));
     let mut endorsements = Items::new(alloc);
     for _ in 0..count {
         endorsements.push(Endorsement {
-            endorser: decode_identity(b"\x01O\x02\0")?,
+            endorser: Identity {
+                org: NameRef::new(b"O"),
+                role: Role::Peer,
+                label: Slice::new(b""),
+            },
             signature: Slice::new(b""),
         })?;
     }
     Ok(tx_with(rt, Items::new(alloc), endorsements))
 }
 
+fn endorsement_count(alloc: Global, bytes: &[u8]) -> Option<usize> {
+    match decode_tx(alloc, bytes) {
+        Ok(read) => Some(read.tx().endorsements.len()),
+        Err(_) => None,
+    }
+}
+
 #[test]
-fn sixty_four_endorsements_and_one_more(rt: HostRuntime) -> Result<(), Fail> {
-    let alloc = rt.alloc();
-    let full = encode_tx(alloc, &with_endorsements(&rt, alloc, 64)?)?;
-    let read = decode_tx(alloc, full.as_slice())?;
-    assert_eq!(rt; read.tx().endorsements.len(), 64);
-    let over = with_endorsements(&rt, alloc, 65)?;
-    assert_eq!(rt; encode_tx(alloc, &over).err(), Some(EncodeFault::TooLarge));
-    assert_eq!(rt;
-        encode_signed(alloc, &over).err(),
-        Some(EncodeFault::TooLarge)
-    );
-    assert!(rt; encode_body(alloc, &over).is_ok());
+fn sixty_four_endorsements(rt: HostRuntime) -> Result<(), Fail> {
+    let full = with_endorsements(&rt, rt.alloc(), 64)?;
+    match encode_tx(rt.alloc(), &full) {
+        Ok(bytes) => {
+            assert!(rt; endorsement_count(rt.alloc(), bytes.as_slice()) == Some(64));
+        }
+        Err(_) => assert!(rt; false),
+    }
+    Ok(())
+}
+
+#[test]
+fn one_endorsement_more(rt: HostRuntime) -> Result<(), Fail> {
+    let over = with_endorsements(&rt, rt.alloc(), 65)?;
+    assert!(rt; encode_tx(rt.alloc(), &over).err() == Some(EncodeFault::TooLarge));
+    assert!(rt; encode_signed(rt.alloc(), &over).err() == Some(EncodeFault::TooLarge));
+    assert!(rt; encode_body(rt.alloc(), &over).is_ok());
     Ok(())
 }
 
 // One write of this value, and no endorsements. The body has 104 bytes beside the value, the signed part 105, the
 // whole 107.
-fn with_value<'a>(rt: &impl Abort, alloc: Global, value: &'a [u8]) -> Result<Tx<'a>, Fail> {
+fn with_value<'a>(rt: &impl Abort, alloc: Global, value: &'a [u8]) -> Result<Tx<'a>, AllocError> {
     assert!(rt; is_name(b"cc") && is_key(b"k3"));
     let mut writes = Items::new(alloc);
     writes.push(Write {
@@ -104,6 +148,15 @@ fn with_value<'a>(rt: &impl Abort, alloc: Global, value: &'a [u8]) -> Result<Tx<
     Ok(tx_with(rt, namespaces, Items::new(alloc)))
 }
 
+// Whether its body, what is signed of it, and all of it can be written.
+fn can_be_written(tx: &Tx<'_>, alloc: Global) -> [bool; 3] {
+    [
+        encode_body(alloc, tx).is_ok(),
+        encode_signed(alloc, tx).is_ok(),
+        encode_tx(alloc, tx).is_ok(),
+    ]
+}
+
 #[test]
 fn each_part_at_its_limit(rt: HostRuntime) -> Result<(), Fail> {
     let alloc = rt.alloc();
@@ -114,33 +167,34 @@ fn each_part_at_its_limit(rt: HostRuntime) -> Result<(), Fail> {
         (1_048_576 - 104, [true, false, false]),
         (1_048_576 - 103, [false, false, false]),
     ];
-    for (len, [body, signed, whole]) in rows {
+    for (len, good) in rows {
         let value = vec![in alloc; 3; len]?;
         let tx = with_value(&rt, alloc, &value)?;
-        assert_eq!(rt; encode_body(alloc, &tx).is_ok(), body, "{len}");
-        assert_eq!(rt; encode_signed(alloc, &tx).is_ok(), signed, "{len}");
-        assert_eq!(rt; encode_tx(alloc, &tx).is_ok(), whole, "{len}");
+        assert!(rt; can_be_written(&tx, alloc) == good, "{len}");
     }
     Ok(())
+}
+
+// A transaction of 1,048,576 bytes, the length of whose value stands at 98.
+fn longest(rt: &impl Abort, alloc: Global) -> Result<Vec<u8>, AllocError> {
+    let value = vec![in alloc; 3; 1_048_576 - 107]?;
+    let tx = with_value(rt, alloc, &value)?;
+    match encode_tx(alloc, &tx) {
+        Ok(bytes) => Ok(bytes.into_vec()),
+        Err(_) => Err(AllocError),
+    }
 }
 
 #[test]
 fn a_byte_over_the_limit_is_not_read(rt: HostRuntime) -> Result<(), Fail> {
     let alloc = rt.alloc();
-    let value = vec![in alloc; 3; 1_048_576 - 107]?;
-    let longest = encode_tx(alloc, &with_value(&rt, alloc, &value)?)?;
-    assert_eq!(rt; longest.len(), 1_048_576);
-    let read = decode_tx(alloc, longest.as_slice())?;
-    assert_eq!(rt; encode_tx(alloc, read.tx())?.as_slice(), longest.as_slice());
-    // The same with one byte more of the value, whose length stands at 98.
-    let mut over = Vec::from_slice(alloc, longest.as_slice())?;
-    assert!(rt; over.len() > 102);
-    over.insert(102, 3)?;
-    assert_eq!(rt; over[101], 0x95);
-    over[101] = 0x96;
-    assert_eq!(rt; fault_of(alloc, &over), Some(TxFault::Form));
-    over.remove(103);
-    over[101] = 0x95;
-    assert_eq!(rt; fault_of(alloc, &over), None);
+    let mut bytes = longest(&rt, alloc)?;
+    assert!(rt; bytes.len() == 1_048_576);
+    assert!(rt; fault_of(alloc, &bytes).is_none());
+    // One byte more of the value.
+    bytes.insert(102, 3)?;
+    assert!(rt; bytes[101] == 0x95);
+    bytes[101] = 0x96;
+    assert!(rt; fault_of(alloc, &bytes) == Some(TxFault::Form));
     Ok(())
 }
