@@ -2,8 +2,7 @@
 
 use policy_eval::{Signers, Verify, signers};
 use std::alloc::{AllocError, Global};
-use std::test::Fail;
-use transaction::{Identity, append_identity, decode_tx};
+use transaction::{EncodeFault, Identity, TxFault, append_identity, decode_tx};
 
 mod calls;
 mod limits;
@@ -66,13 +65,16 @@ fn endorsed(alloc: Global, endorsements: &[(&[u8], bool)]) -> Result<Vec<u8>, Al
 }
 
 // The signers of the transaction of these bytes.
-fn signers_of(alloc: Global, bytes: &[u8]) -> Result<Signers<'_>, Fail> {
+fn signers_of(alloc: Global, bytes: &[u8]) -> Result<Signers<'_>, TxFault> {
     let tx = decode_tx(alloc, bytes)?;
-    Ok(signers(alloc, tx.tx(), &Echo)?)
+    match signers(alloc, tx.tx(), &Echo) {
+        Ok(signers) => Ok(signers),
+        Err(AllocError) => Err(TxFault::Memory),
+    }
 }
 
 // The identities' bytes, one after another.
-fn spellings(alloc: Global, signers: &Signers<'_>) -> Result<Vec<u8>, Fail> {
+fn spellings(alloc: Global, signers: &Signers<'_>) -> Result<Vec<u8>, EncodeFault> {
     let mut bytes = Vec::new(alloc);
     for signer in signers.as_slice() {
         append_identity(&mut bytes, signer)?;

@@ -1,6 +1,6 @@
 use super::{endorsed, signers_of};
-use policy::Policy;
-use policy_eval::{assignment, satisfied};
+use policy::{Policy, PolicyFault};
+use policy_eval::{Signers, assignment, satisfied};
 use std::alloc::{AllocError, Global};
 use std::test::Fail;
 
@@ -27,7 +27,7 @@ fn put(text: &mut String, part: &str, count: u32) -> Result<(), AllocError> {
 const SEVEN: &str = "'A.peer','A.peer','A.peer','A.peer','A.peer','A.peer','A.peer',";
 
 // 32 gates, each in the one before it behind 8 principals, which are 256.
-fn nested(alloc: Global, gate: &str) -> Result<Policy, Fail> {
+fn nested(alloc: Global, gate: &str) -> Result<String, AllocError> {
     let mut text = String::new(alloc);
     for _ in 0..31 {
         text.push_str(gate)?;
@@ -38,11 +38,11 @@ fn nested(alloc: Global, gate: &str) -> Result<Policy, Fail> {
     text.push_str(SEVEN)?;
     text.push_str("'A.peer'")?;
     put(&mut text, ")", 32)?;
-    Ok(Policy::parse(alloc, text.as_str())?)
+    Ok(text)
 }
 
 // 31 gates of 8 principals, the last one in each as given, and 8 principals beside them.
-fn beside(alloc: Global, outer: &str, gate: &str, last: &str) -> Result<Policy, Fail> {
+fn beside(alloc: Global, outer: &str, gate: &str, last: &str) -> Result<String, AllocError> {
     let mut text = String::from_str(alloc, outer)?;
     for _ in 0..31 {
         text.push_str(gate)?;
@@ -52,33 +52,79 @@ fn beside(alloc: Global, outer: &str, gate: &str, last: &str) -> Result<Policy, 
     }
     text.push_str(SEVEN)?;
     text.push_str("'A.peer')")?;
-    Ok(Policy::parse(alloc, text.as_str())?)
+    Ok(text)
 }
 
+// Whether the pairs are so many principals in order, from this one on, with the signers in order.
+fn are_in_order(pairs: &[(u32, u32)], first: u32, count: usize) -> bool {
+    let mut expected = (first, 0u32);
+    for pair in pairs {
+        if *pair != expected {
+            return false;
+        }
+        expected = (expected.0.wrapping_add(1), expected.1.wrapping_add(1));
+    }
+    pairs.len() == count
+}
+
+// Whether the signers satisfy the policy, and are assigned in order from this principal on.
+fn is_assigned(
+    alloc: Global,
+    text: &str,
+    signers: &Signers<'_>,
+    first: u32,
+    count: usize,
+) -> Result<bool, PolicyFault> {
+    let policy = Policy::parse(alloc, text)?;
+    match assignment(alloc, &policy, signers)? {
+        None => Ok(false),
+        Some(pairs) => Ok(satisfied(&policy, signers) && are_in_order(&pairs, first, count)),
+    }
+}
+
+#[test]
+fn sixty_four_signers(rt: HostRuntime) -> Result<(), Fail> {
+    let bytes = endorsed_by_many(rt.alloc())?;
+    let signers = signers_of(rt.alloc(), &bytes)?;
+    assert!(rt; signers.len() == 64);
+    Ok(())
+}
+
+#[test]
+fn many_nested_principals_that_hold(rt: HostRuntime) -> Result<(), Fail> {
+    let alloc = rt.alloc();
+    let bytes = endorsed_by_many(alloc)?;
+    let signers = signers_of(alloc, &bytes)?;
+    for gate in ["OR(", "OutOf(8,"] {
+        let text = nested(alloc, gate)?;
+        assert!(rt;
+            is_assigned(alloc, text.as_str(), &signers, 0, 64)?,
+            "{gate}"
+        );
+    }
+    Ok(())
+}
+
+// Eight gates take all signers; but of those that fail each gives its seven back, and the last eight principals take
+// theirs.
 #[test]
 fn many_principals_that_hold(rt: HostRuntime) -> Result<(), Fail> {
     let alloc = rt.alloc();
     let bytes = endorsed_by_many(alloc)?;
     let signers = signers_of(alloc, &bytes)?;
-    assert_eq!(rt; signers.len(), 64);
-    // The first principal with a signer, and how many have one. Eight gates take all signers; but of
-    // those that fail each gives its seven back, and the last eight principals take theirs.
-    let cases = [
-        (nested(alloc, "OR(")?, 0, 64),
-        (nested(alloc, "OutOf(8,")?, 0, 64),
-        (beside(alloc, "OutOf(8,", "AND(", "'A.peer'")?, 0, 64),
-        (beside(alloc, "OutOf(8,", "AND(", "'B.peer'")?, 248, 8),
-    ];
-    for (policy, first, count) in &cases {
-        assert!(rt; satisfied(policy, &signers));
-        let assigned = assignment(alloc, policy, &signers)?.ok_or("an assignment")?;
-        let mut expected: Vec<(u32, u32)> = Vec::new(alloc);
-        for k in 0..*count {
-            expected.push((first + k, k))?;
-        }
-        assert_eq!(rt; assigned.as_slice(), expected.as_slice());
+    for (last, first, count) in [("'A.peer'", 0, 64), ("'B.peer'", 248, 8)] {
+        let text = beside(alloc, "OutOf(8,", "AND(", last)?;
+        assert!(rt;
+            is_assigned(alloc, text.as_str(), &signers, first, count)?,
+            "{last}"
+        );
     }
     Ok(())
+}
+
+fn is_refused(alloc: Global, text: &str, signers: &Signers<'_>) -> Result<bool, PolicyFault> {
+    let policy = Policy::parse(alloc, text)?;
+    Ok(!satisfied(&policy, signers) && assignment(alloc, &policy, signers)?.is_none())
 }
 
 #[test]
@@ -86,14 +132,11 @@ fn many_principals_that_fail(rt: HostRuntime) -> Result<(), Fail> {
     let alloc = rt.alloc();
     let bytes = endorsed_by_many(alloc)?;
     let signers = signers_of(alloc, &bytes)?;
-    let cases = [
-        nested(alloc, "AND(")?,
-        beside(alloc, "OutOf(9,", "AND(", "'A.peer'")?,
-        beside(alloc, "OutOf(9,", "AND(", "'B.peer'")?,
-    ];
-    for policy in &cases {
-        assert!(rt; !satisfied(policy, &signers));
-        assert!(rt; assignment(alloc, policy, &signers)?.is_none());
+    let text = nested(alloc, "AND(")?;
+    assert!(rt; is_refused(alloc, text.as_str(), &signers)?);
+    for last in ["'A.peer'", "'B.peer'"] {
+        let text = beside(alloc, "OutOf(9,", "AND(", last)?;
+        assert!(rt; is_refused(alloc, text.as_str(), &signers)?, "{last}");
     }
     Ok(())
 }

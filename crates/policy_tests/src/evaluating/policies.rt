@@ -1,7 +1,7 @@
 use super::{ADMIN, P0, P1, endorsed, signers_of};
 use policy::Policy;
-use policy_eval::{assignment, satisfied};
-use std::alloc::Global;
+use policy_eval::{Signers, assignment, satisfied};
+use std::alloc::{AllocError, Global};
 use std::test::Fail;
 
 const A: &[u8] = b"\x01A\x02\x01p";
@@ -14,21 +14,25 @@ const CLIENT: &[u8] = b"\x04Org1\x01\x01c";
 
 const ORDERER: &[u8] = b"\x04Org1\x03\x01o";
 
-// The answers of both calls.
-fn answers(
-    alloc: Global,
-    text: &str,
-    identities: &[&[u8]],
-) -> Result<(bool, Option<Vec<(u32, u32)>>), Fail> {
-    let policy = Policy::parse(alloc, text)?;
+// The bytes of a transaction that these identities endorsed.
+fn endorsed_by(alloc: Global, identities: &[&[u8]]) -> Result<Vec<u8>, AllocError> {
     let mut endorsements = Vec::new(alloc);
     for identity in identities {
         endorsements.push((*identity, true))?;
     }
-    let bytes = endorsed(alloc, &endorsements)?;
-    let signers = signers_of(alloc, &bytes)?;
-    let holds = satisfied(&policy, &signers);
-    Ok((holds, assignment(alloc, &policy, &signers)?))
+    endorsed(alloc, &endorsements)
+}
+
+// Whether both calls answer so: with this assignment, or that there is none.
+fn is_answered(
+    alloc: Global,
+    policy: &Policy,
+    signers: &Signers<'_>,
+    expected: Option<&[(u32, u32)]>,
+) -> Result<bool, AllocError> {
+    let assigned = assignment(alloc, policy, signers)?;
+    let assigned = assigned.as_ref().map(|pairs| pairs.as_slice());
+    Ok(satisfied(policy, signers) == expected.is_some() && assigned == expected)
 }
 
 fn holding() -> &'static [(
@@ -87,10 +91,13 @@ static HOLDING: [(&str, &[&[u8]], &[(u32, u32)]); 11] = [
 fn policies_that_hold(rt: HostRuntime) -> Result<(), Fail> {
     let alloc = rt.alloc();
     for (text, identities, expected) in holding() {
-        let (holds, assigned) = answers(alloc, text, identities)?;
-        assert!(rt; holds, "{text}");
-        let assigned = assigned.ok_or("an assignment")?;
-        assert_eq!(rt; assigned.as_slice(), *expected);
+        let policy = Policy::parse(alloc, text)?;
+        let bytes = endorsed_by(alloc, identities)?;
+        let signers = signers_of(alloc, &bytes)?;
+        assert!(rt;
+            is_answered(alloc, &policy, &signers, Some(*expected))?,
+            "{text}"
+        );
     }
     Ok(())
 }
@@ -118,9 +125,10 @@ static FAILING: [(&str, &[&[u8]]); 9] = [
 fn policies_that_fail(rt: HostRuntime) -> Result<(), Fail> {
     let alloc = rt.alloc();
     for (text, identities) in failing() {
-        let (holds, assigned) = answers(alloc, text, identities)?;
-        assert!(rt; !holds, "{text}");
-        assert!(rt; assigned.is_none());
+        let policy = Policy::parse(alloc, text)?;
+        let bytes = endorsed_by(alloc, identities)?;
+        let signers = signers_of(alloc, &bytes)?;
+        assert!(rt; is_answered(alloc, &policy, &signers, None)?, "{text}");
     }
     Ok(())
 }

@@ -1,4 +1,4 @@
-use policy::{Definitions, Policy};
+use policy::{Definitions, Policy, PolicyFault};
 use std::alloc::{AllocError, Global};
 use std::process::Abort;
 use std::test::Fail;
@@ -21,24 +21,58 @@ fn is_of(
     }
 }
 
+fn define(
+    alloc: Global,
+    definitions: &mut Definitions,
+    name: &Name,
+    text: &str,
+) -> Result<(), PolicyFault> {
+    let policy = Policy::parse(alloc, text)?;
+    Ok(definitions.set(name, policy)?)
+}
+
+fn two(alloc: Global, cc: &Name, other: &Name) -> Result<Definitions, PolicyFault> {
+    let mut definitions = Definitions::new(alloc);
+    define(alloc, &mut definitions, cc, "'A.peer'")?;
+    define(alloc, &mut definitions, other, "'B.peer'")?;
+    Ok(definitions)
+}
+
+#[test]
+fn no_policies(rt: HostRuntime) -> Result<(), Fail> {
+    let name = name_of(&rt, rt.alloc(), "cc")?;
+    let definitions = Definitions::new(rt.alloc());
+    assert!(rt; definitions.of(&name.lend()).is_none());
+    assert!(rt; definitions.len() == 0);
+    Ok(())
+}
+
 #[test]
 fn policies_by_name(rt: HostRuntime) -> Result<(), Fail> {
     let alloc = rt.alloc();
     let cc = name_of(&rt, alloc, "cc")?;
     let other = name_of(&rt, alloc, "CC")?;
-    let mut definitions = Definitions::new(alloc);
-    assert!(rt; definitions.of(&cc.lend()).is_none());
-    assert_eq!(rt; definitions.len(), 0);
-    definitions.set(&cc, Policy::parse(alloc, "'A.peer'")?)?;
-    definitions.set(&other, Policy::parse(alloc, "'B.peer'")?)?;
-    assert_eq!(rt; definitions.len(), 2);
-    let kept = definitions.copy(alloc)?;
-    definitions.set(&cc, Policy::parse(alloc, "'C.peer'")?)?;
-    assert_eq!(rt; definitions.len(), 2);
-    assert!(rt; is_of(alloc, &definitions, &cc, "'C.peer'")?);
+    let definitions = two(alloc, &cc, &other)?;
+    assert!(rt; definitions.len() == 2);
+    assert!(rt; is_of(alloc, &definitions, &cc, "'A.peer'")?);
     assert!(rt; is_of(alloc, &definitions, &other, "'B.peer'")?);
-    assert!(rt; is_of(alloc, &kept, &cc, "'A.peer'")?);
-    assert!(rt; is_of(alloc, &kept, &other, "'B.peer'")?);
+    Ok(())
+}
+
+// The copy keeps the policies that it was made of.
+#[test]
+fn policies_that_are_replaced(rt: HostRuntime) -> Result<(), Fail> {
+    let alloc = rt.alloc();
+    let cc = name_of(&rt, alloc, "cc")?;
+    let other = name_of(&rt, alloc, "CC")?;
+    let mut definitions = two(alloc, &cc, &other)?;
+    let kept = definitions.copy(alloc)?;
+    define(alloc, &mut definitions, &cc, "'C.peer'")?;
+    assert!(rt; definitions.len() == 2);
+    for (of, text) in [(&definitions, "'C.peer'"), (&kept, "'A.peer'")] {
+        assert!(rt; is_of(alloc, of, &cc, text)?);
+        assert!(rt; is_of(alloc, of, &other, "'B.peer'")?);
+    }
     Ok(())
 }
 
@@ -48,15 +82,23 @@ fn refused_memory_changes_nothing(rt: HostRuntime) -> Result<(), Fail> {
     let alloc = rt.alloc();
     let cc = name_of(&rt, alloc, "cc")?;
     let other = name_of(&rt, alloc, "other")?;
-    let first = Policy::parse(alloc, "'A.peer'")?;
-    let second = Policy::parse(alloc, "'B.peer'")?;
-    let third = Policy::parse(alloc, "'C.peer'")?;
     let mut definitions = Definitions::new(alloc);
-    definitions.set(&cc, first)?;
-    let answer = definitions.set(&other, second);
-    assert_eq!(rt; definitions.of(&other.lend()).is_some(), answer.is_ok());
+    define(alloc, &mut definitions, &cc, "'A.peer'")?;
+    let is_set = define(alloc, &mut definitions, &other, "'B.peer'").is_ok();
+    assert!(rt; definitions.of(&other.lend()).is_some() == is_set);
     assert!(rt; is_of(alloc, &definitions, &cc, "'A.peer'")?);
-    assert!(rt; definitions.set(&cc, third).is_ok());
+    Ok(())
+}
+
+// Nor is memory wanted to replace a policy that is there.
+#[test]
+fn replacing_takes_no_memory(rt: HostRuntime) -> Result<(), Fail> {
+    let alloc = rt.alloc();
+    let cc = name_of(&rt, alloc, "cc")?;
+    let mut definitions = Definitions::new(alloc);
+    define(alloc, &mut definitions, &cc, "'A.peer'")?;
+    let policy = Policy::parse(alloc, "'C.peer'")?;
+    assert!(rt; definitions.set(&cc, policy).is_ok());
     assert!(rt; is_of(alloc, &definitions, &cc, "'C.peer'")?);
     Ok(())
 }
