@@ -96,17 +96,17 @@ fn a_block_with_transactions_both_ways(rt: HostRuntime) -> Result<(), Fail> {
 fn cut_and_lengthened(rt: HostRuntime) -> Result<(), Fail> {
     let alloc = rt.alloc();
     let mut bytes = empty_block(alloc)?;
-    assert_eq!(rt; bytes.len(), 49);
+    assert!(rt; bytes.len() == 49);
     for len in 0..49usize {
         let want = if len < 4 {
             BlockFault::BadMagic
         } else {
             BlockFault::Truncated
         };
-        assert_eq!(rt; fault_of(alloc, &bytes[..len]), Some(want), "{len}");
+        assert!(rt; fault_of(alloc, &bytes[..len]) == Some(want), "{len}");
     }
     bytes.push(0)?;
-    assert_eq!(rt; fault_of(alloc, &bytes), Some(BlockFault::TrailingBytes));
+    assert!(rt; fault_of(alloc, &bytes) == Some(BlockFault::TrailingBytes));
     Ok(())
 }
 

@@ -32,7 +32,7 @@ static OF_BLOCKS: [(BlockFault, &str); 7] = [
 fn each_fault_of_a_block_is_told(rt: HostRuntime) -> Result<(), Fail> {
     for &(fault, text) in of_blocks() {
         let told = format!(in rt.alloc(); "{fault}")?;
-        assert_eq!(rt; told.as_str(), text);
+        assert!(rt; told.as_str() == text);
     }
     Ok(())
 }
@@ -44,7 +44,7 @@ fn each_fault_of_a_transaction_is_told(rt: HostRuntime) -> Result<(), Fail> {
         (TxFault::Memory, "out of memory"),
     ] {
         let told = format!(in rt.alloc(); "{fault}")?;
-        assert_eq!(rt; told.as_str(), text);
+        assert!(rt; told.as_str() == text);
     }
     Ok(())
 }
@@ -56,7 +56,7 @@ fn each_fault_of_a_value_is_told(rt: HostRuntime) -> Result<(), Fail> {
         (EncodeFault::Memory, "out of memory"),
     ] {
         let told = format!(in rt.alloc(); "{fault}")?;
-        assert_eq!(rt; told.as_str(), text);
+        assert!(rt; told.as_str() == text);
     }
     Ok(())
 }

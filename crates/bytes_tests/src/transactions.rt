@@ -44,20 +44,20 @@ fn beginning(written: Result<Bytes, EncodeFault>, bytes: &[u8]) -> Option<usize>
 
 fn expect_parts(rt: &impl Abort, alloc: Global, spelled: &SpelledTx<'_>, bytes: &[u8]) {
     let tx = spelled.tx();
-    assert_eq!(rt; beginning(encode_body(alloc, tx), bytes), Some(122));
+    assert!(rt; beginning(encode_body(alloc, tx), bytes) == Some(122));
     let message = spelled.creator_message();
-    assert_eq!(rt; beginning(encode_signed(alloc, tx), message), Some(166));
-    assert_eq!(rt; message.len(), 166);
+    assert!(rt; beginning(encode_signed(alloc, tx), message) == Some(166));
+    assert!(rt; message.len() == 166);
     assert!(rt; bytes.starts_with(message));
     let creator = b"\x04Org1\x01\x02c0";
-    assert_eq!(rt; spelled.creator_bytes(), creator.as_slice());
-    assert_eq!(rt; beginning(encode_tx(alloc, tx), bytes), Some(bytes.len()));
+    assert!(rt; spelled.creator_bytes() == creator.as_slice());
+    assert!(rt; beginning(encode_tx(alloc, tx), bytes) == Some(bytes.len()));
 }
 
 #[test]
 fn the_example_both_ways(rt: HostRuntime) -> Result<(), Fail> {
     let bytes = example(rt.alloc())?;
-    assert_eq!(rt; bytes.len(), 200);
+    assert!(rt; bytes.len() == 200);
     let spelled = decode_tx(rt.alloc(), &bytes)?;
     expect_parts(&rt, rt.alloc(), &spelled, &bytes);
     Ok(())
@@ -86,8 +86,8 @@ fn expect_sets(rt: &impl Abort, tx: &Tx<'_>) {
 
 fn expect_reads(rt: &impl Abort, set: &NsSet<'_>) {
     for read in set.reads.as_slice() {
-        assert_eq!(rt; read.key.as_slice(), b"k1".as_slice());
-        assert_eq!(rt; read.version, Some(Version { block: 0, tx: 0 }));
+        assert!(rt; read.key.as_slice() == b"k1".as_slice());
+        assert!(rt; read.version == Some(Version { block: 0, tx: 0 }));
     }
 }
 
@@ -100,7 +100,7 @@ fn is_v(value: &Option<Slice<'_>>) -> bool {
 
 fn expect_writes(rt: &impl Abort, set: &NsSet<'_>) {
     for write in set.writes.as_slice() {
-        assert_eq!(rt; write.key.as_slice(), b"k3".as_slice());
+        assert!(rt; write.key.as_slice() == b"k3".as_slice());
         assert!(rt; is_v(&write.value));
     }
 }
@@ -132,9 +132,9 @@ fn everything(alloc: Global) -> Result<Vec<u8>, AllocError> {
 
 fn expect_ranges(rt: &impl Abort, set: &NsSet<'_>) {
     for range in set.ranges.as_slice() {
-        assert_eq!(rt; range.exhausted, range.results.is_empty());
+        assert!(rt; range.exhausted == range.results.is_empty());
         for result in range.results.as_slice() {
-            assert_eq!(rt; result.version, Version { block: 7, tx: 3 });
+            assert!(rt; result.version == Version { block: 7, tx: 3 });
         }
     }
     for write in set.writes.as_slice() {
@@ -146,13 +146,10 @@ fn expect_ranges(rt: &impl Abort, set: &NsSet<'_>) {
 fn all_that_a_namespace_has(rt: HostRuntime) -> Result<(), Fail> {
     let bytes = everything(rt.alloc())?;
     let tx = decode_tx(rt.alloc(), &bytes)?.into_tx();
-    assert_eq!(rt; tx.namespaces.len(), 2);
+    assert!(rt; tx.namespaces.len() == 2);
     for set in tx.namespaces.as_slice() {
         expect_ranges(&rt, set);
     }
-    assert_eq!(rt;
-        beginning(encode_tx(rt.alloc(), &tx), &bytes),
-        Some(bytes.len())
-    );
+    assert!(rt; beginning(encode_tx(rt.alloc(), &tx), &bytes) == Some(bytes.len()));
     Ok(())
 }

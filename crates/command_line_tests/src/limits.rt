@@ -69,17 +69,11 @@ fn the_longest_transaction(rt: HostRuntime) -> Result<(), Fail> {
     let bytes = block(alloc, 0, b"", &data, &one_of(alloc, 1 << 20)?)?;
     let line = format!(in alloc; "accepted 0 {LONGEST_HASH} 2\n")?;
     let (status, out, err) = ended_on_disk(&rt, &bytes)?;
-    assert_eq!(rt;
-        (status, out.as_str(), err.as_str()),
-        (0, line.as_str(), "")
-    );
+    assert!(rt; (status, out.as_str(), err.as_str()) == (0, line.as_str(), ""));
 
     let bytes = block(alloc, 0, b"", &data, &one_of(alloc, (1 << 20) + 1)?)?;
     let (status, out, err) = ended_on_disk(&rt, &bytes)?;
-    assert_eq!(rt;
-        (status, out.as_str(), err.as_str()),
-        (1, "refused 1 C1 B5\n", "")
-    );
+    assert!(rt; (status, out.as_str(), err.as_str()) == (1, "refused 1 C1 B5\n", ""));
     Ok(())
 }
 
@@ -94,16 +88,10 @@ fn the_most_transactions(rt: HostRuntime) -> Result<(), Fail> {
     line.push('\n')?;
     let bytes = block(alloc, 0, b"", &NO_DATA, &empty_ones(alloc, 4096)?)?;
     let (status, out, err) = ended_on_disk(&rt, &bytes)?;
-    assert_eq!(rt;
-        (status, out.as_str(), err.as_str()),
-        (0, line.as_str(), "")
-    );
+    assert!(rt; (status, out.as_str(), err.as_str()) == (0, line.as_str(), ""));
 
     let bytes = block(alloc, 0, b"", &NO_DATA, &empty_ones(alloc, 4097)?)?;
     let (status, out, err) = ended_on_disk(&rt, &bytes)?;
-    assert_eq!(rt;
-        (status, out.as_str(), err.as_str()),
-        (1, "refused 1 C1 B4\n", "")
-    );
+    assert!(rt; (status, out.as_str(), err.as_str()) == (1, "refused 1 C1 B4\n", ""));
     Ok(())
 }

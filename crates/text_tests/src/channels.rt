@@ -8,9 +8,8 @@ use std::test::Fail;
 use values::{Name, is_name};
 
 fn expect_fault(rt: &(impl Abort + AllocGlobal), text: &str, fault: ChannelFault) {
-    assert_eq!(rt;
-        Channel::read(rt.alloc(), text).err(),
-        Some(fault),
+    assert!(rt;
+        Channel::read(rt.alloc(), text).err() == Some(fault),
         "{text:?}"
     );
 }
@@ -37,8 +36,8 @@ fn expect_channel(
     definitions: &[(&str, &str)],
 ) -> Result<(), Fail> {
     let channel = Channel::read(rt.alloc(), text)?;
-    assert_eq!(rt; channel.name().as_slice(), name.as_bytes());
-    assert_eq!(rt; channel.definitions().len(), definitions.len());
+    assert!(rt; channel.name().as_slice() == name.as_bytes());
+    assert!(rt; channel.definitions().len() == definitions.len());
     for (chaincode, canonical) in definitions {
         assert!(rt;
             is_defined(rt, &channel, chaincode, canonical)?,
@@ -234,7 +233,7 @@ fn limits_of_policies(rt: HostRuntime) -> Result<(), Fail> {
 fn names(rt: HostRuntime) -> Result<(), Fail> {
     // 64 letters
     let longest = "abcdefghijklmnopqrstuvwxyzabcdefghijklmnopqrstuvwxyzabcdefghijkl";
-    assert_eq!(rt; longest.len(), 64);
+    assert!(rt; longest.len() == 64);
     let good = format!(in rt.alloc(); "channel {longest}\nchaincode {longest} 'A.peer'")?;
     expect_channel(&rt, good.as_str(), longest, &[(longest, "'A.peer'")])?;
     let channel = format!(in rt.alloc(); "channel {longest}m\n")?;
@@ -278,7 +277,7 @@ fn many_chaincodes(rt: HostRuntime) -> Result<(), Fail> {
         full.push_str(line.as_str())?;
     }
     let channel = Channel::read(rt.alloc(), full.as_str())?;
-    assert_eq!(rt; channel.definitions().len(), 256);
+    assert!(rt; channel.definitions().len() == 256);
     assert!(rt; is_defined(&rt, &channel, "c255", "'O255.peer'")?);
     for &(last, fault) in behind_256() {
         let text = format!(in rt.alloc(); "{full}{last}")?;

@@ -8,8 +8,8 @@ fn expect_statements(rt: &impl Abort, text: &str, want: &[(u64, &[u8])]) {
     let mut found = Statements::new(text);
     for (line, bytes) in want {
         if let Some(statement) = found.next() {
-            assert_eq!(rt; statement.line, *line, "{text:?}");
-            assert_eq!(rt; statement.bytes, *bytes);
+            assert!(rt; statement.line == *line, "{text:?}");
+            assert!(rt; statement.bytes == *bytes);
         } else {
             assert!(rt; false, "{text:?} has no line {line}");
         }
@@ -58,11 +58,11 @@ static PARTS: [(&[u8], &[u8], &[u8]); 6] = [
 fn parts(rt: HostRuntime) {
     for &(line, first, after) in in_parts() {
         let found = first_part(line);
-        assert_eq!(rt; found.0, first, "{line:?}");
-        assert_eq!(rt; found.1, after, "{line:?}");
+        assert!(rt; found.0 == first, "{line:?}");
+        assert!(rt; found.1 == after, "{line:?}");
     }
-    assert_eq!(rt; trimmed(b"  a b\t "), b"a b\t".as_slice());
-    assert_eq!(rt; trimmed(b"   "), b"".as_slice());
+    assert!(rt; trimmed(b"  a b\t ") == b"a b\t".as_slice());
+    assert!(rt; trimmed(b"   ") == b"".as_slice());
 }
 
 fn spelled() -> &'static [(&'static [u8], &'static [u8])] {
@@ -98,7 +98,7 @@ static NO_WORDS: [&[u8]; 9] = [
 fn words(rt: HostRuntime) -> Result<(), Fail> {
     for &(text, bytes) in spelled() {
         let word = read_word(rt.alloc(), text)?.ok_or("a word")?;
-        assert_eq!(rt; word.as_slice(), bytes);
+        assert!(rt; word.as_slice() == bytes);
     }
     for &text in no_words() {
         assert!(rt; read_word(rt.alloc(), text)?.is_none(), "{text:?}");
@@ -123,9 +123,9 @@ static NO_TEXTS: [(&[u8], u64); 6] = [
 
 #[test]
 fn texts(rt: HostRuntime) {
-    assert_eq!(rt; text_of(b"").ok(), Some(""));
-    assert_eq!(rt; text_of(b"a\n\xc3\xa4").ok(), Some("a\n\u{e4}"));
+    assert!(rt; text_of(b"").ok() == Some(""));
+    assert!(rt; text_of(b"a\n\xc3\xa4").ok() == Some("a\n\u{e4}"));
     for &(bytes, line) in no_texts() {
-        assert_eq!(rt; text_of(bytes).err(), Some(line), "{bytes:?}");
+        assert!(rt; text_of(bytes).err() == Some(line), "{bytes:?}");
     }
 }

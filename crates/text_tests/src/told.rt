@@ -33,14 +33,14 @@ fn each_fault_is_told(rt: HostRuntime) -> Result<(), Fail> {
     let alloc = rt.alloc();
     for &(fault, text) in of_channels() {
         let told = format!(in alloc; "{fault}")?;
-        assert_eq!(rt; told.as_str(), text);
+        assert!(rt; told.as_str() == text);
     }
     for (fault, text) in [
         (KeyBookFault::Line(7), "line 7"),
         (KeyBookFault::Memory, "out of memory"),
     ] {
         let told = format!(in alloc; "{fault}")?;
-        assert_eq!(rt; told.as_str(), text);
+        assert!(rt; told.as_str() == text);
     }
     Ok(())
 }

@@ -39,11 +39,8 @@ fn calls_of_the_verifier(rt: HostRuntime) -> Result<(), Fail> {
             answer,
             calls: Cell::new(0),
         };
-        assert_eq!(rt;
-            signers(alloc, tx, &counter)?.len(),
-            if answer { 3 } else { 0 }
-        );
-        assert_eq!(rt; counter.calls.get(), calls);
+        assert!(rt; signers(alloc, tx, &counter)?.len() == if answer { 3 } else { 0 });
+        assert!(rt; counter.calls.get() == calls);
     }
     Ok(())
 }

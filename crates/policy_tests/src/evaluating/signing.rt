@@ -39,7 +39,7 @@ fn who_signed(rt: HostRuntime) -> Result<(), Fail> {
     for (endorsements, expected) in signed() {
         let bytes = endorsed(alloc, endorsements)?;
         let signers = signers_of(alloc, &bytes)?;
-        assert_eq!(rt; spellings(alloc, &signers)?.as_slice(), *expected);
+        assert!(rt; spellings(alloc, &signers)?.as_slice() == *expected);
     }
     Ok(())
 }
@@ -53,6 +53,6 @@ fn refused_63_times(rt: HostRuntime) -> Result<(), Fail> {
     endorsements[63] = (P0, true);
     let bytes = endorsed(alloc, &endorsements)?;
     let signers = signers_of(alloc, &bytes)?;
-    assert_eq!(rt; spellings(alloc, &signers)?.as_slice(), P0);
+    assert!(rt; spellings(alloc, &signers)?.as_slice() == P0);
     Ok(())
 }
