@@ -1,13 +1,13 @@
 //! Transactions and blocks, put together part by part.
 
-use crate::fixture::numbers;
+use crate::failed::Failed;
+use crate::fixture::Peer;
 use block::{Block, Header, Previous, encode_block};
-use channel::Channel;
 use header_hash::{DataHasher, tx_id};
-use plain::{World, submit};
+use plain::World;
 use policy_eval::Verify;
-use std::alloc::Global;
-use std::test::Fail;
+use std::alloc::{AllocError, Global};
+use transaction::EncodeFault;
 use values::{Bytes, Hash, Items};
 
 // Spelled identities: organization, role, label.
@@ -26,7 +26,7 @@ pub fn body(
     nonce: u16,
     chaincode: &[u8],
     namespaces: &[u8],
-) -> Result<Vec<u8>, Fail> {
+) -> Result<Vec<u8>, AllocError> {
     let nonce = nonce.to_be_bytes();
     let mut bytes = Vec::from_slice(alloc, b"\x02ch")?;
     bytes.extend_from_slice(&tx_id(&nonce, CREATOR))?;
@@ -41,7 +41,7 @@ pub fn body(
 }
 
 // The transaction of this body that these have endorsed, with signatures that `SaysOk` accepts.
-pub fn endorsed(body: Vec<u8>, endorsers: &[&[u8]]) -> Result<Bytes, Fail> {
+pub fn endorsed(body: Vec<u8>, endorsers: &[&[u8]]) -> Result<Bytes, AllocError> {
     let mut bytes = body;
     let [.., count] = endorsers.len().to_be_bytes();
     bytes.push(count)?;
@@ -73,20 +73,34 @@ fn header_of(world: &World, txs: &[Bytes]) -> Header {
     }
 }
 
-// The numbers of the flags of the next block, of these transactions.
-pub fn flags_of<V: Verify>(
-    alloc: Global,
-    channel: &Channel,
-    world: &mut World,
-    txs: Vec<Bytes>,
-    verifier: &V,
-) -> Result<Vec<u8>, Fail> {
-    let header = header_of(world, txs.as_slice());
+// The bytes of the next block, of these transactions.
+fn next_block(alloc: Global, world: &World, txs: &[Bytes]) -> Result<Bytes, EncodeFault> {
+    let header = header_of(world, txs);
     let mut lent = Items::new(alloc);
-    for tx in &txs {
+    for tx in txs {
         lent.push(tx.lend())?;
     }
-    let bytes = encode_block(alloc, &Block { header, txs: lent })?;
-    let accepted = submit(alloc, channel, world, bytes.as_slice(), verifier)?;
-    numbers(alloc, accepted.flags.as_slice())
+    encode_block(alloc, &Block { header, txs: lent })
+}
+
+// The numbers of the flags of the next block, of these transactions, which the peer takes.
+pub fn flags_of<V: Verify>(
+    alloc: Global,
+    peer: &mut Peer,
+    txs: &[Bytes],
+    verifier: &V,
+) -> Result<Vec<u8>, Failed> {
+    let bytes = next_block(alloc, peer.world(), txs)?;
+    Ok(peer.take(alloc, bytes.as_slice(), verifier)?)
+}
+
+// Whether the next block, of these transactions, is taken with flags of these numbers.
+pub fn are_flags_of<V: Verify>(
+    alloc: Global,
+    peer: &mut Peer,
+    txs: &[Bytes],
+    verifier: &V,
+    flags: &[u8],
+) -> Result<bool, Failed> {
+    Ok(flags_of(alloc, peer, txs, verifier)?.as_slice() == flags)
 }

@@ -1,12 +1,12 @@
-//! A channel, a verifier, and what stands in a world.
+//! A channel, a verifier, and a peer that takes blocks.
 
-use channel::Channel;
+use crate::failed::Failed;
+use channel::{Channel, ChannelFault};
 use plain::{World, submit};
 use policy_eval::Verify;
-use rules::{Flag, Row};
-use std::alloc::Global;
-use std::test::Fail;
-use transaction::Identity;
+use rules::{Flag, Refused, Row};
+use std::alloc::{AllocError, Global};
+use transaction::{Identity, Version};
 use values::{Key, Name, is_key, is_name};
 
 pub const CHANNEL: &str = "channel ch
@@ -34,16 +34,16 @@ impl Verify for SaysOk {
     }
 }
 
-pub fn name(alloc: Global, bytes: &[u8]) -> Result<Name, Fail> {
+pub fn name(alloc: Global, bytes: &[u8]) -> Result<Name, Failed> {
     if !is_name(bytes) {
-        return Err("a name was wanted".into());
+        return Err(Failed::Missing("a name"));
     }
     Ok(Name::from_slice(alloc, bytes)?)
 }
 
-pub fn key(alloc: Global, bytes: &[u8]) -> Result<Key, Fail> {
+pub fn key(alloc: Global, bytes: &[u8]) -> Result<Key, Failed> {
     if !is_key(bytes) {
-        return Err("a key was wanted".into());
+        return Err(Failed::Missing("a key"));
     }
     Ok(Key::from_slice(alloc, bytes)?)
 }
@@ -53,39 +53,96 @@ pub fn row_at<'a>(
     world: &'a World,
     namespace: &[u8],
     at: &[u8],
-) -> Result<Option<&'a Row>, Fail> {
+) -> Result<Option<&'a Row>, Failed> {
     let namespace = name(alloc, namespace)?;
     let at = key(alloc, at)?;
     Ok(world.row(&namespace, &at))
 }
 
-pub fn policy_text(alloc: Global, row: &Row) -> Result<String, Fail> {
-    Ok(match &row.policy {
-        None => String::new(alloc),
-        Some(policy) => policy.get().text(alloc)?,
-    })
+pub fn policy_text(alloc: Global, row: &Row) -> Result<String, AllocError> {
+    match &row.policy {
+        None => Ok(String::new(alloc)),
+        Some(policy) => policy.get().text(alloc),
+    }
 }
 
-pub fn numbers(alloc: Global, flags: &[Flag]) -> Result<Vec<u8>, Fail> {
-    let mut numbers = Vec::new(alloc);
+fn numbers(alloc: Global, flags: &[Flag]) -> Result<Vec<u8>, AllocError> {
+    let mut numbers = Vec::with_capacity(alloc, flags.len())?;
     for flag in flags {
         numbers.push(flag.number())?;
     }
     Ok(numbers)
 }
 
-// The world after these blocks, and the numbers of the last one's flags.
-pub fn after(alloc: Global, blocks: &[&[u8]]) -> Result<(World, Vec<u8>), Fail> {
-    let channel = Channel::read(alloc, CHANNEL)?;
-    let mut world = World::new(alloc);
-    let mut flags = Vec::new(alloc);
-    for block in blocks {
-        let accepted = submit(alloc, &channel, &mut world, block, &SaysOk)?;
-        flags = numbers(alloc, accepted.flags.as_slice())?;
-    }
-    Ok((world, flags))
+/// A channel with its world.
+#[derive(Drop)]
+pub struct Peer {
+    channel: Channel,
+    world: World,
 }
 
-pub fn flags_after(alloc: Global, blocks: &[&[u8]]) -> Result<Vec<u8>, Fail> {
-    Ok(after(alloc, blocks)?.1)
+impl Peer {
+    pub fn open(alloc: Global) -> Result<Peer, ChannelFault> {
+        Ok(Peer {
+            channel: Channel::read(alloc, CHANNEL)?,
+            world: World::new(alloc),
+        })
+    }
+
+    pub fn world(&self) -> &World {
+        &self.world
+    }
+
+    /// Takes the next block, and answers the numbers of its flags.
+    pub fn take<V: Verify>(
+        &mut self,
+        alloc: Global,
+        bytes: &[u8],
+        verifier: &V,
+    ) -> Result<Vec<u8>, Refused> {
+        let accepted = submit(alloc, &self.channel, &mut self.world, bytes, verifier)?;
+        Ok(numbers(alloc, accepted.flags.as_slice())?)
+    }
+
+    pub fn refusal_of(&mut self, alloc: Global, bytes: &[u8]) -> Option<Refused> {
+        submit(alloc, &self.channel, &mut self.world, bytes, &SaysOk).err()
+    }
+
+    /// Takes the next block, and tells whether its flags have these numbers.
+    pub fn is_taken(&mut self, alloc: Global, bytes: &[u8], flags: &[u8]) -> Result<bool, Refused> {
+        Ok(self.take(alloc, bytes, &SaysOk)?.as_slice() == flags)
+    }
+
+    /// Whether the key has a row of this version, with this text of its own policy, which is empty where it has none.
+    pub fn has_row(
+        &self,
+        alloc: Global,
+        namespace: &[u8],
+        at: &[u8],
+        version: Version,
+        policy: &str,
+    ) -> Result<bool, Failed> {
+        match row_at(alloc, &self.world, namespace, at)? {
+            None => Ok(false),
+            Some(row) => Ok(row.version == version && policy_text(alloc, row)?.as_str() == policy),
+        }
+    }
+}
+
+/// The peer that has taken these blocks, all but the last, and then the last, whose flags have these numbers.
+pub fn after(alloc: Global, blocks: &[&[u8]], flags: &[u8]) -> Result<Peer, Failed> {
+    let mut peer = Peer::open(alloc)?;
+    let mut are_these = false;
+    for block in blocks {
+        are_these = peer.is_taken(alloc, block, flags)?;
+    }
+    if !are_these {
+        return Err(Failed::Missing("the last block's flags"));
+    }
+    Ok(peer)
+}
+
+/// Whether the last of these blocks has these flags.
+pub fn are_flags(alloc: Global, blocks: &[&[u8]], flags: &[u8]) -> bool {
+    after(alloc, blocks, flags).is_ok()
 }

@@ -1,11 +1,11 @@
+use crate::failed::Failed;
 use block::{Block, BlockFault, Header, Previous, encode_block};
-use commit::{Channel, ChannelFault, Flag, Ledger, Refused};
+use commit::{Accepted, Channel, ChannelFault, CommittedBlock, Flag, Ledger, Refused};
 use header_hash::header_hash;
 use policy_eval::Verify;
-use std::alloc::{AllocError, Global};
-use std::test::Fail;
+use std::alloc::Global;
 use transaction::Identity;
-use values::{Bytes, Items, Slice};
+use values::{Bytes, Hash, Items, Slice};
 
 // SHA-256 of no bytes and of `abc` (FIPS 180-4).
 const NO_DATA: [u8; 32] = [
@@ -52,7 +52,7 @@ fn block_of(
     previous: Previous,
     data_hash: [u8; 32],
     txs: &[&[u8]],
-) -> Result<Bytes, Fail> {
+) -> Result<Bytes, Failed> {
     let mut items = Items::new(alloc);
     for tx in txs {
         items.push(Slice::new(tx))?;
@@ -65,154 +65,209 @@ fn block_of(
     Ok(encode_block(alloc, &Block { header, txs: items })?)
 }
 
-fn refusal_of(ledger: &mut Ledger, bytes: &Bytes) -> Option<Refused> {
-    ledger.submit_one(bytes.as_slice(), &NoSigner).err()
+// How the ledger refuses the block of these parts, if it does.
+fn refusal_of(
+    ledger: &mut Ledger,
+    alloc: Global,
+    number: u64,
+    previous: Previous,
+    data_hash: [u8; 32],
+) -> Result<Option<Refused>, Failed> {
+    let block = block_of(alloc, number, previous, data_hash, &[])?;
+    Ok(ledger.submit_one(block.as_slice(), &NoSigner).err())
+}
+
+// The header hash of the block of this number without transactions, which the ledger takes.
+fn hash_of(
+    ledger: &mut Ledger,
+    alloc: Global,
+    number: u64,
+    previous: Previous,
+) -> Result<Hash, Failed> {
+    let block = block_of(alloc, number, previous, NO_DATA, &[])?;
+    let accepted = ledger.submit_one(block.as_slice(), &NoSigner)?;
+    if accepted.number != number || !accepted.flags.is_empty() {
+        return Err(Failed::Missing("the block's number, and no flags"));
+    }
+    Ok(accepted.header_hash)
 }
 
 #[test]
-fn blocks_in_order(rt: HostRuntime) -> Result<(), Fail> {
-    let alloc = rt.alloc();
+fn blocks_in_order(rt: HostRuntime) -> Result<(), Failed> {
+    let mut ledger = open(rt.alloc())?;
+    assert!(rt; ledger.view().height() == 0);
+    assert!(rt; ledger.view().header_hash().is_none());
+    assert!(rt; hash_of(&mut ledger, rt.alloc(), 0, Previous::Empty)? == HASH_0);
+    assert!(rt; hash_of(&mut ledger, rt.alloc(), 1, Previous::Hash(HASH_0))? == HASH_1);
+    assert!(rt; ledger.view().height() == 2);
+    assert!(rt; ledger.view().header_hash() == Some(HASH_1));
+    Ok(())
+}
+
+// The ledger of height 2.
+fn two_blocks(alloc: Global) -> Result<Ledger, Failed> {
     let mut ledger = open(alloc)?;
-    assert_eq!(rt; ledger.view().height(), 0);
-    assert_eq!(rt; ledger.view().header_hash(), None);
-    let first = block_of(alloc, 0, Previous::Empty, NO_DATA, &[])?;
-    let accepted = ledger.submit_one(first.as_slice(), &NoSigner)?;
-    assert_eq!(rt; accepted.number, 0);
-    assert_eq!(rt; accepted.header_hash, HASH_0);
-    assert_eq!(rt; accepted.flags.len(), 0);
-    let second = block_of(alloc, 1, Previous::Hash(HASH_0), NO_DATA, &[])?;
-    assert_eq!(rt;
-        ledger.submit_one(second.as_slice(), &NoSigner)?.header_hash,
-        HASH_1
-    );
-    assert_eq!(rt;
-        refusal_of(&mut ledger, &second),
-        Some(Refused::WrongNumber { want: 2, got: 1 })
-    );
-    for previous in [HASH_1, HASH_0] {
-        let fourth = block_of(alloc, 3, Previous::Hash(previous), NO_DATA, &[])?;
-        assert_eq!(rt;
-            refusal_of(&mut ledger, &fourth),
-            Some(Refused::WrongNumber { want: 2, got: 3 })
+    hash_of(&mut ledger, alloc, 0, Previous::Empty)?;
+    hash_of(&mut ledger, alloc, 1, Previous::Hash(HASH_0))?;
+    Ok(ledger)
+}
+
+// Whatever the hashes are.
+#[test]
+fn other_numbers(rt: HostRuntime) -> Result<(), Failed> {
+    let mut ledger = two_blocks(rt.alloc())?;
+    for (got, previous) in [(1, HASH_0), (3, HASH_1), (3, HASH_0)] {
+        let previous = Previous::Hash(previous);
+        assert!(rt;
+            refusal_of(&mut ledger, rt.alloc(), got, previous, NO_DATA)?
+                == Some(Refused::WrongNumber { want: 2, got })
         );
     }
-    let world = ledger.view();
-    assert_eq!(rt; world.height(), 2);
-    assert_eq!(rt; world.header_hash(), Some(HASH_1));
-    let kept = world.block(1).ok_or("block 1 was accepted")?;
-    assert_eq!(rt; kept.bytes.as_slice(), second.as_slice());
-    assert_eq!(rt; kept.header_hash, HASH_1);
-    assert!(rt; world.block(2).is_none());
+    Ok(())
+}
+
+fn is_kept(kept: Option<&CommittedBlock>, bytes: &Bytes, header_hash: &Hash) -> bool {
+    match kept {
+        Some(kept) => kept.bytes.is_same(bytes) && kept.header_hash == *header_hash,
+        None => false,
+    }
+}
+
+#[test]
+fn kept_blocks(rt: HostRuntime) -> Result<(), Failed> {
+    let ledger = two_blocks(rt.alloc())?;
+    let second = block_of(rt.alloc(), 1, Previous::Hash(HASH_0), NO_DATA, &[])?;
+    assert!(rt; is_kept(ledger.view().block(1), &second, &HASH_1));
+    assert!(rt; ledger.view().block(2).is_none());
     Ok(())
 }
 
 #[test]
-fn wrong_hashes(rt: HostRuntime) -> Result<(), Fail> {
-    let alloc = rt.alloc();
-    let mut ledger = open(alloc)?;
-    let with_previous = block_of(alloc, 0, Previous::Hash(HASH_0), NO_DATA, &[])?;
-    assert_eq!(rt;
-        refusal_of(&mut ledger, &with_previous),
-        Some(Refused::WrongPrevious)
+fn wrong_hashes(rt: HostRuntime) -> Result<(), Failed> {
+    let mut ledger = open(rt.alloc())?;
+    let previous = Previous::Hash(HASH_0);
+    assert!(rt;
+        refusal_of(&mut ledger, rt.alloc(), 0, previous, NO_DATA)? == Some(Refused::WrongPrevious)
     );
-    let wrong_data = block_of(alloc, 0, Previous::Empty, ABC, &[])?;
-    assert_eq!(rt;
-        refusal_of(&mut ledger, &wrong_data),
-        Some(Refused::WrongDataHash)
+    assert!(rt;
+        refusal_of(&mut ledger, rt.alloc(), 0, Previous::Empty, ABC)?
+            == Some(Refused::WrongDataHash)
     );
-    let first = block_of(alloc, 0, Previous::Empty, ABC, &[b"a", b"", b"bc"])?;
-    assert_eq!(rt; refusal_of(&mut ledger, &first), None);
-    let kept = ledger.view().block(0).ok_or("block 0 was accepted")?;
-    assert_eq!(rt; kept.flags.as_slice(), [Flag::BadPayload; 3].as_slice());
-    assert_eq!(rt; Flag::BadPayload.number(), 2);
-    let last = kept.header_hash;
-    let mut flipped = last;
+    let hash = hash_of(&mut ledger, rt.alloc(), 0, Previous::Empty)?;
+    let mut flipped = hash;
     flipped[31] ^= 1;
-    let after_flipped = block_of(alloc, 1, Previous::Hash(flipped), NO_DATA, &[])?;
-    assert_eq!(rt;
-        refusal_of(&mut ledger, &after_flipped),
-        Some(Refused::WrongPrevious)
+    let previous = Previous::Hash(flipped);
+    assert!(rt;
+        refusal_of(&mut ledger, rt.alloc(), 1, previous, NO_DATA)? == Some(Refused::WrongPrevious)
     );
-    let right = block_of(alloc, 1, Previous::Hash(last), NO_DATA, &[])?;
-    assert_eq!(rt; refusal_of(&mut ledger, &right), None);
-    assert_eq!(rt; ledger.view().height(), 2);
+    hash_of(&mut ledger, rt.alloc(), 1, Previous::Hash(hash))?;
+    Ok(())
+}
+
+fn are_bad_payload(flags: &[Flag], count: usize) -> bool {
+    flags.len() == count && flags.iter().all(|flag| *flag == Flag::BadPayload)
+}
+
+// Takes the bytes, and tells whether so many transactions are no transactions.
+fn has_bad_payloads(ledger: &mut Ledger, bytes: &Bytes, count: usize) -> Result<bool, Refused> {
+    let accepted = ledger.submit_one(bytes.as_slice(), &NoSigner)?;
+    Ok(are_bad_payload(accepted.flags.as_slice(), count))
+}
+
+#[test]
+fn transactions_that_are_none(rt: HostRuntime) -> Result<(), Failed> {
+    let mut ledger = open(rt.alloc())?;
+    let block = block_of(rt.alloc(), 0, Previous::Empty, ABC, &[b"a", b"", b"bc"])?;
+    assert!(rt; has_bad_payloads(&mut ledger, &block, 3)?);
+    assert!(rt; Flag::BadPayload.number() == 2);
     Ok(())
 }
 
 #[test]
-fn malformed_bytes(rt: HostRuntime) -> Result<(), Fail> {
-    let alloc = rt.alloc();
-    let mut ledger = open(alloc)?;
-    let block = block_of(alloc, 0, Previous::Empty, NO_DATA, &[])?;
+fn transactions_without_bytes(rt: HostRuntime) -> Result<(), Failed> {
+    let mut ledger = open(rt.alloc())?;
+    let none: &[u8] = &[];
+    let many = vec![in rt.alloc(); none; 4096]?;
+    for txs in [&many[..1], many.as_slice()] {
+        let previous = match ledger.view().header_hash() {
+            None => Previous::Empty,
+            Some(hash) => Previous::Hash(hash),
+        };
+        let number = ledger.view().height();
+        let block = block_of(rt.alloc(), number, previous, NO_DATA, txs)?;
+        assert!(rt; has_bad_payloads(&mut ledger, &block, txs.len())?);
+    }
+    Ok(())
+}
+
+// How the ledger refuses the beginning of this length of the empty block 0.
+fn refusal_of_cut(
+    ledger: &mut Ledger,
+    alloc: Global,
+    len: usize,
+) -> Result<Option<Refused>, Failed> {
+    let mut block = block_of(alloc, 0, Previous::Empty, NO_DATA, &[])?.into_vec();
+    block.truncate(len);
+    Ok(ledger.submit_one(block.as_slice(), &NoSigner).err())
+}
+
+#[test]
+fn malformed_bytes(rt: HostRuntime) -> Result<(), Failed> {
+    let mut ledger = open(rt.alloc())?;
     let rows = [
         (3, BlockFault::BadMagic),
         (4, BlockFault::Truncated),
         (48, BlockFault::Truncated),
     ];
     for (len, fault) in rows {
-        let cut = Bytes::from_slice(alloc, block.as_slice().get(..len).ok_or("49 bytes")?)?;
-        assert_eq!(rt;
-            refusal_of(&mut ledger, &cut),
-            Some(Refused::Malformed(fault)),
-            "{len}"
-        );
+        let refusal = refusal_of_cut(&mut ledger, rt.alloc(), len)?;
+        assert!(rt; refusal == Some(Refused::Malformed(fault)), "{len}");
     }
-    assert_eq!(rt; ledger.view().height(), 0);
+    assert!(rt; ledger.view().height() == 0);
     Ok(())
 }
 
-#[test]
-fn transactions_without_bytes(rt: HostRuntime) -> Result<(), Fail> {
-    let alloc = rt.alloc();
-    let mut ledger = open(alloc)?;
-    let none: &[u8] = &[];
-    let one = block_of(alloc, 0, Previous::Empty, NO_DATA, &[none])?;
-    let accepted = ledger.submit_one(one.as_slice(), &NoSigner)?;
-    assert_eq!(rt; accepted.flags.as_slice(), [Flag::BadPayload].as_slice());
-    let many = vec![in alloc; none; 4096]?;
-    let full = block_of(
-        alloc,
-        1,
-        Previous::Hash(accepted.header_hash),
-        NO_DATA,
-        &many,
-    )?;
-    assert_eq!(rt;
-        ledger.submit_one(full.as_slice(), &NoSigner)?.flags.len(),
-        4096
-    );
-    Ok(())
+// Blocks 0, 0 and 1.
+fn three(alloc: Global) -> Result<[Bytes; 3], Failed> {
+    Ok([
+        block_of(alloc, 0, Previous::Empty, NO_DATA, &[])?,
+        block_of(alloc, 0, Previous::Empty, NO_DATA, &[])?,
+        block_of(alloc, 1, Previous::Hash(HASH_0), NO_DATA, &[])?,
+    ])
 }
 
-#[test]
-fn all_at_once(rt: HostRuntime) -> Result<(), Fail> {
-    let alloc = rt.alloc();
-    let mut ledger = open(alloc)?;
-    let first = block_of(alloc, 0, Previous::Empty, NO_DATA, &[])?;
-    let again = block_of(alloc, 0, Previous::Empty, NO_DATA, &[])?;
-    let second = block_of(alloc, 1, Previous::Hash(HASH_0), NO_DATA, &[])?;
-    let answers = ledger.submit_all(&[first, again, second], &NoSigner)?;
-    let hashes = answers.as_slice().iter().map(|answer| match answer {
+fn are_answers(answers: &[Result<Accepted, Refused>]) -> bool {
+    let hashes = answers.iter().map(|answer| match answer {
         Ok(accepted) => Ok(accepted.header_hash),
         Err(refused) => Err(*refused),
     });
-    let want = [
+    hashes.eq([
         Ok(HASH_0),
         Err(Refused::WrongNumber { want: 1, got: 0 }),
         Ok(HASH_1),
-    ];
-    assert!(rt; hashes.eq(want));
-    assert_eq!(rt; ledger.submit_all(&[], &NoSigner)?.len(), 0);
+    ])
+}
+
+#[test]
+fn all_at_once(rt: HostRuntime) -> Result<(), Failed> {
+    let mut ledger = open(rt.alloc())?;
+    let blocks = three(rt.alloc())?;
+    let answers = ledger.submit_all(&blocks, &NoSigner)?;
+    assert!(rt; are_answers(answers.as_slice()));
     Ok(())
 }
 
 #[test]
-fn a_long_list(rt: HostRuntime) -> Result<(), Fail> {
-    let alloc = rt.alloc();
-    let mut ledger = open(alloc)?;
+fn none_at_once(rt: HostRuntime) -> Result<(), Failed> {
+    let mut ledger = open(rt.alloc())?;
+    assert!(rt; ledger.submit_all(&[], &NoSigner)?.is_empty());
+    Ok(())
+}
+
+fn chain_of(alloc: Global, length: u64) -> Result<Vec<Bytes>, Failed> {
     let mut blocks = Vec::new(alloc);
     let mut previous = Previous::Empty;
-    for number in 0..12u64 {
+    for number in 0..length {
         blocks.push(block_of(alloc, number, previous, NO_DATA, &[])?)?;
         let header = Header {
             number,
@@ -221,33 +276,32 @@ fn a_long_list(rt: HostRuntime) -> Result<(), Fail> {
         };
         previous = Previous::Hash(header_hash(&header));
     }
+    Ok(blocks)
+}
+
+#[test]
+fn a_long_list(rt: HostRuntime) -> Result<(), Failed> {
+    let mut ledger = open(rt.alloc())?;
+    let blocks = chain_of(rt.alloc(), 12)?;
     let answers = ledger.submit_all(&blocks, &NoSigner)?;
-    let accepted = answers.as_slice().iter().filter(|answer| answer.is_ok());
-    assert_eq!(rt; accepted.count(), 12);
-    assert_eq!(rt; ledger.view().height(), 12);
+    assert!(rt; answers.len() == 12);
+    assert!(rt; ledger.view().height() == 12);
     Ok(())
 }
 
 // Passes whichever one allocation of the submit is refused: then the ledger is as before, and takes
 // the same bytes next.
 #[test]
-fn refused_memory_changes_nothing(rt: HostRuntime) -> Result<(), Fail> {
-    let alloc = rt.alloc();
-    let mut ledger = open(alloc)?;
-    let block = block_of(alloc, 0, Previous::Empty, ABC, &[b"a", b"b", b"c"])?;
-    match ledger.submit_one(block.as_slice(), &NoSigner) {
-        Ok(accepted) => {
-            assert_eq!(rt; accepted.flags.len(), 3);
-        }
-        Err(refused) => {
-            assert_eq!(rt; refused, Refused::Memory);
-            assert_eq!(rt; ledger.view().height(), 0);
-            assert_eq!(rt;
-                ledger.submit_one(block.as_slice(), &NoSigner)?.flags.len(),
-                3
-            );
-        }
+fn refused_memory_changes_nothing(rt: HostRuntime) -> Result<(), Failed> {
+    let mut ledger = open(rt.alloc())?;
+    let block = block_of(rt.alloc(), 0, Previous::Empty, ABC, &[b"a", b"b", b"c"])?;
+    let first = has_bad_payloads(&mut ledger, &block, 3);
+    if first == Err(Refused::Memory) {
+        assert!(rt; ledger.view().height() == 0);
+        assert!(rt; has_bad_payloads(&mut ledger, &block, 3)?);
+    } else {
+        assert!(rt; first == Ok(true));
     }
-    assert_eq!(rt; ledger.view().height(), 1);
+    assert!(rt; ledger.view().height() == 1);
     Ok(())
 }

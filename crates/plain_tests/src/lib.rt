@@ -9,6 +9,8 @@ mod chain;
 #[cfg(test)]
 mod endorsing;
 #[cfg(test)]
+mod failed;
+#[cfg(test)]
 mod fixture;
 #[cfg(test)]
 mod large_blocks;

@@ -1,31 +1,37 @@
-use crate::fixture::{CHANNEL, SaysOk, after, numbers};
+use crate::failed::Failed;
+use crate::fixture::{Peer, SaysOk, after};
 use crate::shown::shown;
 use crate::vectors::worked::three_transactions;
-use channel::Channel;
-use plain::submit;
 use rules::Refused;
-use std::test::Fail;
+use std::alloc::Global;
+
+// Whether a want of memory left the world as it was shown before, and anything else is the answer.
+fn is_as_wanted(
+    alloc: Global,
+    peer: &Peer,
+    answer: Refused,
+    before: &[u8],
+) -> Result<bool, Failed> {
+    Ok(answer == Refused::Memory && shown(alloc, peer.world())?.as_slice() == before)
+}
 
 // To be run with memory that is refused at any one allocation of the submit: then the world is as before, and
 // takes the same bytes next. Where it is refused before or after, the test ends by `?`.
 #[test]
-fn refused_memory_changes_nothing(rt: HostRuntime) -> Result<(), Fail> {
+fn refused_memory_changes_nothing(rt: HostRuntime) -> Result<(), Failed> {
     let alloc = rt.alloc();
     let [first, block] = *three_transactions();
-    let channel = Channel::read(alloc, CHANNEL)?;
-    let (mut world, _) = after(alloc, &[first])?;
-    let before = shown(alloc, &world)?;
-    let accepted = match submit(alloc, &channel, &mut world, block, &SaysOk) {
-        Ok(accepted) => accepted,
-        Err(refused) => {
-            assert_eq!(rt; refused, Refused::Memory);
-            assert_eq!(rt; shown(alloc, &world)?.as_slice(), before.as_slice());
-            submit(alloc, &channel, &mut world, block, &SaysOk)?
+    let mut peer = after(alloc, &[first], &[0])?;
+    let before = shown(alloc, peer.world())?;
+    match peer.take(alloc, block, &SaysOk) {
+        Ok(flags) => {
+            assert!(rt; flags.as_slice() == [0, 0, 0].as_slice());
         }
-    };
-    let flags = numbers(alloc, accepted.flags.as_slice())?;
-    assert_eq!(rt; flags.as_slice(), [0, 0, 0].as_slice());
-    assert_eq!(rt; world.height(), 2);
-    assert_eq!(rt; world.header_hash(), Some(accepted.header_hash));
+        Err(refused) => {
+            assert!(rt; is_as_wanted(alloc, &peer, refused, &before)?);
+            assert!(rt; peer.is_taken(alloc, block, &[0, 0, 0])?);
+        }
+    }
+    assert!(rt; peer.world().height() == 2);
     Ok(())
 }

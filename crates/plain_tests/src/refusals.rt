@@ -1,40 +1,34 @@
 //! Refused bytes between the blocks of the chain.
 
-use crate::fixture::{CHANNEL, SaysOk};
+use crate::failed::Failed;
+use crate::fixture::Peer;
 use crate::shown::shown;
 use crate::vectors::first_blocks::first_blocks;
 use crate::vectors::later_blocks::later_blocks;
 use crate::vectors::worked::transaction_without_bytes;
 use block::BlockFault;
-use channel::Channel;
-use plain::{World, submit};
-use rules::{Flag, Refused};
+use rules::Refused;
 use std::alloc::Global;
-use std::process::Abort;
-use std::test::Fail;
+use values::Hash;
 
 // The bytes with the lowest bit of one flipped.
-fn flipped(alloc: Global, bytes: &[u8], place: usize) -> Result<Vec<u8>, Fail> {
+fn flipped(alloc: Global, bytes: &[u8], place: usize) -> Result<Vec<u8>, Failed> {
     let mut changed = Vec::from_slice(alloc, bytes)?;
     let byte = changed.get_mut(place).ok_or("a byte is there")?;
     *byte ^= 1;
     Ok(changed)
 }
 
-// The bytes are refused, and the world is shown as before.
-fn refused(
-    rt: &(impl Abort + AllocGlobal),
-    channel: &Channel,
-    world: &mut World,
+// Whether the bytes are refused so, and the world is shown as before.
+fn is_refused(
+    alloc: Global,
+    peer: &mut Peer,
     before: &[u8],
     bytes: &[u8],
     want: Refused,
-) -> Result<(), Fail> {
-    let alloc = rt.alloc();
-    let answer = submit(alloc, channel, world, bytes, &SaysOk).err();
-    assert_eq!(rt; answer, Some(want));
-    assert_eq!(rt; shown(alloc, world)?.as_slice(), before);
-    Ok(())
+) -> Result<bool, Failed> {
+    let answer = peer.refusal_of(alloc, bytes);
+    Ok(answer == Some(want) && shown(alloc, peer.world())?.as_slice() == before)
 }
 
 // Bytes of a header with a previous hash: 4 of magic, 8 of the number, 1, 32 of the previous hash, 32 of the
@@ -64,87 +58,88 @@ const CUTS: [(usize, BlockFault); 8] = [
     (84, BlockFault::Truncated),
 ];
 
-fn refuses_changed(
-    rt: &(impl Abort + AllocGlobal),
-    channel: &Channel,
-    world: &mut World,
-    bytes: &[u8],
-) -> Result<(), Fail> {
-    let alloc = rt.alloc();
-    let before = shown(alloc, world)?;
+fn refuses_flipped(alloc: Global, peer: &mut Peer, bytes: &[u8]) -> Result<bool, Failed> {
+    let before = shown(alloc, peer.world())?;
     for (place, want) in FLIPS {
         let changed = flipped(alloc, bytes, place)?;
-        refused(rt, channel, world, &before, &changed, want)?;
+        if !is_refused(alloc, peer, &before, &changed, want)? {
+            return Ok(false);
+        }
     }
-    let want = world.height();
+    let want = peer.world().height();
     let got = want ^ 1;
     let other = flipped(alloc, bytes, NUMBER)?;
-    refused(
-        rt,
-        channel,
-        world,
-        &before,
-        &other,
-        Refused::WrongNumber { want, got },
-    )?;
+    let want = Refused::WrongNumber { want, got };
+    is_refused(alloc, peer, &before, &other, want)
+}
+
+fn refuses_cut(alloc: Global, peer: &mut Peer, bytes: &[u8]) -> Result<bool, Failed> {
+    let before = shown(alloc, peer.world())?;
     for (length, fault) in CUTS {
         let cut = bytes.get(..length).ok_or("so many bytes are there")?;
-        refused(rt, channel, world, &before, cut, Refused::Malformed(fault))?;
+        if !is_refused(alloc, peer, &before, cut, Refused::Malformed(fault))? {
+            return Ok(false);
+        }
     }
     let mut longer = Vec::from_slice(alloc, bytes)?;
     longer.push(0)?;
     let trailing = Refused::Malformed(BlockFault::TrailingBytes);
-    refused(rt, channel, world, &before, &longer, trailing)
+    is_refused(alloc, peer, &before, &longer, trailing)
 }
 
 #[test]
-fn changed_bytes(rt: HostRuntime) -> Result<(), Fail> {
+fn changed_bytes(rt: HostRuntime) -> Result<(), Failed> {
     let alloc = rt.alloc();
-    let channel = Channel::read(alloc, CHANNEL)?;
-    let mut world = World::new(alloc);
+    let mut peer = Peer::open(alloc)?;
     for block in first_blocks().iter().chain(later_blocks().iter()) {
-        if world.height() % 16 == 3 {
-            refuses_changed(&rt, &channel, &mut world, block.bytes)?;
+        if peer.world().height() % 16 == 3 {
+            assert!(rt; refuses_flipped(alloc, &mut peer, block.bytes)?);
+            assert!(rt; refuses_cut(alloc, &mut peer, block.bytes)?);
         }
-        let accepted = submit(alloc, &channel, &mut world, block.bytes, &SaysOk)?;
-        assert_eq!(rt; accepted.header_hash, *block.header_hash);
-        assert_eq!(rt; accepted.flags.len(), block.flags.len());
+        assert!(rt; peer.is_taken(alloc, block.bytes, block.flags)?);
     }
-    assert_eq!(rt; world.height(), 32);
+    assert!(rt; peer.world().header_hash() == Some(*last_hash()));
     Ok(())
 }
 
-// Each block is handed in where block 4 is next.
-#[test]
-fn other_numbers(rt: HostRuntime) -> Result<(), Fail> {
-    let alloc = rt.alloc();
-    let channel = Channel::read(alloc, CHANNEL)?;
-    let mut world = World::new(alloc);
-    for block in first_blocks().iter().take(4) {
-        submit(alloc, &channel, &mut world, block.bytes, &SaysOk)?;
+fn last_hash() -> &'static Hash {
+    match later_blocks().last() {
+        Some(block) => block.header_hash,
+        None => &[0; 32],
     }
-    let before = shown(alloc, &world)?;
+}
+
+// Whether each block is refused where block 4 is next.
+fn refuses_other_numbers(alloc: Global, peer: &mut Peer) -> Result<bool, Failed> {
+    let before = shown(alloc, peer.world())?;
     for (number, block) in first_blocks().iter().enumerate() {
         let got = number as u64;
-        if got != 4 {
-            let want = Refused::WrongNumber { want: 4, got };
-            refused(&rt, &channel, &mut world, &before, block.bytes, want)?;
+        let want = Refused::WrongNumber { want: 4, got };
+        if got != 4 && !is_refused(alloc, peer, &before, block.bytes, want)? {
+            return Ok(false);
         }
     }
+    Ok(true)
+}
+
+#[test]
+fn other_numbers(rt: HostRuntime) -> Result<(), Failed> {
+    let mut peer = Peer::open(rt.alloc())?;
+    for block in first_blocks().iter().take(4) {
+        assert!(rt; peer.is_taken(rt.alloc(), block.bytes, block.flags)?);
+    }
+    assert!(rt; refuses_other_numbers(rt.alloc(), &mut peer)?);
     Ok(())
 }
 
 // Block 0 has an empty previous hash.
 #[test]
-fn previous_hash_at_the_beginning(rt: HostRuntime) -> Result<(), Fail> {
-    let alloc = rt.alloc();
-    let channel = Channel::read(alloc, CHANNEL)?;
-    let mut world = World::new(alloc);
-    let before = shown(alloc, &world)?;
+fn previous_hash_at_the_beginning(rt: HostRuntime) -> Result<(), Failed> {
+    let mut peer = Peer::open(rt.alloc())?;
+    let before = shown(rt.alloc(), peer.world())?;
     let [with_previous, without] = *transaction_without_bytes();
     let want = Refused::WrongPrevious;
-    refused(&rt, &channel, &mut world, &before, with_previous, want)?;
-    let accepted = submit(alloc, &channel, &mut world, without, &SaysOk)?;
-    assert_eq!(rt; accepted.flags.as_slice(), [Flag::BadPayload].as_slice());
+    assert!(rt; is_refused(rt.alloc(), &mut peer, &before, with_previous, want)?);
+    assert!(rt; peer.is_taken(rt.alloc(), without, &[2])?);
     Ok(())
 }

@@ -1,15 +1,15 @@
 //! Parts of a world as bytes, which tell one from another.
 
+use crate::failed::Failed;
 use crate::fixture::{key, name, policy_text, row_at};
 use crate::vectors::rows::rows;
 use crate::vectors::uses::uses;
 use crate::vectors::{Left, read_use};
 use plain::World;
 use rules::{HistoryEntry, Row};
-use std::alloc::Global;
-use std::test::Fail;
+use std::alloc::{AllocError, Global};
 
-pub fn show_row(alloc: Global, shown: &mut Vec<u8>, row: Option<&Row>) -> Result<(), Fail> {
+pub fn show_row(alloc: Global, shown: &mut Vec<u8>, row: Option<&Row>) -> Result<(), AllocError> {
     let Some(row) = row else {
         shown.push(0)?;
         return Ok(());
@@ -23,7 +23,7 @@ pub fn show_row(alloc: Global, shown: &mut Vec<u8>, row: Option<&Row>) -> Result
 }
 
 // As `Left::history` has it.
-fn show_entry(shown: &mut Vec<u8>, entry: &HistoryEntry) -> Result<(), Fail> {
+fn show_entry(shown: &mut Vec<u8>, entry: &HistoryEntry) -> Result<(), AllocError> {
     shown.extend_from_slice(&entry.version.block.to_be_bytes())?;
     shown.extend_from_slice(&entry.version.tx.to_be_bytes())?;
     shown.extend_from_slice(&entry.id)?;
@@ -44,7 +44,7 @@ pub fn show_history(
     shown: &mut Vec<u8>,
     world: &World,
     left: &Left,
-) -> Result<(), Fail> {
+) -> Result<(), Failed> {
     let namespace = name(alloc, left.namespace)?;
     let at = key(alloc, left.key)?;
     let entries = world.history(alloc, &namespace, &at)?;
@@ -54,7 +54,7 @@ pub fn show_history(
     Ok(())
 }
 
-fn show_uses(shown: &mut Vec<u8>, world: &World) -> Result<(), Fail> {
+fn show_uses(shown: &mut Vec<u8>, world: &World) -> Result<(), AllocError> {
     for bytes in uses() {
         if let Some(used) = world.first_use(&read_use(bytes).id) {
             shown.extend_from_slice(&used.block.to_be_bytes())?;
@@ -68,7 +68,7 @@ fn show_uses(shown: &mut Vec<u8>, world: &World) -> Result<(), Fail> {
 
 // Height, last header hash, and what is at each key and id that the chain writes, as bytes that tell one
 // world from another.
-pub fn shown(alloc: Global, world: &World) -> Result<Vec<u8>, Fail> {
+pub fn shown(alloc: Global, world: &World) -> Result<Vec<u8>, Failed> {
     let mut shown = Vec::from_slice(alloc, &world.height().to_be_bytes())?;
     if let Some(hash) = world.header_hash() {
         shown.extend_from_slice(&hash)?;

@@ -1,12 +1,10 @@
 //! What creators and endorsers sign.
 
-use crate::building::{P0, Q0, body, flags_of};
-use crate::fixture::CHANNEL;
-use channel::Channel;
-use plain::World;
+use crate::building::{P0, Q0, are_flags_of, body};
+use crate::failed::Failed;
+use crate::fixture::Peer;
 use policy_eval::Verify;
 use std::alloc::{AllocError, Global};
-use std::test::Fail;
 use transaction::Identity;
 use values::Bytes;
 
@@ -24,7 +22,7 @@ impl Verify for Echo {
 }
 
 // Names `cc` and writes its key k.
-fn some_body(alloc: Global) -> Result<Vec<u8>, Fail> {
+fn some_body(alloc: Global) -> Result<Vec<u8>, AllocError> {
     let sets = b"\0\x01\x02cc\0\0\0\0\0\x01\0\x01k\x01\0\0\0\x01v\0\0";
     body(alloc, 1, b"cc", sets)
 }
@@ -43,22 +41,21 @@ fn with_signature(alloc: Global, bytes: &[u8], signature: &[u8]) -> Result<Vec<u
 }
 
 // The body and one endorsement of P0.
-fn signed_part(alloc: Global, endorsement: &[u8]) -> Result<Vec<u8>, Fail> {
+fn signed_part(alloc: Global, endorsement: &[u8]) -> Result<Vec<u8>, AllocError> {
     let body = some_body(alloc)?;
     let counted = joined(alloc, &body, &[1])?;
     let named = joined(alloc, &counted, P0)?;
-    Ok(with_signature(alloc, &named, endorsement)?)
+    with_signature(alloc, &named, endorsement)
 }
 
-// The flag of the one transaction of block 0.
-fn flag_of(alloc: Global, tx: Vec<u8>) -> Result<Vec<u8>, Fail> {
-    let channel = Channel::read(alloc, CHANNEL)?;
-    let txs = vec![in alloc; Bytes::from_vec(tx)]?;
-    flags_of(alloc, &channel, &mut World::new(alloc), txs, &Echo)
+// Whether the one transaction of block 0 gets this flag.
+fn is_flag(alloc: Global, tx: Vec<u8>, flag: u8) -> Result<bool, Failed> {
+    let mut peer = Peer::open(alloc)?;
+    are_flags_of(alloc, &mut peer, &[Bytes::from_vec(tx)], &Echo, &[flag])
 }
 
 #[test]
-fn creators_sign_all_before_the_signature(rt: HostRuntime) -> Result<(), Fail> {
+fn creators_sign_all_before_the_signature(rt: HostRuntime) -> Result<(), Failed> {
     let alloc = rt.alloc();
     let body = some_body(alloc)?;
     let signed = signed_part(alloc, &joined(alloc, &body, P0)?)?;
@@ -71,25 +68,20 @@ fn creators_sign_all_before_the_signature(rt: HostRuntime) -> Result<(), Fail> {
     ];
     for (signature, flag) in rows {
         let tx = with_signature(alloc, &signed, signature)?;
-        assert_eq!(rt;
-            flag_of(alloc, tx)?.as_slice(),
-            [flag].as_slice(),
-            "{}",
-            signature.len()
-        );
+        assert!(rt; is_flag(alloc, tx, flag)?, "{}", signature.len());
     }
     Ok(())
 }
 
 #[test]
-fn endorsers_sign_the_body_and_themselves(rt: HostRuntime) -> Result<(), Fail> {
+fn endorsers_sign_the_body_and_themselves(rt: HostRuntime) -> Result<(), Failed> {
     let alloc = rt.alloc();
     let body = some_body(alloc)?;
     let rows = [(P0, 0), (Q0, 10), (b"".as_slice(), 10)];
     for (endorser, flag) in rows {
         let signed = signed_part(alloc, &joined(alloc, &body, endorser)?)?;
         let tx = with_signature(alloc, &signed, &signed)?;
-        assert_eq!(rt; flag_of(alloc, tx)?.as_slice(), [flag].as_slice());
+        assert!(rt; is_flag(alloc, tx, flag)?);
     }
     Ok(())
 }

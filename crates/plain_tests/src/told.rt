@@ -1,6 +1,6 @@
+use crate::failed::Failed;
 use block::BlockFault;
 use rules::Refused;
-use std::test::Fail;
 
 fn told() -> &'static [(Refused, &'static str)] {
     &TOLD
@@ -27,7 +27,7 @@ static TOLD: [(Refused, &str); 5] = [
 ];
 
 #[test]
-fn each_refusal_is_told(rt: HostRuntime) -> Result<(), Fail> {
+fn each_refusal_is_told(rt: HostRuntime) -> Result<(), Failed> {
     for &(refused, text) in told() {
         let told = format!(in rt.alloc(); "{refused}")?;
         assert_eq!(rt; told.as_str(), text);
