@@ -1,17 +1,24 @@
 //! The expected values were worked out by hand from the rules of a channel text and of policies.
 
 use channel::{Channel, ChannelFault};
-use policy::PolicyFault;
-use std::alloc::AllocError;
+use policy::{Policy, PolicyFault};
+use std::alloc::{AllocError, Global};
 use std::process::Abort;
 use std::test::Fail;
-use values::{Name, is_name};
+use values::{NameRef, is_name};
 
 fn expect_fault(rt: &(impl Abort + AllocGlobal), text: &str, fault: ChannelFault) {
     assert!(rt;
         Channel::read(rt.alloc(), text).err() == Some(fault),
         "{text:?}"
     );
+}
+
+fn is_text(alloc: Global, policy: Option<&Policy>, canonical: &str) -> Result<bool, AllocError> {
+    match policy {
+        Some(policy) => Ok(policy.text(alloc)?.as_str() == canonical),
+        None => Ok(false),
+    }
 }
 
 // Whether the chaincode is defined with a policy of this canonical text.
@@ -22,11 +29,8 @@ fn is_defined(
     canonical: &str,
 ) -> Result<bool, AllocError> {
     assert!(rt; is_name(chaincode.as_bytes()));
-    let name = Name::from_slice(rt.alloc(), chaincode.as_bytes())?;
-    match channel.definitions().of(&name.lend()) {
-        Some(policy) => Ok(policy.text(rt.alloc())?.as_str() == canonical),
-        None => Ok(false),
-    }
+    let name = NameRef::new(chaincode.as_bytes());
+    is_text(rt.alloc(), channel.definitions().of(&name), canonical)
 }
 
 fn expect_channel(
@@ -269,18 +273,31 @@ static BEHIND_256: [(&str, ChannelFault); 9] = [
     ),
 ];
 
-#[test]
-fn many_chaincodes(rt: HostRuntime) -> Result<(), Fail> {
-    let mut full = String::from_str(rt.alloc(), "channel ch\n")?;
+// A channel with chaincodes c0 to c255.
+fn full(alloc: Global) -> Result<String, AllocError> {
+    let mut text = String::from_str(alloc, "channel ch\n")?;
     for i in 0..256u16 {
-        let line = format!(in rt.alloc(); "chaincode c{i} 'O{i}.peer'\n")?;
-        full.push_str(line.as_str())?;
+        let line = format!(in alloc; "chaincode c{i} 'O{i}.peer'\n")?;
+        text.push_str(line.as_str())?;
     }
-    let channel = Channel::read(rt.alloc(), full.as_str())?;
+    Ok(text)
+}
+
+#[test]
+fn many_chaincodes(rt: HostRuntime) -> Result<(), ChannelFault> {
+    let text = full(rt.alloc())?;
+    let channel = Channel::read(rt.alloc(), text.as_str())?;
     assert!(rt; channel.definitions().len() == 256);
     assert!(rt; is_defined(&rt, &channel, "c255", "'O255.peer'")?);
+    Ok(())
+}
+
+#[test]
+fn one_chaincode_more(rt: HostRuntime) -> Result<(), AllocError> {
+    let full = full(rt.alloc())?;
     for &(last, fault) in behind_256() {
-        let text = format!(in rt.alloc(); "{full}{last}")?;
+        let mut text = String::from_str(rt.alloc(), full.as_str())?;
+        text.push_str(last)?;
         expect_fault(&rt, text.as_str(), fault);
     }
     Ok(())

@@ -3,7 +3,7 @@ use policy_eval::Verify;
 use std::alloc::{AllocError, Global};
 use std::process::Abort;
 use std::test::Fail;
-use transaction::{Identity, Role};
+use transaction::{Identity, OwnedIdentity, Role};
 use values::{NameRef, Slice, is_name};
 
 fn identity<'a>(rt: &impl Abort, org: &'a [u8], role: Role, label: &'a [u8]) -> Identity<'a> {
@@ -202,46 +202,71 @@ fn texts(rt: HostRuntime) -> Result<(), Fail> {
     Ok(())
 }
 
+// The book gives this label of A's peer `a:bA` the key 1, and the empty label the key 2.
+const LABELS: &str = "A:peer:a:b%41 01\nA:peer:% 02\n";
+
 #[test]
-fn labels_of_texts(rt: HostRuntime) -> Result<(), Fail> {
-    let alloc = rt.alloc();
-    let book = KeyBook::read(alloc, "A:peer:a:b%41 01\nA:peer:% 02\n")?;
-    let message = b"message";
-    let colon = identity(&rt, b"A", Role::Peer, b"a:bA");
-    assert!(rt; book.sign(&colon, message) == Some(hmac_sha256(&[1], message)));
-    let owned = read_identity(alloc, b"A:peer:%")?.ok_or("an identity")?;
-    let empty = owned.lend();
-    assert!(rt; empty.org.as_slice() == b"A".as_slice());
-    assert!(rt; empty.role == Role::Peer);
-    assert!(rt; empty.label.is_empty());
-    assert!(rt; book.sign(&empty, message) == Some(hmac_sha256(&[2], message)));
-    assert!(rt; read_identity(alloc, b"A:peer:x 00")?.is_none());
+fn labels_of_texts(rt: HostRuntime) -> Result<(), KeyBookFault> {
+    let book = KeyBook::read(rt.alloc(), LABELS)?;
+    for (label, key) in [(b"a:bA".as_slice(), 1), (b"".as_slice(), 2)] {
+        let signer = identity(&rt, b"A", Role::Peer, label);
+        assert!(rt; book.sign(&signer, b"message") == Some(hmac_sha256(&[key], b"message")));
+    }
     Ok(())
 }
 
+fn is_without_label(identity: &Option<OwnedIdentity>) -> bool {
+    match identity {
+        None => false,
+        Some(owned) => {
+            let lent = owned.lend();
+            lent.org.as_slice() == b"A".as_slice()
+                && lent.role == Role::Peer
+                && lent.label.is_empty()
+        }
+    }
+}
+
 #[test]
-fn lengths(rt: HostRuntime) -> Result<(), Fail> {
-    let alloc = rt.alloc();
-    for (digits, fault) in [
-        (2, None),
-        (64, None),
-        (128, None),
-        (129, Some(1)),
-        (130, Some(1)),
+fn identities_of_texts(rt: HostRuntime) -> Result<(), AllocError> {
+    assert!(rt; is_without_label(&read_identity(rt.alloc(), b"A:peer:%")?));
+    assert!(rt; read_identity(rt.alloc(), b"A:peer:x 00")?.is_none());
+    Ok(())
+}
+
+// The line of the first fault of a text that has this part so many times between two others.
+fn faulty_line_of(
+    alloc: Global,
+    front: &str,
+    part: &str,
+    count: usize,
+    back: &str,
+) -> Result<Option<u64>, KeyBookFault> {
+    let mut text = String::from_str(alloc, front)?;
+    for _ in 0..count {
+        text.push_str(part)?;
+    }
+    text.push_str(back)?;
+    faulty_line(alloc, text.as_str())
+}
+
+#[test]
+fn lengths(rt: HostRuntime) -> Result<(), KeyBookFault> {
+    for (front, part, count, back, fault) in [
+        ("A:peer:x ", "a", 2, "", None),
+        ("A:peer:x ", "a", 64, "", None),
+        ("A:peer:x ", "a", 128, "", None),
+        ("A:peer:x ", "a", 129, "", Some(1)),
+        ("A:peer:x ", "a", 130, "", Some(1)),
+        ("A:peer:", "%7f", 1, " 00", None),
+        ("A:peer:", "%7f", 255, " 00", None),
+        ("A:peer:", "%7f", 256, " 00", Some(1)),
+        ("", "o", 1, ":peer:x 00", None),
+        ("", "o", 64, ":peer:x 00", None),
+        ("", "o", 65, ":peer:x 00", Some(1)),
     ] {
-        let key = "a".repeat(alloc, digits)?;
-        let text = format!(in alloc; "A:peer:x {key}")?;
-        assert!(rt; faulty_line(alloc, text.as_str())? == fault, "{digits}");
-    }
-    for (bytes, fault) in [(1, None), (255, None), (256, Some(1))] {
-        let label = "%7f".repeat(alloc, bytes)?;
-        let text = format!(in alloc; "A:peer:{label} 00")?;
-        assert!(rt; faulty_line(alloc, text.as_str())? == fault, "{bytes}");
-    }
-    for (bytes, fault) in [(1, None), (64, None), (65, Some(1))] {
-        let org = "o".repeat(alloc, bytes)?;
-        let text = format!(in alloc; "{org}:peer:x 00")?;
-        assert!(rt; faulty_line(alloc, text.as_str())? == fault, "{bytes}");
+        let line = faulty_line_of(rt.alloc(), front, part, count, back)?;
+        assert!(rt; line == fault, "{front} {count}");
     }
     Ok(())
 }
