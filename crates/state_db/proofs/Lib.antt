@@ -2,5 +2,6 @@ mod Batches
 mod Heads
 mod Leading
 mod Order
+mod PageOrder
 mod Puts
 mod Tests

@@ -1,4 +1,5 @@
 pub mod Code
 pub mod Head
+pub mod Pages
 pub mod Search
 pub mod Batch

@@ -4,9 +4,14 @@
 #![tactic(auto)]
 
 mod batch;
+mod directory;
 mod edit;
 mod head;
+mod page;
 mod search;
+mod slot;
+mod state_db;
 mod wanted;
 
 pub use batch::Batch;
+pub use state_db::StateDb;
