@@ -1,4 +1,5 @@
 mod Batches
+mod FromKey
 mod Heads
 mod Leading
 mod Order

@@ -3,3 +3,4 @@ pub mod Head
 pub mod Pages
 pub mod Search
 pub mod Batch
+pub mod Ranges

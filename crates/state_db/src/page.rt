@@ -29,9 +29,9 @@ pub(crate) struct Page {
 impl Model for Page {
     ghost use Rattle.std.specs.Coded.{coded_list};
     ghost use Rattle.rules.specs.Code.{keyed_row_code};
-    ghost use Rattle.state_db.specs.Pages.{Rows};
+    ghost use Rattle.state_db.specs.Pages.{RowList};
 
-    ghost Value = { Rows };
+    ghost Value = { RowList };
 
     ghost coded = { coded_list keyed_row_code };
 

@@ -1,14 +1,16 @@
 ghost use Rattle.std.specs.Prelude.{◌≡◌, ◌≤◌, [], sum, length, IfSome, slice_get};
 ghost use Rattle.std.specs.Option.{option_copied};
 ghost use Rattle.std.specs.FinMap.{get, empty, entries};
+ghost use Rattle.rules.specs.Ranges.{is_within, rows_where};
 
 use crate::directory::row_of;
 use crate::page::Page;
+use crate::rows::{Rows, rows_from};
 use crate::wanted::Wanted;
 use rules::Row;
 use std::alloc::Global;
 use std::marker::Model;
-use values::{KeyRef, NameRef};
+use values::{BoundRef, KeyRef, NameRef};
 
 /// The rows of a state, in pages of 1 to 256 rows: all rows of an earlier page stand before those of a later one. A
 /// contract sees the state, beside it how many rows each page has.
@@ -51,6 +53,25 @@ impl StateDb {
     {
         let wanted = Wanted::new(namespace, key.as_slice());
         row_of(self.pages.as_slice(), &wanted)
+    }
+
+    /// The rows of a namespace from a start to before an end, an empty end being no bound, in the order of their keys.
+    /// Logarithmic in the number of rows to begin with, then constant for each.
+    pub fn range<'a>(
+        &'a self,
+        namespace: &NameRef<'a>,
+        start: &BoundRef<'a>,
+        end: &BoundRef<'a>,
+    ) -> Rows<'a>
+        ensures { result ≡ rows_where self.now.state namespace.now (is_within start.now end.now) }
+    {
+        let wanted = Wanted::new(namespace, start.as_slice());
+        rows_from(
+            self.pages.as_slice(),
+            &wanted,
+            namespace.as_slice(),
+            end.as_slice(),
+        )
     }
 
     /// How many pages hold the rows.
