@@ -5,4 +5,5 @@ mod Leading
 mod Order
 mod PageOrder
 mod Puts
+mod Removes
 mod Tests

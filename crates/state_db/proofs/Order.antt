@@ -107,7 +107,7 @@ module _ {X : Type 0} where
   -- ---- what has a key
 
   -- what stands before the key hasn't it
-  not_it : (k : StateKey) (e : Keyed X) → is_below k e ≡ true → eq_by_cmp key_cmp k e.0 ≡ false
+  pub not_it : (k : StateKey) (e : Keyed X) → is_below k e ≡ true → eq_by_cmp key_cmp k e.0 ≡ false
   not_it k e h = turned e.0 k ∙ ap is_eq (is_Less (key_cmp e.0 k) h)
 
   pub find_skip : (k : StateKey) (ls rs : List (Keyed X)) → list_all (is_below k) ls ≡ true → find key_cmp k (ls ++ rs) ≡ find key_cmp k rs

@@ -4,3 +4,5 @@ pub mod Pages
 pub mod Search
 pub mod Batch
 pub mod Ranges
+pub mod Edits
+pub mod Need

@@ -11,6 +11,7 @@ mod page;
 mod rows;
 mod search;
 mod slot;
+mod slots;
 mod state_db;
 mod wanted;
 

@@ -1,15 +1,17 @@
-ghost use Rattle.std.specs.Prelude.{◌≡◌, [], length, IfOk};
+ghost use Rattle.std.specs.Prelude.{◌≡◌, ◌==◌, ◌≤◌, ◌++◌, [], length, IfOk};
 ghost use Rattle.std.specs.Option.{option_copied};
 ghost use Rattle.std.specs.FinMap.{find};
 ghost use Rattle.std.specs.FinMap.Entries.{put};
 ghost use Rattle.std.specs.Vec.{vec_capacity};
 ghost use Rattle.rules.specs.State.{key_cmp};
-ghost use Rattle.state_db.specs.Pages.{last_head, is_page_below};
+ghost use Rattle.state_db.specs.Edits.{without};
+ghost use Rattle.state_db.specs.Pages.{is_page_below};
 ghost use Rattle.state_db.specs.Search.{IsSorted};
 
 use crate::head::{HEAD_BYTES, Head};
-use crate::search::{Ordered, count_below};
+use crate::search::Ordered;
 use crate::slot::Slot;
+use crate::slots;
 use crate::wanted::Wanted;
 use rules::Row;
 use std::alloc::{AllocError, Global};
@@ -44,26 +46,6 @@ impl Model for Page {
     ghost invariant = { λ p. (p.last ≡ last_head p.rows.items) × (257 ≤ vec_capacity p.rows) };
 }
 
-fn last_head(rows: &[Slot]) -> Head
-    ensures { result ≡ last_head rows.now }
-{
-    match rows.last() {
-        None => [0; HEAD_BYTES],
-        Some(slot) => slot.head(),
-    }
-}
-
-/// The row of a key among rows in order.
-fn row_in<'a>(rows: &'a [Slot], wanted: &Wanted<'_>) -> Option<&'a Row>
-    requires { IsSorted rows.now }
-    ensures { option_copied result ≡ find key_cmp wanted.now rows.now }
-{
-    match rows.get(count_below(rows, wanted)) {
-        None => None,
-        Some(slot) => slot.row_of(wanted),
-    }
-}
-
 impl Page {
     /// No rows.
     pub fn new(alloc: Global) -> Result<Page, AllocError>
@@ -81,6 +63,12 @@ impl Page {
         self.rows.len()
     }
 
+    pub fn is_empty(&self) -> bool
+        ensures { result ≡ (length self.now == 0) }
+    {
+        self.rows.is_empty()
+    }
+
     pub fn rows(&self) -> &[Slot]
         ensures { result.now ≡ self.now }
     {
@@ -92,7 +80,38 @@ impl Page {
         requires { IsSorted self.now }
         ensures { option_copied result ≡ find key_cmp wanted.now self.now }
     {
-        row_in(self.rows.as_slice(), wanted)
+        slots::row_in(self.rows.as_slice(), wanted)
+    }
+
+    /// Puts a row in its place, in the place of one with its key. Takes no memory.
+    pub fn put(&mut self, slot: Slot)
+        requires sorted { IsSorted self.old }
+        requires room { length self.old ≤ 256 }
+        ensures { self.new ≡ put key_cmp slot.0 slot.1 self.old }
+    {
+        slots::put(&mut self.rows, slot);
+        self.last = slots::last_head(self.rows.as_slice());
+    }
+
+    /// Removes the row of a key, if there is one.
+    pub fn remove(&mut self, wanted: &Wanted<'_>)
+        requires { IsSorted self.old }
+        ensures { self.new ≡ without wanted.now self.old }
+    {
+        slots::remove(&mut self.rows, wanted);
+        self.last = slots::last_head(self.rows.as_slice());
+    }
+
+    /// Moves all rows but the first 128 of one too many into an empty page. Takes no memory.
+    pub fn split(&mut self, upper: &mut Page)
+        requires full { length self.old ≡ 257 }
+        requires empty { upper.old ≡ [] }
+        ensures rows { self.old ≡ self.new ++ upper.new }
+        ensures lower { length self.new ≡ 128 }
+    {
+        slots::move_tail(&mut self.rows, &mut upper.rows, MAX_ROWS / 2);
+        self.last = slots::last_head(self.rows.as_slice());
+        upper.last = slots::last_head(upper.rows.as_slice());
     }
 }
 

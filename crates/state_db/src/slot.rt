@@ -60,6 +60,14 @@ impl Slot {
         self.row.get()
     }
 
+    pub fn wanted(&self) -> Wanted<'_>
+        ensures { result ≡ self.now.0 }
+    {
+        let row = self.row.get();
+        let key = row.key();
+        Wanted::new(&row.namespace(), key.as_slice())
+    }
+
     /// How its key, which has this head, stands to another. Looks at the row only where the heads don't tell.
     pub fn order_with(&self, head: &Head, wanted: &Wanted<'_>) -> Ordering
         requires { head.now ≡ head_of self.now.0 }

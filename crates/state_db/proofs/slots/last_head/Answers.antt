@@ -1,6 +1,6 @@
 use Rattle.std.proofs.Common.{sym, ◌∙◌, arith}
 use Rattle.state_db.proofs.PageOrder.{no_last, its_head}
-use Rattle.state_db.proofs.page.last_head.Goals as goal
+use Rattle.state_db.proofs.slots.last_head.Goals as goal
 
 pub returns-in-None : goal.returns-in-None
 returns-in-None c = no_last c.args.rows.now (omega (arith, c.in-None.ensures.item.3))

@@ -1,7 +1,7 @@
 use Rattle.std.proofs.Common.{sym, ap, ◌∙◌}
 use Rattle.state_db.specs.Search.{if_it}
 use Rattle.state_db.proofs.Order.{falls_sorted, find_at, at_place-past, at_place-here}
-use Rattle.state_db.proofs.page.row_in.Goals as goal
+use Rattle.state_db.proofs.slots.row_in.Goals as goal
 
 pub count_below-requires : goal.count_below-requires
 count_below-requires c = falls_sorted c.args.wanted.now c.args.rows.now c.requires
