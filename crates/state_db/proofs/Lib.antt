@@ -1,7 +1,11 @@
 mod Batches
+mod Counts
 mod FromKey
 mod Heads
 mod Leading
+mod Maps
+mod Needs
+mod Opened
 mod Order
 mod PageOrder
 mod Puts

@@ -8,7 +8,8 @@ use Rattle.rules.specs.State.{StateKey, key_cmp}
 use Rattle.rules.specs.declared.row.Row.{Row}
 use Rattle.state_db.specs.Head.{head_of, padded}
 use Rattle.state_db.specs.Search.{Keyed, IsSorted, is_below, leading, Falls}
-use Rattle.state_db.specs.Pages.{RowList, joined, AreFilled, AreSized, AreInOrder, is_page_below, home, last_head}
+use Rattle.state_db.specs.Need.{AreBounded, AreOpen}
+use Rattle.state_db.specs.Pages.{ArePages, RowList, joined, AreFilled, AreSized, AreInOrder, is_page_below, home, last_head}
 use Rattle.state_db.proofs.Order.{any_append, alone, others_decide, none_behind, sorted_front, sorted_back, find_skip, find_in}
 
 -- ---- the last row
@@ -137,3 +138,11 @@ pub size_at : (ps : List RowList) (n : ℕ) (d : RowList) → AreSized ps → n 
 size_at [] n d h lt = absurd (omega arith)
 size_at (p ∷ ps) zero d h lt = (h.0, h.1)
 size_at (p ∷ ps) (suc n) d h lt = size_at ps n d h.2 (omega arith)
+
+pub sized_bounded : (ps : List RowList) → AreSized ps → AreBounded ps
+sized_bounded [] h = tt
+sized_bounded (p ∷ ps) h = (h.1, sized_bounded ps h.2)
+
+-- pages of which there are some
+pub opened : (ps : List RowList) → ArePages ps → 0 < length ps → AreOpen ps
+opened ps h some = record { some = some; sorted = h.0; filled = sized_filled ps h.1; bounded = sized_bounded ps h.1 }

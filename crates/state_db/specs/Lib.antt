@@ -6,3 +6,4 @@ pub mod Batch
 pub mod Ranges
 pub mod Edits
 pub mod Need
+pub mod Steps

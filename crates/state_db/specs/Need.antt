@@ -1,8 +1,8 @@
 -- How many pages more changes of rows in pages may take. No public contract cites this.
-use Rattle.std.specs.Prelude.{◌≡◌, ◌<◌, ◌≤◌, ℕ, ◌+◌, ◌-◌, ◌/◌, Bool, not, List, [], ◌∷◌, length, is_some, if◌then◌else◌, ⊤}
+use Rattle.std.specs.Prelude.{◌≡◌, ◌<◌, ◌≤◌, ℕ, ◌+◌, ◌-◌, ◌/◌, not, List, [], ◌∷◌, length, is_some, if◌then◌else◌, ⊤}
 use Rattle.std.specs.List.{filter}
 use Rattle.rules.specs.declared.row.Row.{Row}
-use Rattle.rules.specs.State.{StateKey, ChangeOf}
+use Rattle.rules.specs.State.{ChangeOf}
 use Rattle.state_db.specs.Search.{IsSorted}
 use Rattle.state_db.specs.Pages.{RowList, joined, AreFilled, is_page_below}
 
@@ -49,3 +49,9 @@ pub record AreOpen (ps : List RowList) : Type 0 where
 abbrev pub AreEmpty : List RowList → Type 0
 AreEmpty [] = ⊤
 AreEmpty (p ∷ ps) = (p ≡ []) × AreEmpty ps
+
+-- the need where the first page counts as one of so many rows
+abbrev pub cost : ℕ → List RowList → List (ChangeOf Row) → ℕ
+cost n [] cs = 0
+cost n (p ∷ []) cs = splits (n + added_by cs)
+cost n (p ∷ q ∷ ps) cs = splits (n + added_by (up_to p cs)) + need (q ∷ ps) (past p cs)

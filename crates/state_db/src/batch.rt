@@ -1,5 +1,5 @@
-ghost use Rattle.std.specs.Prelude.{◌≡◌, ◌≤◌, Some, None, length, OnOk, OnErr};
-ghost use Rattle.std.specs.FinMap.{empty, insert};
+ghost use Rattle.std.specs.Prelude.{◌≡◌, ◌≤◌, Some, None, length, IfOk, OnOk, OnErr};
+ghost use Rattle.std.specs.FinMap.{empty, entries, insert};
 ghost use Rattle.std.specs.FinMap.Entries.{put};
 ghost use Rattle.rules.specs.State.{State, key_cmp, set_at};
 ghost use Rattle.rules.specs.Delta.{change_of};
@@ -78,6 +78,17 @@ fn put(edits: &mut Vec<Edit>, edit: Edit) -> Result<(), AllocError>
     Ok(())
 }
 
+/// The same edits, each with one more owner of its row.
+fn shared(alloc: Global, edits: &[Edit]) -> Result<Vec<Edit>, AllocError>
+    ensures { IfOk result (λ shared. shared.items ≡ edits.now) }
+{
+    let mut shared = Vec::with_capacity(alloc, edits.len())?;
+    for edit in edits {
+        shared.push(edit.share(alloc)?)?;
+    }
+    Ok(shared)
+}
+
 impl Batch {
     /// No changes. Takes no memory.
     pub fn new(alloc: Global) -> Batch
@@ -125,5 +136,13 @@ impl Batch {
     {
         let change = change.share(self.alloc)?;
         self.set(change)
+    }
+
+    /// Its edits in the order of their keys, each with one more owner of its row.
+    pub(crate) fn share(&self) -> Result<Vec<Edit>, AllocError>
+        ensures edits { IfOk result (λ edits. edits.items ≡ entries self.now) }
+        ensures sorted { IfOk result (λ edits. IsSorted edits.items) }
+    {
+        shared(self.alloc, self.edits.as_slice())
     }
 }

@@ -1,6 +1,7 @@
 ghost use Rattle.std.specs.Prelude.{◌≡◌, IfOk};
 ghost use Rattle.rules.specs.State.{key_cmp};
 ghost use Rattle.rules.specs.Delta.{change_of};
+ghost use Rattle.state_db.specs.Need.{added};
 ghost use Rattle.state_db.specs.Search.{is_below};
 
 use crate::search::Ordered;
@@ -35,6 +36,22 @@ impl Edit {
         ensures { result ≡ change_of change }
     {
         Edit { change }
+    }
+
+    pub fn into_change(self) -> Change
+        ensures { change_of result ≡ self }
+    {
+        self.change
+    }
+
+    /// How many rows it may add.
+    pub fn added(&self) -> usize
+        ensures { result ≡ added self.now }
+    {
+        match &self.change {
+            Change::Put(_) => 1,
+            Change::Remove(_, _) => 0,
+        }
     }
 
     /// The same edit, with one more owner of its row. Takes memory for the key of a removal alone.

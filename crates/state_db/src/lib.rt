@@ -3,6 +3,7 @@
 //! A call takes constant time and no memory where it says nothing else.
 #![tactic(auto)]
 
+mod apply;
 mod batch;
 mod directory;
 mod edit;
@@ -12,6 +13,7 @@ mod rows;
 mod search;
 mod slot;
 mod slots;
+mod spare;
 mod state_db;
 mod wanted;
 

@@ -1,14 +1,17 @@
-ghost use Rattle.std.specs.Prelude.{◌≡◌, ◌≤◌, [], sum, length, IfSome, slice_get};
+ghost use Rattle.std.specs.Prelude.{◌≡◌, ◌≤◌, [], sum, length, IfSome, OnOk, OnErr, slice_get};
 ghost use Rattle.std.specs.Option.{option_copied};
 ghost use Rattle.std.specs.FinMap.{get, empty, entries};
 ghost use Rattle.rules.specs.Ranges.{is_within, rows_where};
+ghost use Rattle.state_db.specs.Batch.{changed};
 
+use crate::apply::{edit_pages, first_pages};
+use crate::batch::Batch;
 use crate::directory::row_of;
 use crate::page::Page;
 use crate::rows::{Rows, rows_from};
 use crate::wanted::Wanted;
 use rules::Row;
-use std::alloc::Global;
+use std::alloc::{AllocError, Global};
 use std::marker::Model;
 use values::{BoundRef, KeyRef, NameRef};
 
@@ -72,6 +75,21 @@ impl StateDb {
             namespace.as_slice(),
             end.as_slice(),
         )
+    }
+
+    /// Makes the changes of a batch, or none. All memory is taken first: for the shares of the batch's rows, and pages
+    /// for those that the changes may split. Each change takes logarithmic time and moves up to 256 rows of its page; a
+    /// page that comes or goes moves the pages behind it.
+    pub fn apply(&mut self, batch: &Batch) -> Result<(), AllocError>
+        ensures ok { OnOk result (self.new.state ≡ changed self.old.state batch.now) }
+        ensures err { OnErr result (self.new ≡ self.old) }
+    {
+        let edits = batch.share()?;
+        if self.pages.is_empty() {
+            self.pages = first_pages(self.alloc, edits)?;
+            return Ok(());
+        }
+        edit_pages(self.alloc, &mut self.pages, edits)
     }
 
     /// How many pages hold the rows.

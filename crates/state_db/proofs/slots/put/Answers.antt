@@ -1,9 +1,7 @@
-use Rattle.std.proofs.Common.{◌≡◌, ◌<◌, ℕ, Bool, true, false, List, length, sym, ap, subst, ◌∙◌, arith}
+use Rattle.std.proofs.Common.{◌≡◌, ◌<◌, Bool, true, false, length, sym, ap, subst, ◌∙◌, arith}
 use Rattle.std.specs.Prelude.{if◌then◌else◌}
 use Rattle.std.specs.List.{insert}
 use Rattle.std.specs.Vec.{vec_len, vec_capacity}
-use Rattle.rules.specs.declared.row.Row.{Row}
-use Rattle.rules.specs.State.{StateKey}
 use Rattle.state_db.specs.Pages.{RowList}
 use Rattle.state_db.specs.Search.{Falls, leading, is_below, ties_at}
 use Rattle.state_db.proofs.Order.{falls_sorted}
