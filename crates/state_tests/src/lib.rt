@@ -1,0 +1,7 @@
+//! Tests of what a ledger holds: rows in pages.
+#![tactic(auto)]
+
+#[cfg(test)]
+mod fixture;
+#[cfg(test)]
+mod pages;
