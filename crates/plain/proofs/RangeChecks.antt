@@ -21,7 +21,7 @@ use Rattle.rules.specs.declared.delta.Change.{Change}
 use Rattle.rules.specs.declared.delta.Delta.{Delta}
 use Rattle.rules.specs.declared.row.Row.{Row}
 use Rattle.rules.specs.State.{State, StateKey, key_cmp, version_in, is_same_key, with_changes, set_at}
-use Rattle.rules.specs.Delta.{changes_in}
+use Rattle.rules.specs.Delta.{change_of, changes_in}
 use Rattle.rules.specs.Ranges.{is_within, is_compared, results_of, range_holds}
 use Rattle.rules.specs.ReadWriteSets.{has_results_in_form}
 use Rattle.rules.specs.World.{World}
@@ -183,7 +183,7 @@ either_false false b e = (refl, e)
 
 -- whether a change is one of this key
 abbrev is_of : StateKey → Change → Bool
-is_of k c = is_same_key k (c.namespace, c.key)
+is_of k c = is_same_key k (change_of c).0
 
 -- a key that wasn't changed has the row that it had
 not_changed : (m : State) (cs : List Change) (k : StateKey) → list_any (is_of k) cs ≡ false → get (with_changes m (changes_in cs)) k ≡ get m k
@@ -191,7 +191,7 @@ unfolding with_changes
 not_changed m [] k e = refl
 not_changed m (c ∷ cs) k e =
     let neither = either_false (is_of k c) (list_any (is_of k) cs) e in
-    not_changed (set_at m (c.namespace, c.key) c.row) cs k neither.1 ∙ get-set_at m (c.namespace, c.key) c.row k ∙ ap (λ (b : Bool). cond b c.row (get m k)) neither.0
+    not_changed (set_at m (change_of c).0 (change_of c).1) cs k neither.1 ∙ get-set_at m (change_of c).0 (change_of c).1 k ∙ ap (λ (b : Bool). cond b (change_of c).1 (get m k)) neither.0
 
 -- a key with no result has no row in the compared part, where each changed key is listed
 not_there : (s : State) (namespace : List ℕ) (r : Range) (cs : List Change) (q : List ℕ) → s ≡ with_changes empty (changes_in cs) → list_all (is_listed s namespace r) cs ≡ true
@@ -204,12 +204,12 @@ not_there s namespace r cs q made all none = by (list_any (is_of (namespace, q))
     by : (b : Bool) → list_any (is_of (namespace, q)) cs ≡ b → ◌≡◌ {A = Option Version} (cond (is_compared r q) (version_in s (namespace, q)) None) None
     by true e =
         let one = one_of_both (is_listed s namespace r) (is_of (namespace, q)) cs all e in
-        let same : (namespace, q) ≡ (one.0.namespace, one.0.key) = same_key_is (namespace, q) (one.0.namespace, one.0.key) one.2 in
-        let key : q ≡ one.0.key = ap (λ (k : StateKey). k.1) same in
+        let same : (namespace, q) ≡ (change_of one.0).0 = same_key_is (namespace, q) (change_of one.0).0 one.2 in
+        let key : q ≡ (change_of one.0).0.1 = ap (λ (k : StateKey). k.1) same in
         subst (λ (k : List ℕ). ◌≡◌ {A = Option Version} (cond (is_compared r k) (version_in s (namespace, k)) None) None) (sym key)
-        (no_row_where (bytes_eq one.0.namespace namespace) (is_compared r one.0.key) (get s (namespace, one.0.key)) (list_any (λ x. bytes_eq one.0.key x.key) r.results)
-        ((bytes_decides one.0.namespace namespace).1 (sym (ap (λ (k : StateKey). k.0) same))) one.1
-        (sym (has_result one.0.key r.results) ∙ ap (λ (k : List ℕ). is_some (find bytes_cmp k (versions r.results))) (sym key) ∙ ap is_some none))
+        (no_row_where (bytes_eq (change_of one.0).0.0 namespace) (is_compared r (change_of one.0).0.1) (get s (namespace, (change_of one.0).0.1)) (list_any (λ x. bytes_eq (change_of one.0).0.1 x.key) r.results)
+        ((bytes_decides (change_of one.0).0.0 namespace).1 (sym (ap (λ (k : StateKey). k.0) same))) one.1
+        (sym (has_result (change_of one.0).0.1 r.results) ∙ ap (λ (k : List ℕ). is_some (find bytes_cmp k (versions r.results))) (sym key) ∙ ap is_some none))
     by false e = no_row (ap (λ (t : State). get t (namespace, q)) made ∙ not_changed empty cs (namespace, q) e ∙ get-empty key_cmp (namespace, q))
 
 -- ---- the law
@@ -227,8 +227,8 @@ range_by_checks s namespace r cs made rising = same_test (range_holds s namespac
         let at = law.0 h in
         and_true (list_all (is_found s namespace r) r.results) (list_all (is_listed s namespace r) cs)
         (each_found (is_found s namespace r) r.results (subst T (sym rising) tt) (λ x f. is_there (is_compared r x.key) (version_in s (namespace, x.key)) x.version (at x.key ∙ f)))
-        (all_of (is_listed s namespace r) cs (λ c. listed_where (bytes_eq c.namespace namespace) (is_compared r c.key) (get s (namespace, c.key)) (list_any (λ x. bytes_eq c.key x.key) r.results) (
-        sym (has_result c.key r.results) ∙ ap is_some (sym (at c.key)))))
+        (all_of (is_listed s namespace r) cs (λ c. listed_where (bytes_eq (change_of c).0.0 namespace) (is_compared r (change_of c).0.1) (get s (namespace, (change_of c).0.1)) (list_any (λ x. bytes_eq (change_of c).0.1 x.key) r.results) (
+        sym (has_result (change_of c).0.1 r.results) ∙ ap is_some (sym (at (change_of c).0.1)))))
 
     at_key : list_all (is_found s namespace r) r.results ≡ true → list_all (is_listed s namespace r) cs ≡ true → (q : List ℕ) (o : Option Version) → find bytes_cmp q (versions r.results) ≡ o → HoldsAtKey s namespace r q
     at_key found listed q None e = not_there s namespace r cs q made listed e ∙ sym e
@@ -250,7 +250,7 @@ all_of_deltas p (d ∷ ds) = list_all-append p d.changes (changes_before ds) ∙
 
 changes_of_deltas : (ds : List Delta) → changes_in (changes_before ds) ≡ flat_map (λ d. changes_in d.changes) ds
 changes_of_deltas [] = refl
-changes_of_deltas (d ∷ ds) = map-append (λ (c : Change). ((c.namespace, c.key), c.row)) d.changes (changes_before ds) ∙ ap (λ l. changes_in d.changes ++ l) (changes_of_deltas ds)
+changes_of_deltas (d ∷ ds) = map-append change_of d.changes (changes_before ds) ∙ ap (λ l. changes_in d.changes ++ l) (changes_of_deltas ds)
 
 -- over a world that deltas made, and the changes since
 pub range_over_deltas : (w : World) (ds : List Delta) (changes : List Change) (s : State) (namespace : List ℕ) (r : Range) → w ≡ world_of ds → s ≡ with_changes w.state (changes_in changes) → IsTrue (has_results_in_form r)
@@ -264,4 +264,4 @@ range_over_deltas w ds changes s namespace r made now sound =
     all_made =
         now ∙ ap (λ (v : World). with_changes v.state (changes_in changes)) made
         ∙ sym (with_changes-append empty (flat_map (λ d. changes_in d.changes) ds) (changes_in changes))
-        ∙ ap (with_changes empty) (ap (λ l. l ++ changes_in changes) (sym (changes_of_deltas ds)) ∙ sym (map-append (λ (c : Change). ((c.namespace, c.key), c.row)) (changes_before ds) changes))
+        ∙ ap (with_changes empty) (ap (λ l. l ++ changes_in changes) (sym (changes_of_deltas ds)) ∙ sym (map-append change_of (changes_before ds) changes))

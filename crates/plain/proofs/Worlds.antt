@@ -16,7 +16,7 @@ use Rattle.rules.specs.State.{State, StateKey, key_cmp, is_same_key, with_change
 use Rattle.rules.specs.History.{with_entries}
 use Rattle.rules.specs.FirstUses.{with_uses}
 use Rattle.rules.specs.World.{empty_world}
-use Rattle.rules.specs.Delta.{changes_in, entries_in, uses_in, applied}
+use Rattle.rules.specs.Delta.{change_of, changes_in, entries_in, uses_in, applied}
 use Rattle.rules.proofs.Keys.{bytes_ties}
 use Rattle.rules.proofs.Changes.{get-set_at, with_changes-none, with_changes-append, with_changes-push}
 use Rattle.rules.proofs.HistoryEntries.{with_entries-none, with_entries-append}
@@ -25,12 +25,12 @@ use Rattle.plain.specs.Deltas.{world_of}
 
 -- the row of a key after one change more
 pub one_change : (s : State) (changes : List Change) (i : ℕ) (c : Change) (k : StateKey) → i < length changes → c ≡ get_or changes i c
-    → get (with_changes s (changes_in (take (i + 1) changes))) k ≡ (if is_same_key k (c.namespace, c.key) then c.row else get (with_changes s (changes_in (take i changes))) k)
+    → get (with_changes s (changes_in (take (i + 1) changes))) k ≡ (if is_same_key k (change_of c).0 then (change_of c).1 else get (with_changes s (changes_in (take i changes))) k)
 one_change s changes i c k lt is =
     ap (λ (cs : List Change). get (with_changes s (changes_in cs)) k) (take_more changes i c lt ∙ ap (λ (x : Change). take i changes ++ x ∷ []) (sym is))
-    ∙ ap (λ l. get (with_changes s l) k) (map_push (λ (x : Change). ((x.namespace, x.key), x.row)) (take i changes) c)
-    ∙ ap (λ (t : State). get t k) (with_changes-push s (changes_in (take i changes)) ((c.namespace, c.key), c.row))
-    ∙ get-set_at (with_changes s (changes_in (take i changes))) (c.namespace, c.key) c.row k
+    ∙ ap (λ l. get (with_changes s l) k) (map_push change_of (take i changes) c)
+    ∙ ap (λ (t : State). get t k) (with_changes-push s (changes_in (take i changes)) (change_of c))
+    ∙ get-set_at (with_changes s (changes_in (take i changes))) (change_of c).0 (change_of c).1 k
 
 -- one delta more
 pub one_delta : (ds : List Delta) (d : Delta) → world_of (ds ++ d ∷ []) ≡ applied (world_of ds) d

@@ -9,6 +9,7 @@ use Rattle.transaction.specs.declared.transaction.KeyVersion.{KeyVersion}
 use Rattle.transaction.specs.Same.{is_same_version}
 use Rattle.rules.specs.declared.delta.Change.{Change}
 use Rattle.rules.specs.State.{State, version_in}
+use Rattle.rules.specs.Delta.{change_of}
 use Rattle.rules.specs.Ranges.{is_compared}
 
 -- a result is a row of the compared part, with its version
@@ -18,4 +19,4 @@ is_found s namespace r x = is_compared r x.key && option_eq is_same_version (ver
 -- a changed key that has a row in the compared part is a result
 abbrev pub is_listed : State → List ℕ → Range → Change → Bool
 is_listed s namespace r c =
-    not (bytes_eq c.namespace namespace) || not (is_compared r c.key) || is_none (get s (namespace, c.key)) || list_any (λ x. bytes_eq c.key x.key) r.results
+    let k = (change_of c).0 in not (bytes_eq k.0 namespace) || not (is_compared r k.1) || is_none (get s (namespace, k.1)) || list_any (λ x. bytes_eq k.1 x.key) r.results

@@ -3,7 +3,7 @@ ghost use Rattle.std.specs.Prelude.{◌≡◌, ◌++◌, map, find, Some, None, 
 ghost use Rattle.std.specs.Option.{option_copied};
 ghost use Rattle.std.specs.FinMap.{get};
 ghost use Rattle.std.specs.Str.{bytes_eq};
-ghost use Rattle.rules.specs.Delta.{changes_in, entries_in};
+ghost use Rattle.rules.specs.Delta.{change_of, changes_in, entries_in};
 ghost use Rattle.rules.specs.Effect as effect;
 ghost use Rattle.rules.specs.History as history;
 ghost use Rattle.plain.specs.Keys.{key_of};
@@ -13,10 +13,10 @@ use crate::candidate::OpenTx;
 use crate::state::StateNow;
 use crate::state_key::StateKey;
 use policy::{Policy, PolicyFault};
-use rules::{Change, HistoryEntry, NewEntry, Row};
+use rules::{Change, HistoryEntry, KeyedRow, NewEntry, Row};
 use std::alloc::{AllocError, Global};
 use transaction::{NsSet, PolicyWrite, Tx, Version, Write};
-use values::{Bytes, KeyRef, NameRef, Slice};
+use values::{Bytes, KeyRef, NameRef, Shared, Slice};
 
 fn set_of<'a>(tx: &'a Tx<'a>, namespace: &NameRef<'_>) -> Option<&'a NsSet<'a>>
     ensures { option_copied result ≡ effect.set_of tx.now namespace.now }
@@ -60,22 +60,22 @@ fn policy_write_of<'a>(tx: &'a Tx<'a>, key: &StateKey<'_>) -> Option<&'a PolicyW
     }
 }
 
-fn copy_policy(alloc: Global, policy: Option<&Policy>) -> Result<Option<Policy>, AllocError>
-    ensures { IfOk result (λ copied. copied ≡ option_copied policy.entry) }
+fn share_policy(policy: &Option<Shared<Policy>>) -> Result<Option<Shared<Policy>>, AllocError>
+    ensures { IfOk result (λ shared. shared ≡ policy.now) }
 {
     match policy {
         None => Ok(None),
-        Some(policy) => Ok(Some(policy.copy(alloc)?)),
+        Some(policy) => Ok(Some(policy.share()?)),
     }
 }
 
-fn policy_left(alloc: Global, write: &PolicyWrite<'_>) -> Result<Option<Policy>, AllocError>
+fn policy_left(alloc: Global, write: &PolicyWrite<'_>) -> Result<Option<Shared<Policy>>, AllocError>
     ensures { IfOk result (λ policy. policy ≡ effect.policy_left write.now) }
 {
     match &write.policy {
         None => Ok(None),
         Some(text) => match Policy::parse_bytes(alloc, text.as_slice()) {
-            Ok(policy) => Ok(Some(policy)),
+            Ok(policy) => Ok(Some(Shared::new(alloc, policy)?)),
             Err(PolicyFault::Memory) => Err(AllocError),
             Err(_) => Ok(None),
         },
@@ -86,12 +86,12 @@ fn policy_after(
     alloc: Global,
     write: Option<&PolicyWrite<'_>>,
     row: Option<&Row>,
-) -> Result<Option<Policy>, AllocError>
+) -> Result<Option<Shared<Policy>>, AllocError>
     ensures { IfOk result (λ policy. policy ≡ effect.policy_after (option_copied write.entry) (option_copied row.entry)) }
 {
     match (write, row) {
         (Some(write), _) => policy_left(alloc, write),
-        (None, Some(row)) => copy_policy(alloc, row.policy.as_ref()),
+        (None, Some(row)) => share_policy(&row.policy),
         (None, None) => Ok(None),
     }
 }
@@ -108,7 +108,7 @@ fn value_written(
     match &write.value {
         None => Ok(None),
         Some(value) => Ok(Some(Row {
-            value: value.copy(alloc)?,
+            value: Shared::new(alloc, value.copy(alloc)?)?,
             version,
             policy: policy_after(alloc, policy_write, row)?,
         })),
@@ -126,22 +126,22 @@ fn policy_written(
     match row {
         None => Ok(None),
         Some(row) => Ok(Some(Row {
-            value: row.value.copy(alloc)?,
+            value: row.value.share()?,
             version,
             policy: policy_left(alloc, policy_write)?,
         })),
     }
 }
 
-fn copy_row(alloc: Global, row: Option<&Row>) -> Result<Option<Row>, AllocError>
-    ensures { IfOk result (λ copied. copied ≡ option_copied row.entry) }
+fn share_row(row: Option<&Row>) -> Result<Option<Row>, AllocError>
+    ensures { IfOk result (λ shared. shared ≡ option_copied row.entry) }
 {
     match row {
         None => Ok(None),
         Some(row) => Ok(Some(Row {
-            value: row.value.copy(alloc)?,
+            value: row.value.share()?,
             version: row.version,
-            policy: copy_policy(alloc, row.policy.as_ref())?,
+            policy: share_policy(&row.policy)?,
         })),
     }
 }
@@ -160,25 +160,37 @@ fn effect_at(
     match (write_of(tx, key), policy_write) {
         (Some(write), _) => value_written(alloc, version, write, policy_write, row),
         (None, Some(policy_write)) => policy_written(alloc, version, policy_write, row),
-        (None, None) => copy_row(alloc, row),
+        (None, None) => share_row(row),
     }
 }
 
-fn change_of(
+/// The change of a key to a row, or to none.
+fn change_to(alloc: Global, key: &StateKey<'_>, row: Option<Row>) -> Result<Change, AllocError>
+    ensures { IfOk result (λ c. change_of c ≡ (key_of key.now, row)) }
+{
+    match row {
+        None => Ok(Change::Remove(key.namespace.copy(alloc)?, key.key.copy(alloc)?)),
+        Some(row) => {
+            let row = KeyedRow::new(alloc, &key.namespace, &key.key, row)?;
+            Ok(Change::Put(Shared::new(alloc, row)?))
+        }
+    }
+}
+
+fn change_at(
     alloc: Global,
     version: Version,
     tx: &Tx<'_>,
     state: StateNow<'_>,
     key: &StateKey<'_>,
 ) -> Result<Change, AllocError>
-    ensures key { IfOk result (λ c. (c.namespace, c.key) ≡ key_of key.now) }
-    ensures row { IfOk result (λ c. c.row ≡ effect.effect_at version tx.now (key_of key.now) (get (state_now state.entry) (key_of key.now))) }
+    ensures { IfOk result (λ c. change_of c ≡ (key_of key.now, effect.effect_at version tx.now (key_of key.now) (get (state_now state.entry) (key_of key.now)))) }
 {
-    Ok(Change {
-        namespace: key.namespace.copy(alloc)?,
-        key: key.key.copy(alloc)?,
-        row: effect_at(alloc, version, tx, key, state.row(key))?,
-    })
+    change_to(
+        alloc,
+        key,
+        effect_at(alloc, version, tx, key, state.row(key))?,
+    )
 }
 
 /// The changes of the state by a valid transaction.
@@ -192,17 +204,17 @@ pub(crate) fn changes_of(
 {
     let mut changes = Vec::new(alloc);
     for key in &open_tx.written {
-        changes.push(change_of(alloc, version, &open_tx.tx, state, key)?)?;
+        changes.push(change_at(alloc, version, &open_tx.tx, state, key)?)?;
     }
     Ok(changes)
 }
 
-fn copy_value(alloc: Global, value: &Option<Slice<'_>>) -> Result<Option<Bytes>, AllocError>
+fn copy_value(alloc: Global, value: &Option<Slice<'_>>) -> Result<Option<Shared<Bytes>>, AllocError>
     ensures { IfOk result (λ copied. copied ≡ value.now) }
 {
     match value {
         None => Ok(None),
-        Some(value) => Ok(Some(value.copy(alloc)?)),
+        Some(value) => Ok(Some(Shared::new(alloc, value.copy(alloc)?)?)),
     }
 }
 

@@ -33,7 +33,7 @@ fn governing<'a>(
 {
     if let Some(row) = world.row_at(key) {
         if let Some(own) = &row.policy {
-            return Some(own);
+            return Some(own.get());
         }
     }
     definitions.of(&key.namespace)

@@ -62,9 +62,9 @@ fn is_listed(
 ) -> bool
     ensures { result ≡ is_listed (state_now state.entry) namespace.now range.now change.now }
 {
-    let changed = change.key.lend();
+    let changed = change.key();
     let key = StateKey::new(namespace, &changed);
-    !change.namespace.lend().is_same(namespace)
+    !change.namespace().is_same(namespace)
         || !is_compared(range, &changed)
         || state.row(&key).is_none()
         || is_result(range, &changed)

@@ -1,8 +1,10 @@
 ghost use Rattle.std.specs.Prelude.{◌≡◌, ◌++◌, IfOk, OnOk};
 ghost use Rattle.rules.specs.State.{is_same_key};
+ghost use Rattle.rules.specs.Delta.{change_of};
 ghost use Rattle.rules.specs.Effect as effect;
 ghost use Rattle.plain.specs.Keys.{key_of, keys_of};
 
+use rules::Change;
 use std::alloc::{AllocError, Global};
 use transaction::{NsSet, Tx};
 use values::{Key, KeyRef, Name, NameRef};
@@ -37,6 +39,12 @@ impl<'a> StateKey<'a> {
         ensures { result ≡ is_same_key (key_of self.now) (key_of other.now) }
     {
         self.namespace.is_same(&other.namespace) && self.key.is_same(&other.key)
+    }
+
+    pub fn is_changed(&self, change: &Change) -> bool
+        ensures { result ≡ is_same_key (key_of self.now) (change_of change.now).0 }
+    {
+        self.namespace.is_same(&change.namespace()) && self.key.is_same(&change.key())
     }
 
     pub fn is_owned(&self, namespace: &Name, key: &Key) -> bool

@@ -20,7 +20,7 @@ use policy_eval::Verify;
 use rules::{Accepted, CommittedBlock, Delta, FirstUse, Flag, NewUse, Refused};
 use std::alloc::{AllocError, Global};
 use transaction::TxId;
-use values::{Bytes, Items};
+use values::{Bytes, Hash, Items, Shared};
 
 /// Where the ids of a block's places are used, each with the place's flag.
 fn uses_of(
@@ -76,6 +76,25 @@ fn taken<V: Verify>(
     Ok((folded, uses))
 }
 
+/// The block as it is kept.
+fn kept(
+    alloc: Global,
+    bytes: &[u8],
+    header_hash: Hash,
+    flags: Items<Flag>,
+) -> Result<Shared<CommittedBlock>, AllocError>
+    ensures { IfOk result (λ kept. kept ≡ record { bytes = bytes.now; header_hash = header_hash; flags = flags }) }
+{
+    Shared::new(
+        alloc,
+        CommittedBlock {
+            bytes: Bytes::from_slice(alloc, bytes)?,
+            header_hash,
+            flags,
+        },
+    )
+}
+
 /// Takes the bytes of the next block of a channel: accepts them, or refuses them and changes nothing.
 ///
 /// Slow, with no cleverness at all. Each look-up of a row goes through all changes that the world ever made, so that a
@@ -106,11 +125,7 @@ pub fn submit<V: Verify>(
         changes: Items::from_vec(folded.changes),
         entries: Items::from_vec(folded.entries),
         uses: Items::from_vec(uses),
-        block: CommittedBlock {
-            bytes: Bytes::from_slice(alloc, bytes)?,
-            header_hash,
-            flags,
-        },
+        block: kept(alloc, bytes, header_hash, flags)?,
     })?;
     Ok(accepted)
 }

@@ -45,8 +45,8 @@ pub(crate) fn row_after<'a>(
 {
     let mut row = before;
     for change in changes {
-        if wanted.is_owned(&change.namespace, &change.key) {
-            row = change.row.as_ref();
+        if wanted.is_changed(change) {
+            row = change.row();
         }
     }
     row
@@ -103,7 +103,7 @@ impl World {
     {
         match self.deltas.last() {
             None => None,
-            Some(delta) => Some(delta.block.header_hash),
+            Some(delta) => Some(delta.block.get().header_hash),
         }
     }
 
@@ -113,7 +113,7 @@ impl World {
     {
         match self.deltas.get(number as usize) {
             None => None,
-            Some(delta) => Some(&delta.block),
+            Some(delta) => Some(delta.block.get()),
         }
     }
 

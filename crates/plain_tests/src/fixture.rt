@@ -62,7 +62,7 @@ pub fn row_at<'a>(
 pub fn policy_text(alloc: Global, row: &Row) -> Result<String, Fail> {
     Ok(match &row.policy {
         None => String::new(alloc),
-        Some(policy) => policy.text(alloc)?,
+        Some(policy) => policy.get().text(alloc)?,
     })
 }
 

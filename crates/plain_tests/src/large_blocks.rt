@@ -35,7 +35,7 @@ fn three_megabytes(rt: HostRuntime) -> Result<(), Fail> {
     assert_eq!(rt; flags.as_slice(), [0, 0, 0].as_slice());
     for key in b"abc" {
         let row = row_at(alloc, &world, b"cc", &[*key])?.ok_or("the key has a row")?;
-        assert_eq!(rt; row.value.len(), LARGE as usize);
+        assert_eq!(rt; row.value.get().len(), LARGE as usize);
     }
     Ok(())
 }

@@ -7,6 +7,7 @@ use Rattle.rules.specs.contracts.history.HistoryEntry as entry
 use Rattle.rules.specs.contracts.first_use.FirstUse as first_use
 use Rattle.rules.specs.contracts.committed.CommittedBlock as committed
 use Rattle.rules.specs.declared.committed.CommittedBlock.{CommittedBlock}
+use Rattle.rules.specs.declared.row.Row.{Row}
 use Rattle.rules.specs.State.{StateKey, State}
 use Rattle.rules.specs.History.{History}
 use Rattle.rules.specs.FirstUses.{FirstUses}
@@ -14,6 +15,10 @@ use Rattle.rules.specs.World.{World}
 
 abbrev pub key_code : Coded StateKey
 key_code = coded× (coded_list coded_ℕ) (coded_list coded_ℕ)
+
+-- rows with their keys
+abbrev pub keyed_row_code : Coded (StateKey × Row)
+keyed_row_code = coded× key_code (row.the_row).coded
 
 abbrev pub state_code : Coded State
 state_code = map.code key_code (row.the_row).coded

@@ -1,10 +1,11 @@
 -- The change of one block as plain data.
-use Rattle.std.specs.Prelude.{◌≡◌, ℕ, List, [], ◌∷◌, ◌++◌, map, Option}
+use Rattle.std.specs.Prelude.{◌≡◌, ℕ, List, [], ◌∷◌, ◌++◌, map, Option, Some, None}
 use Rattle.transaction.specs.declared.transaction.Tx.{Tx}
 use Rattle.policy_eval.specs.Accepts.{Accepts}
 use Rattle.channel.specs.Configuration.{Configuration}
 use Rattle.rules.specs.declared.committed.CommittedBlock.{CommittedBlock}
 use Rattle.rules.specs.declared.delta.Change.{Change}
+use Rattle.rules.specs.declared.delta.Change.TheVariants.{Put, Remove}
 use Rattle.rules.specs.declared.delta.NewEntry.{NewEntry}
 use Rattle.rules.specs.declared.delta.NewUse.{NewUse}
 use Rattle.rules.specs.declared.delta.Delta.{Delta}
@@ -17,8 +18,12 @@ use Rattle.rules.specs.FirstUses.{with_uses}
 use Rattle.rules.specs.World.{World}
 use Rattle.rules.specs.Commit.{committed}
 
+abbrev pub change_of : Change → ChangeOf Row
+change_of (Put r) = (r.0, Some r.1)
+change_of (Remove namespace key) = ((namespace, key), None)
+
 abbrev pub changes_in : List Change → List (ChangeOf Row)
-changes_in cs = map (λ c. ((c.namespace, c.key), c.row)) cs
+changes_in cs = map change_of cs
 
 abbrev pub entries_in : List NewEntry → List (StateKey × HistoryEntry)
 entries_in es = map (λ e. ((e.namespace, e.key), e.entry)) es

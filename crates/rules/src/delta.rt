@@ -1,16 +1,63 @@
+ghost use Rattle.std.specs.Prelude.{◌≡◌, IfOk};
+ghost use Rattle.std.specs.Option.{option_copied};
+ghost use Rattle.rules.specs.Delta.{change_of};
+
 use crate::committed::CommittedBlock;
 use crate::first_use::FirstUse;
 use crate::history::HistoryEntry;
+use crate::keyed_row::KeyedRow;
 use crate::row::Row;
+use std::alloc::{AllocError, Global};
 use transaction::TxId;
-use values::{Items, Key, Name};
+use values::{Items, Key, KeyRef, Name, NameRef, Shared};
 
-/// What a key has from now on, or none where it is removed.
+/// What a key has from now on.
 #[derive(Drop)]
-pub struct Change {
-    pub namespace: Name,
-    pub key: Key,
-    pub row: Option<Row>,
+pub enum Change {
+    Put(Shared<KeyedRow>),
+    Remove(Name, Key),
+}
+
+impl Change {
+    pub fn namespace(&self) -> NameRef<'_>
+        ensures { result ≡ (change_of self.now).0.0 }
+    {
+        match self {
+            Change::Put(row) => row.get().namespace(),
+            Change::Remove(namespace, _) => namespace.lend(),
+        }
+    }
+
+    pub fn key(&self) -> KeyRef<'_>
+        ensures { result ≡ (change_of self.now).0.1 }
+    {
+        match self {
+            Change::Put(row) => row.get().key(),
+            Change::Remove(_, key) => key.lend(),
+        }
+    }
+
+    /// The row, or none where the key is removed.
+    pub fn row(&self) -> Option<&Row>
+        ensures { option_copied result ≡ (change_of self.now).1 }
+    {
+        match self {
+            Change::Put(row) => Some(row.get().row()),
+            Change::Remove(_, _) => None,
+        }
+    }
+
+    /// The same change, with one more owner of its row. Takes memory for the key of a removal alone.
+    pub fn share(&self, alloc: Global) -> Result<Change, AllocError>
+        ensures { IfOk result (λ shared. shared ≡ self.now) }
+    {
+        match self {
+            Change::Put(row) => Ok(Change::Put(row.share()?)),
+            Change::Remove(namespace, key) => {
+                Ok(Change::Remove(namespace.copy(alloc)?, key.copy(alloc)?))
+            }
+        }
+    }
 }
 
 /// A history entry of a key.
@@ -34,5 +81,5 @@ pub struct Delta {
     pub changes: Items<Change>,
     pub entries: Items<NewEntry>,
     pub uses: Items<NewUse>,
-    pub block: CommittedBlock,
+    pub block: Shared<CommittedBlock>,
 }

@@ -1,13 +1,13 @@
 use policy::Policy;
 use transaction::Version;
-use values::Bytes;
+use values::{Bytes, Shared};
 
 /// What the state has at a key.
 #[derive(Drop)]
 pub struct Row {
-    pub value: Bytes,
+    pub value: Shared<Bytes>,
     /// The place of the transaction that wrote the row last, its value or its policy.
     pub version: Version,
     /// The key's own policy, if it has one.
-    pub policy: Option<Policy>,
+    pub policy: Option<Shared<Policy>>,
 }

@@ -1,0 +1,6 @@
+mod Batches
+mod Heads
+mod Leading
+mod Order
+mod Puts
+mod Tests

@@ -1,0 +1,4 @@
+pub mod Code
+pub mod Head
+pub mod Search
+pub mod Batch
