@@ -11,10 +11,10 @@ use Rattle.std.specs.FinMap.Entries.{below_all}
 use Rattle.rules.specs.State.{StateKey, key_cmp}
 use Rattle.rules.proofs.Booleans.{both_true}
 use Rattle.rules.proofs.Keys.{key_cmp_total}
-use Rattle.state_db.specs.Search.{Keyed, IsSorted, is_below, leading, Falls}
+use Rattle.state_db.specs.Search.{Keyed, IsSorted, is_below, leading, Falls, if_it}
 use Rattle.state_db.proofs.Tests.{is_Less, second_false}
 
-any_append : {Y : Type 0} (test : Y → Bool) (xs ys : List Y) → list_any test (xs ++ ys) ≡ false → list_any test ys ≡ false
+pub any_append : {Y : Type 0} (test : Y → Bool) (xs ys : List Y) → list_any test (xs ++ ys) ≡ false → list_any test ys ≡ false
 any_append test [] ys e = e
 any_append test (x ∷ xs) ys e = any_append test xs ys (second_false (test x) (list_any test (xs ++ ys)) e)
 
@@ -26,6 +26,10 @@ all_lead test (e ∷ es) h =
 
 pub turned : (k q : StateKey) → eq_by_cmp key_cmp q k ≡ is_eq (key_cmp k q)
 turned k q = (eq_by_cmp_equiv key_cmp_total).symm q k
+
+pub alone : (b : Bool) → b ≡ (b && true)
+alone true = refl
+alone false = refl
 
 module _ {X : Type 0} where
   -- ---- parts of a list in order
@@ -80,29 +84,25 @@ module _ {X : Type 0} where
       by true s r = r parts.1 (ap (λ (b : Bool). b && list_all (is_below k) ls) (sym s) ∙ e)
       by false s r = any_append (is_below k) ls rs (none_below k a (ls ++ rs) parts.0 s)
 
-  -- the last decides for all
-  pub last_decides : (k : StateKey) (es : List (Keyed X)) (n : ℕ) (d : Keyed X) → IsSorted es → length es ≡ suc n → is_below k (get_or es n d) ≡ list_all (is_below k) es
-  last_decides k [] n d h lt = absurd (omega arith)
-  last_decides k (e ∷ []) zero d h lt = by (is_below k e)
+  -- where all behind the first stand before the key, it does too
+  pub others_decide : (k : StateKey) (e f : Keyed X) (es : List (Keyed X)) → IsSorted (e ∷ f ∷ es) → list_all (is_below k) (f ∷ es) ≡ list_all (is_below k) (e ∷ f ∷ es)
+  others_decide k e f es h = by (is_below k e) refl (list_all (is_below k) (f ∷ es)) refl
     where
-      by : (b : Bool) → b ≡ (b && true)
-      by true = refl
-      by false = refl
-  last_decides k (e ∷ []) (suc n) d h lt = absurd (omega arith)
-  last_decides k (e ∷ (f ∷ es)) zero d h lt = absurd (omega arith)
-  last_decides k (e ∷ (f ∷ es)) (suc n) d h lt =
-      last_decides k (f ∷ es) n d parts.1 (omega arith) ∙ by (is_below k e) refl (list_all (is_below k) (f ∷ es)) refl
-    where
-      parts : (below_all key_cmp e.0 (f ∷ es) ≡ true) × (is_sorted key_cmp (f ∷ es) ≡ true)
-      parts = both_true (below_all key_cmp e.0 (f ∷ es)) (is_sorted key_cmp (f ∷ es)) h
-
       by : (b : Bool) → is_below k e ≡ b → (c : Bool) → list_all (is_below k) (f ∷ es) ≡ c → c ≡ (b && c)
       by true s c t = refl
       by false s false t = refl
       by false s true t =
-          let none : (is_below k f || list_any (is_below k) es) ≡ false = none_below k e (f ∷ es) parts.0 s in
+          let none : (is_below k f || list_any (is_below k) es) ≡ false = none_below k e (f ∷ es) (both_true (below_all key_cmp e.0 (f ∷ es)) (is_sorted key_cmp (f ∷ es)) h).0 s in
           let first : is_below k f ≡ true = (both_true (is_below k f) (list_all (is_below k) es) t).0 in
           let wrong : true ≡ false = sym (ap (λ (b : Bool). b || list_any (is_below k) es) first) ∙ none in cc
+
+  -- the last decides for all
+  pub last_decides : (k : StateKey) (es : List (Keyed X)) (n : ℕ) (d : Keyed X) → IsSorted es → length es ≡ suc n → is_below k (get_or es n d) ≡ list_all (is_below k) es
+  last_decides k [] n d h l = absurd (omega arith)
+  last_decides k (e ∷ []) zero d h l = alone (is_below k e)
+  last_decides k (e ∷ []) (suc n) d h l = absurd (omega arith)
+  last_decides k (e ∷ f ∷ es) zero d h l = absurd (omega arith)
+  last_decides k (e ∷ f ∷ es) (suc n) d h l = last_decides k (f ∷ es) n d (sorted_back (e ∷ []) (f ∷ es) h) (omega arith) ∙ others_decide k e f es h
 
   -- ---- what has a key
 
@@ -128,10 +128,6 @@ module _ {X : Type 0} where
   below_more k x (e ∷ es) lt h =
       let parts = both_true (is_lt (key_cmp x e.0)) (below_all key_cmp x es) h in
       (λ i. is_lt (key_cmp_total.trans k x e.0 lt (is_Less (key_cmp x e.0) parts.0) i) && below_more k x es lt parts.1 i)
-
-  -- what one that isn't before the key has of it
-  abbrev pub if_it : StateKey → Keyed X → Option X
-  if_it k e = if is_eq (key_cmp e.0 k) then Some e.1 else None
 
   find_here : (k : StateKey) (e : Keyed X) (es : List (Keyed X)) → below_all key_cmp e.0 es ≡ true → is_below k e ≡ false → find key_cmp k (e ∷ es) ≡ if_it k e
   find_here k e es h fails = ap (λ (b : Bool). cond b (Some e.1) (find key_cmp k es)) (turned e.0 k) ∙ by (key_cmp e.0 k) refl
@@ -179,3 +175,15 @@ module _ {X : Type 0} where
   -- where the last stands before the key, all do
   pub all_before : (k : StateKey) (es : List (Keyed X)) (e : Keyed X) → IsSorted es → 0 < length es → e ≡ get_or es (length es - 1) e → is_below k e ≡ true → list_all (is_below k) es ≡ true
   all_before k es e h some is below = sym (last_decides k es (length es - 1) e h (omega arith)) ∙ ap (is_below k) (sym is) ∙ below
+
+  -- a key that not all of a part stand before belongs to that part
+  place_in : (k : StateKey) (ls rs : List (Keyed X)) → list_all (is_below k) ls ≡ false → at_place k (ls ++ rs) ≡ at_place k ls
+  place_in k [] rs h = absurd cc
+  place_in k (a ∷ ls) rs h = by (is_below k a) h (place_in k ls rs)
+    where
+      by : (b : Bool) → (b && list_all (is_below k) ls) ≡ false → (list_all (is_below k) ls ≡ false → at_place k (ls ++ rs) ≡ at_place k ls) → (if b then at_place k (ls ++ rs) else if_it k a) ≡ (if b then at_place k ls else if_it k a)
+      by true s r = r s
+      by false s r = refl
+
+  pub find_in : (k : StateKey) (ls rs : List (Keyed X)) → IsSorted (ls ++ rs) → list_all (is_below k) ls ≡ false → find key_cmp k (ls ++ rs) ≡ find key_cmp k ls
+  find_in k ls rs h e = find_at k (ls ++ rs) h ∙ place_in k ls rs e ∙ sym (find_at k ls (sorted_front ls rs h))

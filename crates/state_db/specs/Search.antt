@@ -1,5 +1,5 @@
 -- What stands before a key, in lists in the order of keys. No public contract cites this.
-use Rattle.std.specs.Prelude.{◌≡◌, ℕ, zero, suc, Bool, true, false, List, [], ◌∷◌, if◌then◌else◌, ⊤}
+use Rattle.std.specs.Prelude.{◌≡◌, ℕ, zero, suc, Bool, true, false, List, [], ◌∷◌, Option, Some, None, if◌then◌else◌, ⊤}
 use Rattle.std.specs.List.{list_any}
 use Rattle.std.specs.Ordering.{is_lt, is_eq}
 use Rattle.std.specs.FinMap.{is_sorted}
@@ -32,3 +32,7 @@ leading test (x ∷ xs) = if test x then suc (leading test xs) else 0
 abbrev pub Falls : {X : Type 0} → (X → Bool) → List X → Type 0
 Falls test [] = ⊤
 Falls test (x ∷ xs) = (test x ≡ false → list_any test xs ≡ false) × Falls test xs
+
+-- what has the key, or none
+abbrev pub if_it : {X : Type 0} → StateKey → Keyed X → Option X
+if_it k e = if is_eq (key_cmp e.0 k) then Some e.1 else None

@@ -4,9 +4,16 @@
 #![tactic(auto)]
 
 mod batch;
+mod directory;
 mod edit;
 mod head;
+mod page;
+mod rows;
 mod search;
+mod slot;
+mod state_db;
 mod wanted;
 
 pub use batch::Batch;
+pub use rows::Rows;
+pub use state_db::StateDb;

@@ -1,6 +1,8 @@
 ghost use Rattle.std.specs.Prelude.{◌≡◌, IsTrue};
+ghost use Rattle.std.specs.declared.cmp.Ordering.TheVariants.{Less, Greater};
 ghost use Rattle.values.specs.Name.{is_name};
-ghost use Rattle.rules.specs.State.{key_cmp};
+ghost use Rattle.rules.specs.State.{StateKey, key_cmp};
+ghost use Rattle.state_db.specs.Head.{head_of};
 
 use crate::head::{Head, head_of};
 use std::cmp::Ordering;
@@ -40,6 +42,14 @@ impl<'a> Wanted<'a> {
             namespace,
             key,
         }
+    }
+
+    /// How a key with this head stands to this one, or `Equal` where the heads don't tell.
+    pub fn order_of_head(&self, head: &Head) -> Ordering
+        ensures less { (k : StateKey) → IsTrue (is_name k.0) → head.now ≡ head_of k → result ≡ Less → key_cmp k self.now ≡ Less }
+        ensures greater { (k : StateKey) → IsTrue (is_name k.0) → head.now ≡ head_of k → result ≡ Greater → key_cmp k self.now ≡ Greater }
+    {
+        head.cmp(&self.head)
     }
 
     /// How a key stands to this one.
