@@ -1,0 +1,4 @@
+mod Uses
+mod Marking
+mod Room
+mod Worked

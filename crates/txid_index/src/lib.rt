@@ -1,0 +1,7 @@
+//! The ids that transactions used: where each was used first, in constant time for one id.
+#![tactic(auto)]
+
+mod ids;
+mod marks;
+
+pub use ids::TxIds;

@@ -1,0 +1,43 @@
+ghost use Rattle.std.specs.Prelude.{◌≡◌, ◌++◌, [], option_to_list, IfOk, OnOk};
+ghost use Rattle.std.specs.FinMap.{from_entries};
+ghost use Rattle.rules.specs.Candidate.{is_used};
+ghost use Rattle.txid_index.specs.Marks.{marks};
+ghost use Rattle.txid_index.specs.SameIds.{HaveSameIds};
+
+use rules::FirstUse;
+use std::alloc::{AllocError, Global};
+use std::collections::{HashMap, HashSet};
+use transaction::TxId;
+
+/// Whether the id of a place is used, there or at an earlier place. It is an earlier one from then on.
+fn mark(
+    uses: &HashMap<TxId, FirstUse>,
+    earlier: &mut HashSet<TxId>,
+    id: &Option<TxId>,
+) -> Result<bool, AllocError>
+    ensures used { IfOk result (λ used. used ≡ is_used (from_entries uses.now.entries) earlier.old.keys id.now) }
+    ensures earlier { OnOk result (HaveSameIds (earlier.old.keys ++ option_to_list id.now) earlier.new.keys) }
+{
+    let Some(id) = id else {
+        return Ok(false);
+    };
+    let is_new = earlier.insert(*id)?;
+    Ok(uses.contains_key(id) || !is_new)
+}
+
+/// The marks of a block's places, over the uses before it.
+pub(crate) fn marked(
+    uses: &HashMap<TxId, FirstUse>,
+    alloc: Global,
+    ids: &[Option<TxId>],
+) -> Result<Vec<bool>, AllocError>
+    ensures { IfOk result (λ used. used.items ≡ marks (from_entries uses.now.entries) [] ids.now) }
+{
+    let mut used = Vec::with_capacity(alloc, ids.len())?;
+    let mut earlier = HashSet::with_capacity(alloc, ids.len())?;
+    for id in ids {
+        let is_used = mark(uses, &mut earlier, id)?;
+        used.push(is_used)?;
+    }
+    Ok(used)
+}
