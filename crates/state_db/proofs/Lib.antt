@@ -11,3 +11,4 @@ mod PageOrder
 mod Puts
 mod Removes
 mod Tests
+mod Worked

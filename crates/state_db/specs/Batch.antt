@@ -8,6 +8,7 @@ use Rattle.rules.specs.State.{State, KeyMap, with_changes}
 abbrev pub Changes : Type 0
 Changes = KeyMap (Option Row)
 
--- the state with the changes made
+-- The state with the changes made. Where `a` and `b` have rows, and `b` is removed and `c` has a new row, `a` and `c` have
+-- rows then.
 abbrev pub changed : State → Changes → State
 changed s changes = with_changes s (entries changes)
