@@ -224,10 +224,10 @@ fn entry_of(
     tx: &Tx<'_>,
     namespace: &NameRef<'_>,
     write: &Write<'_>,
-) -> Result<NewEntry, AllocError>
+) -> Result<Shared<NewEntry>, AllocError>
     ensures { IfOk result (λ e. e ≡ record { namespace = namespace.now; key = write.now.key; entry = record { version = version; id = tx.now.id; value = write.now.value } }) }
 {
-    Ok(NewEntry {
+    let entry = NewEntry {
         namespace: namespace.copy(alloc)?,
         key: write.key.copy(alloc)?,
         entry: HistoryEntry {
@@ -235,12 +235,13 @@ fn entry_of(
             id: tx.id,
             value: copy_value(alloc, &write.value)?,
         },
-    })
+    };
+    Shared::new(alloc, entry)
 }
 
 fn add_entries(
     alloc: Global,
-    entries: &mut Vec<NewEntry>,
+    entries: &mut Vec<Shared<NewEntry>>,
     version: Version,
     tx: &Tx<'_>,
     set: &NsSet<'_>,
@@ -256,7 +257,7 @@ fn add_entries(
 /// The history entries of a valid transaction, in its order, behind those that are there.
 pub(crate) fn entries_of(
     alloc: Global,
-    entries: &mut Vec<NewEntry>,
+    entries: &mut Vec<Shared<NewEntry>>,
     version: Version,
     tx: &Tx<'_>,
 ) -> Result<(), AllocError>

@@ -23,12 +23,13 @@ use policy::Definitions;
 use rules::{Change, Flag, NewEntry, ReadVerdict};
 use std::alloc::{AllocError, Global};
 use transaction::{Tx, Version};
+use values::Shared;
 
 /// What the candidates of a block have given.
 #[derive(Drop)]
 pub(crate) struct Folded {
     pub changes: Vec<Change>,
-    pub entries: Vec<NewEntry>,
+    pub entries: Vec<Shared<NewEntry>>,
     pub flags: Vec<Flag>,
 }
 
@@ -37,7 +38,7 @@ pub(crate) struct Folded {
 pub(crate) struct Running<'a> {
     touched: Vec<StateKey<'a>>,
     changes: Vec<Change>,
-    entries: Vec<NewEntry>,
+    entries: Vec<Shared<NewEntry>>,
     flags: Vec<Flag>,
 }
 

@@ -14,7 +14,7 @@ use rules::{Change, CommittedBlock, Delta, FirstUse, HistoryEntry, NewEntry, New
 use std::alloc::{AllocError, Global};
 use std::marker::Model;
 use transaction::TxId;
-use values::{Hash, Items, Key, Name};
+use values::{Hash, Items, Key, Name, Shared};
 
 /// What a ledger holds, as the list of its blocks' deltas. A contract sees the world that they make.
 #[derive(Drop)]
@@ -67,12 +67,13 @@ fn use_in(uses: &[NewUse], id: &TxId) -> Option<FirstUse>
 /// Adds the entries of a key behind those that were found.
 fn add_entries<'a>(
     found: &mut Vec<&'a HistoryEntry>,
-    entries: &'a [NewEntry],
+    entries: &'a [Shared<NewEntry>],
     wanted: &StateKey<'_>,
 ) -> Result<(), AllocError>
     ensures { OnOk result (map (λ e. e.now) found.new.items ≡ map (λ e. e.now) found.old.items ++ entries_for (key_of wanted.now) entries.now) }
 {
     for entry in entries {
+        let entry = entry.get();
         if wanted.is_owned(&entry.namespace, &entry.key) {
             found.push(&entry.entry)?;
         }

@@ -79,7 +79,7 @@ pub struct NewUse {
 #[derive(Drop)]
 pub struct Delta {
     pub changes: Items<Change>,
-    pub entries: Items<NewEntry>,
+    pub entries: Items<Shared<NewEntry>>,
     pub uses: Items<NewUse>,
     pub block: Shared<CommittedBlock>,
 }

@@ -1,5 +1,11 @@
-//! Tests of what a ledger holds: used ids.
+//! Tests of what a ledger holds: rows in pages, used ids, histories.
 #![tactic(auto)]
 
 #[cfg(test)]
+mod fixture;
+#[cfg(test)]
+mod histories;
+#[cfg(test)]
 mod ids;
+#[cfg(test)]
+mod pages;

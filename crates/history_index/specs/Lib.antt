@@ -1,0 +1,4 @@
+pub mod Index
+pub mod Hash
+pub mod Places
+pub mod Links

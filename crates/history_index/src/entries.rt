@@ -1,0 +1,47 @@
+use crate::log::{Logged, newest_of};
+use rules::HistoryEntry;
+use std::marker::Model;
+use values::{KeyRef, NameRef};
+
+/// The entries of a key, lent newest first. A contract sees the list of those that are left.
+#[derive(Drop)]
+pub struct Entries<'a> {
+    pub(crate) log: &'a [Logged],
+    pub(crate) place: usize,
+    pub(crate) namespace: NameRef<'a>,
+    pub(crate) key: KeyRef<'a>,
+}
+
+impl<'a> Model for Entries<'a> {
+    ghost use Rattle.std.specs.Prelude.{List};
+    ghost use Rattle.rules.specs.declared.history.HistoryEntry.{HistoryEntry};
+
+    ghost Value = { List HistoryEntry };
+
+    ghost use Rattle.history_index.specs.Links.{entries_before, AreLinked, IsChain};
+
+    ghost view = { λ e. entries_before e.log.now (e.namespace, e.key) e.place };
+
+    ghost invariant = { λ e. AreLinked e.log.now × IsChain (e.namespace, e.key) e.log.now e.place };
+}
+
+impl<'a> Iterator for Entries<'a> {
+    ghost use Rattle.std.specs.Iterator.{YieldsFirstBy, item_count};
+
+    type Item = &'a HistoryEntry;
+
+    ghost next_gives = { YieldsFirstBy (λ e. e.now) (λ left. left) };
+
+    ghost remaining = { item_count (λ left. left) };
+
+    fn next(&mut self) -> Option<&'a HistoryEntry> {
+        let place = newest_of(self.log, self.place, &self.namespace, &self.key);
+        if place == 0 {
+            self.place = 0;
+            return None;
+        }
+        let logged = &self.log[place - 1];
+        self.place = logged.older;
+        Some(&logged.entry.get().entry)
+    }
+}

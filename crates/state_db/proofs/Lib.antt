@@ -1,0 +1,14 @@
+mod Batches
+mod Counts
+mod FromKey
+mod Heads
+mod Leading
+mod Maps
+mod Needs
+mod Opened
+mod Order
+mod PageOrder
+mod Puts
+mod Removes
+mod Tests
+mod Worked

@@ -1,0 +1,10 @@
+use Rattle.std.proofs.Common.{sym, subst, arith}
+use Rattle.state_db.specs.Need.{AreEmpty}
+use Rattle.state_db.proofs.Opened.{empty_more}
+use Rattle.state_db.proofs.spare.spare_pages.Goals as goal
+
+pub loop-alloc-preserved : goal.loop-alloc-preserved
+loop-alloc-preserved c = record {
+  empty = subst AreEmpty (sym c.in_ok-push.ensures.items) (empty_more c.loop-alloc.pages.items c.in_ok-new.field-0 c.loop-alloc.invariant.empty c.in_ok-new.ensures);
+  len = omega arith;
+}

@@ -1,0 +1,9 @@
+pub mod Code
+pub mod Head
+pub mod Pages
+pub mod Search
+pub mod Batch
+pub mod Ranges
+pub mod Edits
+pub mod Need
+pub mod Steps

@@ -1,0 +1,20 @@
+-- What one change makes of pages. No public contract cites this.
+use Rattle.std.specs.Prelude.{◌≡◌, ◌≤◌, ℕ, ◌+◌, true, List, ◌∷◌, Some, None}
+use Rattle.std.specs.FinMap.Entries.{put, below_all}
+use Rattle.rules.specs.declared.row.Row.{Row}
+use Rattle.rules.specs.State.{StateKey, ChangeOf, key_cmp}
+use Rattle.state_db.specs.Pages.{RowList, joined}
+use Rattle.state_db.specs.Edits.{without}
+use Rattle.state_db.specs.Need.{need, AreOpen}
+
+-- A row is put. What the stock of spare pages has lost, the need of all later changes has lost too.
+pub record IsPut (k : StateKey) (v : Row) (old new : List RowList) (stock_old stock_new : ℕ) : Type 0 where
+  pub open_ : AreOpen new
+  pub rows : joined new ≡ put key_cmp k v (joined old)
+  pub need_ : (cs : List (ChangeOf Row)) → below_all key_cmp k cs ≡ true → need new cs + stock_old ≤ need old ((k, Some v) ∷ cs) + stock_new
+
+-- A key's row is removed, if it has one.
+pub record IsRemoved (k : StateKey) (old new : List RowList) : Type 0 where
+  pub open_ : AreOpen new
+  pub rows : joined new ≡ without k (joined old)
+  pub need_ : (cs : List (ChangeOf Row)) → below_all key_cmp k cs ≡ true → need new cs ≤ need old ((k, None) ∷ cs)

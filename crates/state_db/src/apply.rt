@@ -1,0 +1,126 @@
+//! Changes made in pages: all memory first, then moves alone.
+ghost use Rattle.std.specs.Prelude.{◌≡◌, ◌==◌, ◌<◌, ◌≤◌, ◌+◌, ◌-◌, [], length, get_or, IfOk, OnOk, OnErr};
+ghost use Rattle.std.specs.Vec.{vec_capacity};
+ghost use Rattle.state_db.specs.Edits.{edited};
+ghost use Rattle.state_db.specs.Need.{need, AreOpen, AreEmpty};
+ghost use Rattle.state_db.specs.Pages.{joined, home, ArePages};
+ghost use Rattle.state_db.specs.Search.{IsSorted};
+ghost use Rattle.state_db.specs.Steps.{IsPut, IsRemoved};
+
+use crate::directory::home_of;
+use crate::edit::Edit;
+use crate::page::{MAX_ROWS, Page};
+use crate::slot::Slot;
+use crate::spare::{pages_needed, spare_pages};
+use crate::wanted::Wanted;
+use rules::Change;
+use std::alloc::{AllocError, Global};
+
+/// Puts a row. Takes no memory.
+fn put(pages: &mut Vec<Page>, spare: &mut Vec<Page>, slot: Slot)
+    requires open { AreOpen pages.old.items }
+    requires empty { AreEmpty spare.old.items }
+    requires stock { 256 ≤ length (get_or pages.old.items (home slot.0 pages.old.items) []) → 0 < length spare.old.items }
+    requires room { length pages.old.items + length spare.old.items ≤ vec_capacity pages.old }
+    ensures made { IsPut slot.0 slot.1 pages.old.items pages.new.items (length spare.old.items) (length spare.new.items) }
+    ensures empty { AreEmpty spare.new.items }
+    ensures room { length pages.new.items + length spare.new.items ≤ vec_capacity pages.new }
+{
+    let at = home_of(pages.as_slice(), &slot.wanted());
+    let page = &mut pages[at];
+    page.put(slot);
+    if page.len() > MAX_ROWS {
+        if let Some(mut upper) = spare.pop() {
+            page.split(&mut upper);
+            let _ = pages.insert(at + 1, upper);
+        }
+    }
+}
+
+/// Removes the row of a key, if there is one. A page that is emptied goes, but for the last. Takes no memory.
+fn remove(pages: &mut Vec<Page>, wanted: &Wanted<'_>)
+    requires { AreOpen pages.old.items }
+    ensures removed { IsRemoved wanted.now pages.old.items pages.new.items }
+    ensures len { length pages.new.items ≤ length pages.old.items }
+    ensures capacity { vec_capacity pages.old ≤ vec_capacity pages.new }
+{
+    let at = home_of(pages.as_slice(), wanted);
+    let page = &mut pages[at];
+    page.remove(wanted);
+    if !page.is_empty() {
+        return;
+    }
+    if at + 1 < pages.len() {
+        let _ = pages.remove(at);
+    }
+}
+
+/// Makes edits one after the other. Takes no memory.
+fn make_all(pages: &mut Vec<Page>, spare: &mut Vec<Page>, edits: Vec<Edit>)
+    requires open { AreOpen pages.old.items }
+    requires empty { AreEmpty spare.old.items }
+    requires edits { IsSorted edits.items }
+    requires stock { need pages.old.items edits.items ≤ length spare.old.items }
+    requires room { length pages.old.items + length spare.old.items ≤ vec_capacity pages.old }
+    ensures open { AreOpen pages.new.items }
+    ensures rows { joined pages.new.items ≡ edited (joined pages.old.items) edits.items }
+{
+    for edit in edits {
+        match edit.into_change() {
+            Change::Put(row) => put(pages, spare, Slot::new(row)),
+            Change::Remove(namespace, key) => {
+                remove(pages, &Wanted::new(&namespace.lend(), key.as_slice()))
+            }
+        }
+    }
+}
+
+fn is_last_empty(pages: &[Page]) -> bool
+    requires { 0 < length pages.now }
+    ensures { result ≡ (length (get_or pages.now (length pages.now - 1) []) == 0) }
+{
+    pages[pages.len() - 1].is_empty()
+}
+
+/// Takes the last page away where it is empty.
+fn drop_empty_last(pages: &mut Vec<Page>)
+    requires { AreOpen pages.old.items }
+    ensures pages { ArePages pages.new.items }
+    ensures rows { joined pages.new.items ≡ joined pages.old.items }
+{
+    if is_last_empty(pages.as_slice()) {
+        let _ = pages.pop();
+    }
+}
+
+/// Makes edits in the order of their keys, or none.
+pub(crate) fn edit_pages(
+    alloc: Global,
+    pages: &mut Vec<Page>,
+    edits: Vec<Edit>,
+) -> Result<(), AllocError>
+    requires open { AreOpen pages.old.items }
+    requires edits { IsSorted edits.items }
+    ensures pages { OnOk result (ArePages pages.new.items) }
+    ensures rows { OnOk result (joined pages.new.items ≡ edited (joined pages.old.items) edits.items) }
+    ensures err { OnErr result (pages.new.items ≡ pages.old.items) }
+{
+    let needed = pages_needed(pages.as_slice(), edits.as_slice());
+    let mut spare = spare_pages(alloc, needed)?;
+    pages.reserve(needed)?;
+    make_all(pages, &mut spare, edits);
+    drop_empty_last(pages);
+    Ok(())
+}
+
+/// The pages of edits in the order of their keys, where there were none.
+pub(crate) fn first_pages(alloc: Global, edits: Vec<Edit>) -> Result<Vec<Page>, AllocError>
+    requires { IsSorted edits.items }
+    ensures pages { IfOk result (λ pages. ArePages pages.items) }
+    ensures rows { IfOk result (λ pages. joined pages.items ≡ edited [] edits.items) }
+{
+    let mut pages = Vec::new(alloc);
+    pages.push(Page::new(alloc)?)?;
+    edit_pages(alloc, &mut pages, edits)?;
+    Ok(pages)
+}

@@ -1,0 +1,148 @@
+ghost use Rattle.std.specs.Prelude.{◌≡◌, ◌≤◌, Some, None, length, IfOk, OnOk, OnErr};
+ghost use Rattle.std.specs.FinMap.{empty, entries, insert};
+ghost use Rattle.std.specs.FinMap.Entries.{put};
+ghost use Rattle.rules.specs.State.{State, key_cmp, set_at};
+ghost use Rattle.rules.specs.Delta.{change_of};
+ghost use Rattle.state_db.specs.Batch.{changed};
+ghost use Rattle.state_db.specs.Search.{IsSorted, is_below, ties_at, leading};
+
+use crate::edit::Edit;
+use crate::search::{Ordered, count_below};
+use crate::wanted::Wanted;
+use rules::{Change, KeyedRow, Row};
+use std::alloc::{AllocError, Global};
+use std::marker::Model;
+use values::{Key, Name, Shared};
+
+/// Changes of a state, of which each key has at most one: the last that was given. A contract sees the map of what
+/// becomes of each key: a row, or none where it is removed.
+///
+/// A change whose key stands behind all others takes constant time, amortized; else it takes time in their number.
+#[derive(Drop)]
+pub struct Batch {
+    alloc: Global,
+    edits: Vec<Edit>,
+}
+
+impl Model for Batch {
+    ghost use Rattle.state_db.specs.Batch.{Changes};
+    ghost use Rattle.state_db.specs.Code.{changes_code};
+
+    ghost Value = { Changes };
+
+    ghost coded = { changes_code };
+
+    ghost use Rattle.std.specs.FinMap.{from_sorted};
+    ghost use Rattle.state_db.specs.Search.{IsSorted};
+
+    ghost view = { λ b. from_sorted b.edits.items };
+
+    ghost invariant = { λ b. IsSorted b.edits.items };
+}
+
+/// Where the key belongs. The search is spared where that is behind all.
+fn place_of(edits: &[Edit], wanted: &Wanted<'_>) -> usize
+    requires { IsSorted edits.now }
+    ensures place { result ≡ leading (is_below wanted.now) edits.now }
+    ensures bound { result ≤ length edits.now }
+{
+    match edits.last() {
+        Some(last) if last.is_below(wanted) => edits.len(),
+        _ => count_below(edits, wanted),
+    }
+}
+
+/// Whether the edit at a place, if there is one, has the key.
+fn is_at(edits: &[Edit], place: usize, wanted: &Wanted<'_>) -> bool
+    ensures { result ≡ ties_at wanted.now edits.now place }
+{
+    match edits.get(place) {
+        None => false,
+        Some(edit) => edit.order(wanted).is_eq(),
+    }
+}
+
+/// Puts an edit in its place, in the place of one with its key.
+fn put(edits: &mut Vec<Edit>, edit: Edit) -> Result<(), AllocError>
+    requires { IsSorted edits.old.items }
+    ensures ok { OnOk result (edits.new.items ≡ put key_cmp edit.0 edit.1 edits.old.items) }
+    ensures err { OnErr result (edits.new.items ≡ edits.old.items) }
+{
+    let wanted = edit.wanted();
+    let place = place_of(edits.as_slice(), &wanted);
+    if is_at(edits.as_slice(), place, &wanted) {
+        edits[place] = edit;
+        return Ok(());
+    }
+    edits.insert(place, edit)?;
+    Ok(())
+}
+
+/// The same edits, each with one more owner of its row.
+fn shared(alloc: Global, edits: &[Edit]) -> Result<Vec<Edit>, AllocError>
+    ensures { IfOk result (λ shared. shared.items ≡ edits.now) }
+{
+    let mut shared = Vec::with_capacity(alloc, edits.len())?;
+    for edit in edits {
+        shared.push(edit.share(alloc)?)?;
+    }
+    Ok(shared)
+}
+
+impl Batch {
+    /// No changes. Takes no memory.
+    pub fn new(alloc: Global) -> Batch
+        ensures { result ≡ empty }
+    {
+        Batch {
+            alloc,
+            edits: Vec::new(alloc),
+        }
+    }
+
+    fn set(&mut self, change: Change) -> Result<(), AllocError>
+        ensures ok { OnOk result (self.new ≡ insert self.old (change_of change).0 (change_of change).1) }
+        ensures err { OnErr result (self.new ≡ self.old) }
+        ensures made { OnOk result ((s : State) → changed s self.new ≡ set_at (changed s self.old) (change_of change).0 (change_of change).1) }
+    {
+        put(&mut self.edits, Edit::new(change))
+    }
+
+    /// The key has this row from now on. Takes memory for the key, the row and the change.
+    pub fn put(&mut self, namespace: Name, key: Key, row: Row) -> Result<(), AllocError>
+        ensures ok { OnOk result (self.new ≡ insert self.old (namespace, key) (Some row)) }
+        ensures err { OnErr result (self.new ≡ self.old) }
+        ensures made { OnOk result ((s : State) → changed s self.new ≡ set_at (changed s self.old) (namespace, key) (Some row)) }
+    {
+        let keyed = KeyedRow::new(self.alloc, &namespace.lend(), &key.lend(), row)?;
+        let row = Shared::new(self.alloc, keyed)?;
+        self.set(Change::Put(row))
+    }
+
+    /// The key has no row from now on. Takes memory for the change.
+    pub fn remove(&mut self, namespace: Name, key: Key) -> Result<(), AllocError>
+        ensures ok { OnOk result (self.new ≡ insert self.old (namespace, key) None) }
+        ensures err { OnErr result (self.new ≡ self.old) }
+        ensures made { OnOk result ((s : State) → changed s self.new ≡ set_at (changed s self.old) (namespace, key) None) }
+    {
+        self.set(Change::Remove(namespace, key))
+    }
+
+    /// Makes a change of a delta, whose row has one owner more from then on. Takes memory for the change.
+    pub fn add(&mut self, change: &Change) -> Result<(), AllocError>
+        ensures ok { OnOk result (self.new ≡ insert self.old (change_of change.now).0 (change_of change.now).1) }
+        ensures err { OnErr result (self.new ≡ self.old) }
+        ensures made { OnOk result ((s : State) → changed s self.new ≡ set_at (changed s self.old) (change_of change.now).0 (change_of change.now).1) }
+    {
+        let change = change.share(self.alloc)?;
+        self.set(change)
+    }
+
+    /// Its edits in the order of their keys, each with one more owner of its row.
+    pub(crate) fn share(&self) -> Result<Vec<Edit>, AllocError>
+        ensures edits { IfOk result (λ edits. edits.items ≡ entries self.now) }
+        ensures sorted { IfOk result (λ edits. IsSorted edits.items) }
+    {
+        shared(self.alloc, self.edits.as_slice())
+    }
+}

@@ -1,0 +1,35 @@
+//! The pages of a state, in the order of their rows.
+ghost use Rattle.std.specs.Prelude.{◌≡◌, ◌<◌, length};
+ghost use Rattle.std.specs.Option.{option_copied};
+ghost use Rattle.std.specs.FinMap.{find};
+ghost use Rattle.rules.specs.State.{key_cmp};
+ghost use Rattle.state_db.specs.Pages.{joined, home, AreInOrder, ArePages};
+
+use crate::page::Page;
+use crate::search::count_below;
+use crate::wanted::Wanted;
+use rules::Row;
+
+/// The place of the page where a key belongs: the first whose last row isn't before the key, or else the last page.
+/// Logarithmic.
+pub(crate) fn home_of(pages: &[Page], wanted: &Wanted<'_>) -> usize
+    requires pages { AreInOrder pages.now }
+    requires some { 0 < length pages.now }
+    ensures place { result ≡ home wanted.now pages.now }
+    ensures bound { result < length pages.now }
+{
+    let (others, _) = pages.split_at(pages.len() - 1);
+    count_below(others, wanted)
+}
+
+/// The row of a key, if it has one. Logarithmic.
+pub(crate) fn row_of<'a>(pages: &'a [Page], wanted: &Wanted<'_>) -> Option<&'a Row>
+    requires { ArePages pages.now }
+    ensures { option_copied result ≡ find key_cmp wanted.now (joined pages.now) }
+{
+    if pages.is_empty() {
+        return None;
+    }
+    let page = &pages[home_of(pages, wanted)];
+    page.row(wanted)
+}

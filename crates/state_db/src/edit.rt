@@ -1,0 +1,89 @@
+ghost use Rattle.std.specs.Prelude.{◌≡◌, IfOk};
+ghost use Rattle.rules.specs.State.{key_cmp};
+ghost use Rattle.rules.specs.Delta.{change_of};
+ghost use Rattle.state_db.specs.Need.{added};
+ghost use Rattle.state_db.specs.Search.{is_below};
+
+use crate::search::Ordered;
+use crate::wanted::Wanted;
+use rules::Change;
+use std::alloc::{AllocError, Global};
+use std::cmp::Ordering;
+use std::marker::Model;
+
+/// What becomes of a key in a batch. A contract sees the key with its row, or none where it is removed.
+#[derive(Drop)]
+pub(crate) struct Edit {
+    change: Change,
+}
+
+impl Model for Edit {
+    ghost use Rattle.rules.specs.declared.row.Row.{Row};
+    ghost use Rattle.rules.specs.State.{ChangeOf};
+    ghost use Rattle.state_db.specs.Code.{change_code};
+
+    ghost Value = { ChangeOf Row };
+
+    ghost coded = { change_code };
+
+    ghost use Rattle.rules.specs.Delta.{change_of};
+
+    ghost view = { λ e. change_of e.change };
+}
+
+impl Edit {
+    pub fn new(change: Change) -> Edit
+        ensures { result ≡ change_of change }
+    {
+        Edit { change }
+    }
+
+    pub fn into_change(self) -> Change
+        ensures { change_of result ≡ self }
+    {
+        self.change
+    }
+
+    /// How many rows it may add.
+    pub fn added(&self) -> usize
+        ensures { result ≡ added self.now }
+    {
+        match &self.change {
+            Change::Put(_) => 1,
+            Change::Remove(_, _) => 0,
+        }
+    }
+
+    /// The same edit, with one more owner of its row. Takes memory for the key of a removal alone.
+    pub fn share(&self, alloc: Global) -> Result<Edit, AllocError>
+        ensures { IfOk result (λ shared. shared ≡ self.now) }
+    {
+        Ok(Edit {
+            change: self.change.share(alloc)?,
+        })
+    }
+
+    pub fn wanted(&self) -> Wanted<'_>
+        ensures { result ≡ self.now.0 }
+    {
+        let key = self.change.key();
+        Wanted::new(&self.change.namespace(), key.as_slice())
+    }
+
+    /// How its key stands to another.
+    pub fn order(&self, wanted: &Wanted<'_>) -> Ordering
+        ensures { result ≡ key_cmp self.now.0 wanted.now }
+    {
+        let namespace = self.change.namespace();
+        let key = self.change.key();
+        wanted.order_of(namespace.as_slice(), key.as_slice())
+    }
+}
+
+impl Ordered for Edit {
+    ghost is_below = { is_below };
+
+    fn is_below(&self, wanted: &Wanted<'_>) -> bool {
+        self.order(wanted).is_lt()
+    }
+}

@@ -1,0 +1,22 @@
+//! The rows of a state in sorted pages, and batches of changes to them.
+//!
+//! A call takes constant time and no memory where it says nothing else.
+#![tactic(auto)]
+
+mod apply;
+mod batch;
+mod directory;
+mod edit;
+mod head;
+mod page;
+mod rows;
+mod search;
+mod slot;
+mod slots;
+mod spare;
+mod state_db;
+mod wanted;
+
+pub use batch::Batch;
+pub use rows::Rows;
+pub use state_db::StateDb;

@@ -1,0 +1,112 @@
+ghost use Rattle.std.specs.Prelude.{◌≡◌};
+ghost use Rattle.std.specs.Option.{option_copied};
+ghost use Rattle.rules.specs.State.{key_cmp};
+ghost use Rattle.state_db.specs.Head.{head_of};
+ghost use Rattle.state_db.specs.Search.{is_below, if_it};
+
+use crate::head::{Head, head_of};
+use crate::search::Ordered;
+use crate::wanted::Wanted;
+use rules::{KeyedRow, Row};
+use std::cmp::Ordering;
+use std::marker::Model;
+use values::Shared;
+
+/// A shared row in a page, beside it the head of its key, so that most comparisons needn't look at the row. A contract
+/// sees the key with its row.
+#[derive(Drop)]
+pub(crate) struct Slot {
+    head: Head,
+    row: Shared<KeyedRow>,
+}
+
+impl Model for Slot {
+    ghost use Rattle.rules.specs.declared.row.Row.{Row};
+    ghost use Rattle.rules.specs.Code.{keyed_row_code};
+    ghost use Rattle.state_db.specs.Search.{Keyed};
+
+    ghost Value = { Keyed Row };
+
+    ghost coded = { keyed_row_code };
+
+    ghost use Rattle.std.specs.Prelude.{◌≡◌, IsTrue};
+    ghost use Rattle.values.specs.Name.{is_name};
+    ghost use Rattle.state_db.specs.Head.{head_of};
+
+    ghost view = { λ s. s.row };
+
+    ghost invariant = { λ s. (s.head ≡ head_of s.row.0) × IsTrue (is_name s.row.0.0) };
+}
+
+impl Slot {
+    pub fn new(row: Shared<KeyedRow>) -> Slot
+        ensures { result ≡ row }
+    {
+        let namespace = row.get().namespace();
+        let key = row.get().key();
+        let head = head_of(namespace.as_slice(), key.as_slice());
+        Slot { head, row }
+    }
+
+    pub fn head(&self) -> Head
+        ensures { result ≡ head_of self.now.0 }
+    {
+        self.head
+    }
+
+    pub fn keyed_row(&self) -> &KeyedRow
+        ensures { result.now ≡ self.now }
+    {
+        self.row.get()
+    }
+
+    pub fn wanted(&self) -> Wanted<'_>
+        ensures { result ≡ self.now.0 }
+    {
+        let row = self.row.get();
+        let key = row.key();
+        Wanted::new(&row.namespace(), key.as_slice())
+    }
+
+    /// How its key, which has this head, stands to another. Looks at the row only where the heads don't tell.
+    pub fn order_with(&self, head: &Head, wanted: &Wanted<'_>) -> Ordering
+        requires { head.now ≡ head_of self.now.0 }
+        ensures { result ≡ key_cmp self.now.0 wanted.now }
+    {
+        let row = &self.row;
+        match wanted.order_of_head(head) {
+            Ordering::Equal => {
+                let namespace = row.get().namespace();
+                let key = row.get().key();
+                wanted.order_of(namespace.as_slice(), key.as_slice())
+            }
+            other => other,
+        }
+    }
+
+    /// How its key stands to another.
+    pub fn order(&self, wanted: &Wanted<'_>) -> Ordering
+        ensures { result ≡ key_cmp self.now.0 wanted.now }
+    {
+        self.order_with(&self.head, wanted)
+    }
+
+    /// Its row, if it has the key.
+    pub fn row_of(&self, wanted: &Wanted<'_>) -> Option<&Row>
+        ensures { option_copied result ≡ if_it wanted.now self.now }
+    {
+        if self.order(wanted).is_eq() {
+            Some(self.row.get().row())
+        } else {
+            None
+        }
+    }
+}
+
+impl Ordered for Slot {
+    ghost is_below = { is_below };
+
+    fn is_below(&self, wanted: &Wanted<'_>) -> bool {
+        self.order(wanted).is_lt()
+    }
+}

@@ -1,0 +1,51 @@
+//! Pages in stock, for those that are split.
+ghost use Rattle.std.specs.Prelude.{◌≡◌, length, IfOk};
+ghost use Rattle.state_db.specs.Need.{added, splits, need, AreOpen, AreEmpty};
+ghost use Rattle.state_db.specs.Search.{IsSorted};
+
+use crate::directory::home_of;
+use crate::edit::Edit;
+use crate::page::{MAX_ROWS, Page};
+use std::alloc::{AllocError, Global};
+
+/// So many empty pages.
+pub(crate) fn spare_pages(alloc: Global, count: usize) -> Result<Vec<Page>, AllocError>
+    ensures empty { IfOk result (λ pages. AreEmpty pages.items) }
+    ensures len { IfOk result (λ pages. length pages.items ≡ count) }
+{
+    let mut pages = Vec::with_capacity(alloc, count)?;
+    while pages.len() < count {
+        pages.push(Page::new(alloc)?)?;
+    }
+    Ok(pages)
+}
+
+/// How often a page of so many rows is to be split: each split of 257 leaves 128 and 129.
+fn splits(rows: usize) -> usize
+    ensures { result ≡ splits rows }
+{
+    rows.saturating_sub(MAX_ROWS / 2 + 1) / (MAX_ROWS / 2)
+}
+
+/// How many splits edits in the order of their keys may take. Logarithmic in the number of pages for each.
+pub(crate) fn pages_needed(pages: &[Page], edits: &[Edit]) -> usize
+    requires open { AreOpen pages.now }
+    requires edits { IsSorted edits.now }
+    ensures { result ≡ need pages.now edits.now }
+{
+    let mut needed = 0;
+    let mut left = pages;
+    let mut rows = pages[0].len();
+    for edit in edits {
+        let home = home_of(left, &edit.wanted());
+        if home == 0 {
+            rows += edit.added();
+            continue;
+        }
+        needed += splits(rows);
+        let (_, from_home) = left.split_at(home);
+        left = from_home;
+        rows = left[0].len() + edit.added();
+    }
+    needed + splits(rows)
+}

@@ -1,0 +1,113 @@
+ghost use Rattle.std.specs.Prelude.{◌≡◌, ◌≤◌, [], sum, length, IfSome, OnOk, OnErr, slice_get};
+ghost use Rattle.std.specs.Option.{option_copied};
+ghost use Rattle.std.specs.FinMap.{get, empty, entries};
+ghost use Rattle.rules.specs.Ranges.{is_within, rows_where};
+ghost use Rattle.state_db.specs.Batch.{changed};
+
+use crate::apply::{edit_pages, first_pages};
+use crate::batch::Batch;
+use crate::directory::row_of;
+use crate::page::Page;
+use crate::rows::{Rows, rows_from};
+use crate::wanted::Wanted;
+use rules::Row;
+use std::alloc::{AllocError, Global};
+use std::marker::Model;
+use values::{BoundRef, KeyRef, NameRef};
+
+/// The rows of a state, in pages of 1 to 256 rows: all rows of an earlier page stand before those of a later one. A
+/// contract sees the state, beside it how many rows each page has.
+#[derive(Drop)]
+pub struct StateDb {
+    alloc: Global,
+    pages: Vec<Page>,
+}
+
+impl Model for StateDb {
+    ghost use Rattle.state_db.specs.Pages.{PagedState};
+    ghost use Rattle.state_db.specs.Code.{paged_code};
+
+    ghost Value = { PagedState };
+
+    ghost coded = { paged_code };
+
+    ghost use Rattle.state_db.specs.Pages.{ArePages, paged};
+
+    ghost view = { λ s. paged s.pages.items };
+
+    ghost invariant = { λ s. ArePages s.pages.items };
+}
+
+impl StateDb {
+    /// No rows. Takes no memory.
+    pub fn new(alloc: Global) -> StateDb
+        ensures state { result.state ≡ empty }
+        ensures sizes { result.sizes ≡ [] }
+    {
+        StateDb {
+            alloc,
+            pages: Vec::new(alloc),
+        }
+    }
+
+    /// The row of a key. Logarithmic in the number of rows.
+    pub fn get(&self, namespace: &NameRef<'_>, key: &KeyRef<'_>) -> Option<&Row>
+        ensures { option_copied result ≡ get self.now.state (namespace.now, key.now) }
+    {
+        let wanted = Wanted::new(namespace, key.as_slice());
+        row_of(self.pages.as_slice(), &wanted)
+    }
+
+    /// The rows of a namespace from a start to before an end, an empty end being no bound, in the order of their keys.
+    /// Logarithmic in the number of rows to begin with, then constant for each.
+    pub fn range<'a>(
+        &'a self,
+        namespace: &NameRef<'a>,
+        start: &BoundRef<'a>,
+        end: &BoundRef<'a>,
+    ) -> Rows<'a>
+        ensures { result ≡ rows_where self.now.state namespace.now (is_within start.now end.now) }
+    {
+        let wanted = Wanted::new(namespace, start.as_slice());
+        rows_from(
+            self.pages.as_slice(),
+            &wanted,
+            namespace.as_slice(),
+            end.as_slice(),
+        )
+    }
+
+    /// Makes the changes of a batch, or none. All memory is taken first: for the shares of the batch's rows, and pages
+    /// for those that the changes may split. Each change takes logarithmic time and moves up to 256 rows of its page; a
+    /// page that comes or goes moves the pages behind it.
+    pub fn apply(&mut self, batch: &Batch) -> Result<(), AllocError>
+        ensures ok { OnOk result (self.new.state ≡ changed self.old.state batch.now) }
+        ensures err { OnErr result (self.new ≡ self.old) }
+    {
+        let edits = batch.share()?;
+        if self.pages.is_empty() {
+            self.pages = first_pages(self.alloc, edits)?;
+            return Ok(());
+        }
+        edit_pages(self.alloc, &mut self.pages, edits)
+    }
+
+    /// How many pages hold the rows.
+    pub fn pages(&self) -> usize
+        ensures pages { result ≡ length self.now.sizes }
+        ensures all { sum self.now.sizes ≡ length (entries self.now.state) }
+    {
+        self.pages.len()
+    }
+
+    /// How many rows a page has.
+    pub fn page_rows(&self, page: usize) -> Option<usize>
+        ensures rows { result ≡ slice_get self.now.sizes page }
+        ensures size { IfSome result (λ rows. (1 ≤ rows) × (rows ≤ 256)) }
+    {
+        match self.pages.get(page) {
+            None => None,
+            Some(page) => Some(page.len()),
+        }
+    }
+}

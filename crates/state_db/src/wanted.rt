@@ -1,0 +1,64 @@
+ghost use Rattle.std.specs.Prelude.{◌≡◌, IsTrue};
+ghost use Rattle.std.specs.declared.cmp.Ordering.TheVariants.{Less, Greater};
+ghost use Rattle.values.specs.Name.{is_name};
+ghost use Rattle.rules.specs.State.{StateKey, key_cmp};
+ghost use Rattle.state_db.specs.Head.{head_of};
+
+use crate::head::{Head, head_of};
+use std::cmp::Ordering;
+use std::marker::Model;
+use values::NameRef;
+
+/// A key that is looked for, lent, with its head. A contract sees the key.
+#[derive(Drop)]
+pub(crate) struct Wanted<'a> {
+    head: Head,
+    namespace: &'a [u8],
+    key: &'a [u8],
+}
+
+impl<'a> Model for Wanted<'a> {
+    ghost use Rattle.rules.specs.State.{StateKey};
+
+    ghost Value = { StateKey };
+
+    ghost use Rattle.std.specs.Prelude.{◌≡◌, IsTrue};
+    ghost use Rattle.values.specs.Name.{is_name};
+    ghost use Rattle.state_db.specs.Head.{head_of};
+
+    ghost view = { λ w. (w.namespace.now, w.key.now) };
+
+    ghost invariant = { λ w. (w.head ≡ head_of (w.namespace.now, w.key.now)) × IsTrue (is_name w.namespace.now) };
+}
+
+impl<'a> Wanted<'a> {
+    /// Any bytes may be looked for as a key: a range begins at a bound.
+    pub fn new(namespace: &NameRef<'a>, key: &'a [u8]) -> Wanted<'a>
+        ensures { result ≡ (namespace.now, key.now) }
+    {
+        let namespace = namespace.as_slice();
+        Wanted {
+            head: head_of(namespace, key),
+            namespace,
+            key,
+        }
+    }
+
+    /// How a key with this head stands to this one, or `Equal` where the heads don't tell.
+    pub fn order_of_head(&self, head: &Head) -> Ordering
+        ensures less { (k : StateKey) → IsTrue (is_name k.0) → head.now ≡ head_of k → result ≡ Less → key_cmp k self.now ≡ Less }
+        ensures greater { (k : StateKey) → IsTrue (is_name k.0) → head.now ≡ head_of k → result ≡ Greater → key_cmp k self.now ≡ Greater }
+    {
+        head.cmp(&self.head)
+    }
+
+    /// How a key stands to this one.
+    pub fn order_of(&self, namespace: &[u8], key: &[u8]) -> Ordering
+        ensures { result ≡ key_cmp (namespace.now, key.now) self.now }
+    {
+        match namespace.cmp(&self.namespace) {
+            Ordering::Equal => key.cmp(&self.key),
+            other => other,
+        }
+    }
+}
