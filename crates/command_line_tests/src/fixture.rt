@@ -144,6 +144,15 @@ pub(crate) fn ended<R: AllocGlobal, F: Files>(
     ))
 }
 
+/// The transactions' part of a block with so many transactions without bytes.
+pub(crate) fn empty_ones(alloc: Global, count: u32) -> Result<Vec<u8>, AllocError> {
+    let mut txs = Vec::from_slice(alloc, &count.to_be_bytes())?;
+    for _ in 0..count {
+        txs.extend_from_slice(b"\0\0\0\0")?;
+    }
+    Ok(txs)
+}
+
 /// The bytes of a block with this previous hash, data hash and transactions' part.
 pub(crate) fn block(
     alloc: Global,

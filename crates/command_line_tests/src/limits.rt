@@ -1,6 +1,6 @@
 // Blocks and transactions at their limits and one beyond, from files on disk. None of the transactions
 // is one.
-use crate::fixture::{CHANNEL, HASH_0, KEYS, NO_DATA, block, ended};
+use crate::fixture::{CHANNEL, HASH_0, KEYS, NO_DATA, block, empty_ones, ended};
 use command_line::{DiskFiles, Files};
 use std::alloc::{AllocError, Global};
 use std::path::PathBuf;
@@ -49,15 +49,6 @@ fn one_of(alloc: Global, length: u32) -> Result<Vec<u8>, AllocError> {
     txs.extend_from_slice(&length.to_be_bytes())?;
     for _ in 0..length {
         txs.push(0)?;
-    }
-    Ok(txs)
-}
-
-// The transactions' part of a block with so many transactions without bytes.
-fn empty_ones(alloc: Global, count: u32) -> Result<Vec<u8>, AllocError> {
-    let mut txs = Vec::from_slice(alloc, &count.to_be_bytes())?;
-    for _ in 0..count {
-        txs.extend_from_slice(b"\0\0\0\0")?;
     }
     Ok(txs)
 }

@@ -1,6 +1,9 @@
 // Writers that fail.
-use crate::fixture::{CHANNEL, Full, HASH_0, KEYS, MemoryFiles, empty_block};
+use crate::fixture::{
+    CHANNEL, File, Full, HASH_0, KEYS, MemoryFiles, NO_DATA, block, empty_block, empty_ones,
+};
 use command_line::program;
+use std::alloc::AllocError;
 use std::io::ErrorKind;
 use std::process::Abort;
 use std::str::from_utf8;
@@ -56,28 +59,40 @@ fn standard_output_that_fails(rt: HostRuntime) -> Result<(), Fail> {
     expect_end(&rt, Full::after(alloc, 1000), both.as_str(), 1, "")
 }
 
-// More lines than a buffer holds, to a writer that takes none of them at first and all of them later.
+// To a writer that takes nothing at first and all later.
+fn expect_nothing_behind_a_failure(
+    rt: &(impl Abort + AllocGlobal),
+    files: &[File<'_>],
+    words: &[&str],
+) {
+    let mut out = Full::after(rt.alloc(), 0);
+    out.failures = 1;
+    let mut faults = Vec::new(rt.alloc());
+    let status = program(rt, words, &MemoryFiles(files), &mut out, &mut faults);
+    assert!(rt; faults.as_slice() == b"cannot write standard output\n".as_slice());
+    assert!(rt; out.taken.is_empty());
+    assert!(rt; status == 3);
+}
+
+// More lines than a buffer holds.
 #[test]
-fn nothing_is_written_behind_a_failure(rt: HostRuntime) -> Result<(), Fail> {
-    let alloc = rt.alloc();
+fn nothing_is_written_behind_a_failure(rt: HostRuntime) -> Result<(), AllocError> {
     let files = [("c", CHANNEL), ("k", KEYS), ("b", b"".as_slice())];
-    let mut words = Vec::from_slice(alloc, &WORDS[..6])?;
+    let mut words = Vec::from_slice(rt.alloc(), &WORDS[..6])?;
     for _ in 0..5000 {
         words.push("b")?;
     }
-    let mut out = Full::after(alloc, 0);
-    out.failures = 1;
-    let mut faults = Vec::new(alloc);
-    let status = program(
-        &rt,
-        words.as_slice(),
-        &MemoryFiles(&files),
-        &mut out,
-        &mut faults,
-    );
-    assert!(rt; from_utf8(&faults)? == "cannot write standard output\n");
-    assert!(rt; from_utf8(&out.taken)? == "");
-    assert!(rt; status == 3);
+    expect_nothing_behind_a_failure(&rt, &files, &words);
+    Ok(())
+}
+
+// One line that is longer than a buffer, of an accepted block.
+#[test]
+fn nothing_is_written_behind_a_failed_line(rt: HostRuntime) -> Result<(), AllocError> {
+    let txs = empty_ones(rt.alloc(), 4096)?;
+    let block = block(rt.alloc(), 0, b"", &NO_DATA, &txs)?;
+    let files = [("c", CHANNEL), ("k", KEYS), ("b0", block.as_slice())];
+    expect_nothing_behind_a_failure(&rt, &files, &WORDS[..7]);
     Ok(())
 }
 
