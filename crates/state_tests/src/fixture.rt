@@ -1,24 +1,24 @@
 //! Names and keys.
 
+use crate::failed::Failed;
 use std::alloc::Global;
-use std::test::Fail;
 use values::{BoundRef, Key, Name, is_bound, is_key, is_name};
 
-pub fn name(alloc: Global, bytes: &[u8]) -> Result<Name, Fail> {
+pub fn name(alloc: Global, bytes: &[u8]) -> Result<Name, Failed> {
     if !is_name(bytes) {
         return Err("a name was wanted".into());
     }
     Ok(Name::from_slice(alloc, bytes)?)
 }
 
-pub fn key(alloc: Global, bytes: &[u8]) -> Result<Key, Fail> {
+pub fn key(alloc: Global, bytes: &[u8]) -> Result<Key, Failed> {
     if !is_key(bytes) {
         return Err("a key was wanted".into());
     }
     Ok(Key::from_slice(alloc, bytes)?)
 }
 
-pub fn bound(bytes: &[u8]) -> Result<BoundRef<'_>, Fail> {
+pub fn bound(bytes: &[u8]) -> Result<BoundRef<'_>, Failed> {
     if !is_bound(bytes) {
         return Err("a bound was wanted".into());
     }

@@ -1,13 +1,13 @@
+use crate::failed::Failed;
 use crate::fixture::{key, name};
 use history_index::HistoryIndex;
 use rules::{HistoryEntry, NewEntry};
 use std::alloc::Global;
-use std::test::Fail;
 use transaction::Version;
 use values::Shared;
 
 // A delete at a place of block 0.
-fn entry(alloc: Global, namespace: &[u8], at: &[u8], tx: u32) -> Result<Shared<NewEntry>, Fail> {
+fn entry(alloc: Global, namespace: &[u8], at: &[u8], tx: u32) -> Result<Shared<NewEntry>, Failed> {
     let entry = NewEntry {
         namespace: name(alloc, namespace)?,
         key: key(alloc, at)?,
@@ -26,7 +26,7 @@ fn places(
     index: &HistoryIndex,
     namespace: &[u8],
     at: &[u8],
-) -> Result<Vec<u32>, Fail> {
+) -> Result<Vec<u32>, Failed> {
     let namespace = name(alloc, namespace)?;
     let at = key(alloc, at)?;
     let mut places = Vec::new(alloc);
@@ -37,7 +37,7 @@ fn places(
 }
 
 #[test]
-fn each_key_has_its_own_newest_first(rt: HostRuntime) -> Result<(), Fail> {
+fn each_key_has_its_own_newest_first(rt: HostRuntime) -> Result<(), Failed> {
     let alloc = rt.alloc();
     let mut index = HistoryIndex::new(alloc);
     index.reserve(6)?;
@@ -46,20 +46,20 @@ fn each_key_has_its_own_newest_first(rt: HostRuntime) -> Result<(), Fail> {
     index.add(entry(alloc, b"c", b"ck", 3)?);
     index.add(entry(alloc, b"cc", b"k", 4)?);
     index.add(entry(alloc, b"cc", b"k", 5)?);
-    assert_eq!(rt; index.room(), 1);
+    assert!(rt; index.room() == 1);
     let found = places(alloc, &index, b"cc", b"k")?;
-    assert_eq!(rt; found.as_slice(), [5, 4, 1].as_slice());
+    assert!(rt; found.as_slice() == [5, 4, 1].as_slice());
     let found = places(alloc, &index, b"cc", b"l")?;
-    assert_eq!(rt; found.as_slice(), [2].as_slice());
+    assert!(rt; found.as_slice() == [2].as_slice());
     let found = places(alloc, &index, b"c", b"ck")?;
-    assert_eq!(rt; found.as_slice(), [3].as_slice());
+    assert!(rt; found.as_slice() == [3].as_slice());
     let found = places(alloc, &index, b"cc", b"m")?;
     assert!(rt; found.is_empty());
     Ok(())
 }
 
 #[test]
-fn many_keys_and_entries(rt: HostRuntime) -> Result<(), Fail> {
+fn many_keys_and_entries(rt: HostRuntime) -> Result<(), Failed> {
     let alloc = rt.alloc();
     let mut index = HistoryIndex::new(alloc);
     for tx in 0..1000u32 {
@@ -67,8 +67,8 @@ fn many_keys_and_entries(rt: HostRuntime) -> Result<(), Fail> {
         index.add(entry(alloc, b"cc", &(tx % 300).to_be_bytes(), tx)?);
     }
     let found = places(alloc, &index, b"cc", &7u32.to_be_bytes())?;
-    assert_eq!(rt; found.as_slice(), [907, 607, 307, 7].as_slice());
+    assert!(rt; found.as_slice() == [907, 607, 307, 7].as_slice());
     let found = places(alloc, &index, b"cc", &150u32.to_be_bytes())?;
-    assert_eq!(rt; found.as_slice(), [750, 450, 150].as_slice());
+    assert!(rt; found.as_slice() == [750, 450, 150].as_slice());
     Ok(())
 }

@@ -2,6 +2,8 @@
 #![tactic(auto)]
 
 #[cfg(test)]
+mod failed;
+#[cfg(test)]
 mod fixture;
 #[cfg(test)]
 mod histories;

@@ -1,18 +1,17 @@
 //! Rows that are put, changed and deleted, and the pages that hold them.
 
+use crate::failed::Failed;
 use crate::fixture::{bound, key, name};
 use rules::Row;
-use state_db::{Batch, StateDb};
+use state_db::{Batch, Rows, StateDb};
 use std::alloc::Global;
-use std::test::Fail;
 use transaction::Version;
 use values::{Bytes, Shared};
 
-fn row(alloc: Global, value: &[u8], block: u64) -> Result<Row, Fail> {
-    let value = Shared::new(alloc, Bytes::from_slice(alloc, value)?)?;
+fn row(alloc: Global, value: &[u8]) -> Result<Row, Failed> {
     Ok(Row {
-        value,
-        version: Version { block, tx: 0 },
+        value: Shared::new(alloc, Bytes::from_slice(alloc, value)?)?,
+        version: Version { block: 0, tx: 0 },
         policy: None,
     })
 }
@@ -23,317 +22,324 @@ fn numbered(number: u32) -> [u8; 4] {
     [b'k', digit(number / 100), digit(number / 10), digit(number)]
 }
 
-fn put(alloc: Global, batch: &mut Batch, at: &[u8], value: &[u8], block: u64) -> Result<(), Fail> {
-    batch.put(
-        name(alloc, b"cc")?,
-        key(alloc, at)?,
-        row(alloc, value, block)?,
-    )?;
-    Ok(())
+fn put(alloc: Global, batch: &mut Batch, at: &[u8], value: &[u8]) -> Result<(), Failed> {
+    let row = row(alloc, value)?;
+    Ok(batch.put(name(alloc, b"cc")?, key(alloc, at)?, row)?)
 }
 
-fn delete(alloc: Global, batch: &mut Batch, at: &[u8]) -> Result<(), Fail> {
-    batch.remove(name(alloc, b"cc")?, key(alloc, at)?)?;
-    Ok(())
+fn delete(alloc: Global, batch: &mut Batch, at: &[u8]) -> Result<(), Failed> {
+    Ok(batch.remove(name(alloc, b"cc")?, key(alloc, at)?)?)
 }
 
-fn rows_written(alloc: Global, count: u32) -> Result<Batch, Fail> {
+// The rows from a number to before another, each with its key as its value.
+fn written(alloc: Global, from: u32, to: u32) -> Result<Batch, Failed> {
     let mut batch = Batch::new(alloc);
-    for number in 0..count {
-        put(alloc, &mut batch, &numbered(number), b"new", 1)?;
+    for number in from..to {
+        put(alloc, &mut batch, &numbered(number), &numbered(number))?;
     }
     Ok(batch)
 }
 
-fn six_hundred(alloc: Global) -> Result<StateDb, Fail> {
-    let mut state = StateDb::new(alloc);
-    state.apply(&rows_written(alloc, 600)?)?;
-    Ok(state)
-}
-
-fn deleted(alloc: Global, state: &mut StateDb, from: u32, to: u32) -> Result<(), Fail> {
+fn deleted(alloc: Global, from: u32, to: u32) -> Result<Batch, Failed> {
     let mut batch = Batch::new(alloc);
     for number in from..to {
         delete(alloc, &mut batch, &numbered(number))?;
     }
-    state.apply(&batch)?;
-    Ok(())
+    Ok(batch)
 }
 
-// The keys of a range, one behind the other, each with a blank behind it.
-fn keys_between(
+// The state of k000 to k599, from one batch.
+fn six_hundred(alloc: Global) -> Result<StateDb, Failed> {
+    let mut state = StateDb::new(alloc);
+    let batch = written(alloc, 0, 600)?;
+    state.apply(&batch)?;
+    Ok(state)
+}
+
+fn without(alloc: Global, state: &mut StateDb, from: u32, to: u32) -> Result<(), Failed> {
+    let batch = deleted(alloc, from, to)?;
+    Ok(state.apply(&batch)?)
+}
+
+fn sizes(alloc: Global, state: &StateDb) -> Result<Vec<usize>, Failed> {
+    let mut sizes = Vec::new(alloc);
+    for page in 0..state.pages() {
+        sizes.push(state.page_rows(page).ok_or("a page")?)?;
+    }
+    Ok(sizes)
+}
+
+// Whether the keys are those of the rows, in this order, and the values are the keys.
+fn are_keys(rows: Rows<'_>, keys: &[&[u8]]) -> bool {
+    let mut wanted = keys.iter();
+    for row in rows {
+        let key = row.key();
+        if wanted.next().copied() != Some(key.as_slice())
+            || row.row().value.get().as_slice() != key.as_slice()
+        {
+            return false;
+        }
+    }
+    wanted.next().is_none()
+}
+
+fn are_between(
     alloc: Global,
     state: &StateDb,
     namespace: &[u8],
     start: &[u8],
     end: &[u8],
-) -> Result<Vec<u8>, Fail> {
+    keys: &[&[u8]],
+) -> Result<bool, Failed> {
     let namespace = name(alloc, namespace)?;
-    let mut keys = Vec::new(alloc);
-    for row in state.range(&namespace.lend(), &bound(start)?, &bound(end)?) {
-        keys.extend_from_slice(row.key().as_slice())?;
-        keys.push(b' ')?;
-    }
-    Ok(keys)
+    let rows = state.range(&namespace.lend(), &bound(start)?, &bound(end)?);
+    Ok(are_keys(rows, keys))
 }
 
-fn value_at(alloc: Global, state: &StateDb, at: &[u8]) -> Result<Vec<u8>, Fail> {
+// Whether all rows are those from a number to before another.
+fn are_numbered(rows: Rows<'_>, from: u32, to: u32) -> bool {
+    let mut number = from;
+    for row in rows {
+        if row.key().as_slice() != numbered(number).as_slice() {
+            return false;
+        }
+        number = number.wrapping_add(1);
+    }
+    number == to
+}
+
+fn are_all(alloc: Global, state: &StateDb, from: u32, to: u32) -> Result<bool, Failed> {
+    let namespace = name(alloc, b"cc")?;
+    let rows = state.range(&namespace.lend(), &bound(b"")?, &bound(b"")?);
+    Ok(are_numbered(rows, from, to))
+}
+
+// Whether the key has this value, or no row.
+fn is_value(
+    alloc: Global,
+    state: &StateDb,
+    at: &[u8],
+    value: Option<&[u8]>,
+) -> Result<bool, Failed> {
     let namespace = name(alloc, b"cc")?;
     let at = key(alloc, at)?;
-    Ok(match state.get(&namespace.lend(), &at.lend()) {
-        None => Vec::from_slice(alloc, b"-")?,
-        Some(row) => Vec::from_slice(alloc, row.value.get().as_slice())?,
+    Ok(match (state.get(&namespace.lend(), &at.lend()), value) {
+        (None, None) => true,
+        (Some(row), Some(value)) => row.value.get().as_slice() == value,
+        _ => false,
     })
 }
 
-fn sizes(alloc: Global, state: &StateDb) -> Result<Vec<usize>, Fail> {
-    let mut sizes = Vec::new(alloc);
-    for page in 0..state.pages() {
-        sizes.push(state.page_rows(page).ok_or("the page is there")?)?;
-    }
-    Ok(sizes)
+#[test]
+fn no_rows(rt: HostRuntime) -> Result<(), Failed> {
+    let mut state = StateDb::new(rt.alloc());
+    state.apply(&Batch::new(rt.alloc()))?;
+    assert!(rt; state.pages() == 0);
+    assert!(rt; state.page_rows(0).is_none());
+    assert!(rt; is_value(rt.alloc(), &state, b"k000", None)?);
+    assert!(rt; are_between(rt.alloc(), &state, b"cc", b"", b"", &[])?);
+    Ok(())
 }
 
-fn total(sizes: &[usize]) -> usize {
+fn are_of_600(sizes: &[usize]) -> bool {
     let mut total: usize = 0;
     for size in sizes {
+        if *size < 1 || 256 < *size {
+            return false;
+        }
         total = total.saturating_add(*size);
     }
-    total
+    3 <= sizes.len() && sizes.len() <= 599 && total == 600
 }
 
 #[test]
-fn no_rows(rt: HostRuntime) -> Result<(), Fail> {
-    let alloc = rt.alloc();
-    let mut state = StateDb::new(alloc);
-    state.apply(&Batch::new(alloc))?;
-    assert_eq!(rt; state.pages(), 0);
-    assert!(rt; state.page_rows(0).is_none());
-    assert_eq!(rt;
-        value_at(alloc, &state, b"k000")?.as_slice(),
-        b"-".as_slice()
-    );
-    assert_eq!(rt;
-        keys_between(alloc, &state, b"cc", b"", b"")?.as_slice(),
-        b"".as_slice()
-    );
+fn six_hundred_rows(rt: HostRuntime) -> Result<(), Failed> {
+    let state = six_hundred(rt.alloc())?;
+    let sizes = sizes(rt.alloc(), &state)?;
+    assert!(rt; are_of_600(&sizes));
+    assert!(rt; state.page_rows(sizes.len()).is_none());
+    assert!(rt; are_all(rt.alloc(), &state, 0, 600)?);
     Ok(())
 }
 
-#[test]
-fn six_hundred_rows(rt: HostRuntime) -> Result<(), Fail> {
-    let alloc = rt.alloc();
-    let state = six_hundred(alloc)?;
-    let sizes = sizes(alloc, &state)?;
-    assert!(rt; 3 <= sizes.len() && sizes.len() <= 599);
-    assert_eq!(rt; total(sizes.as_slice()), 600);
-    assert!(rt; sizes.iter().all(|size| 1 <= *size && *size <= 256));
-    assert!(rt; state.page_rows(state.pages()).is_none());
-    let keys = keys_between(alloc, &state, b"cc", b"k250", b"k260")?;
-    let ten = b"k250 k251 k252 k253 k254 k255 k256 k257 k258 k259 ";
-    assert_eq!(rt; keys.as_slice(), ten.as_slice());
-    assert_eq!(rt; keys_between(alloc, &state, b"cc", b"", b"")?.len(), 3000);
-    Ok(())
-}
+static K25: [&[u8]; 10] = [
+    b"k250", b"k251", b"k252", b"k253", b"k254", b"k255", b"k256", b"k257", b"k258", b"k259",
+];
 
 #[test]
-fn bounds(rt: HostRuntime) -> Result<(), Fail> {
-    let alloc = rt.alloc();
-    let state = six_hundred(alloc)?;
-    let of = |start: &[u8], end: &[u8]| keys_between(alloc, &state, b"cc", start, end);
-    assert_eq!(rt; of(b"k5985", b"")?.as_slice(), b"k599 ".as_slice());
-    assert_eq!(rt; of(b"", b"k001")?.as_slice(), b"k000 ".as_slice());
-    assert_eq!(rt; of(b"k600", b"")?.as_slice(), b"".as_slice());
-    assert_eq!(rt; of(b"k300", b"k300")?.as_slice(), b"".as_slice());
-    assert_eq!(rt; of(b"k301", b"k300")?.as_slice(), b"".as_slice());
-    assert_eq!(rt;
-        keys_between(alloc, &state, b"c", b"", b"")?.as_slice(),
-        b"".as_slice()
-    );
-    assert_eq!(rt;
-        keys_between(alloc, &state, b"cd", b"", b"")?.as_slice(),
-        b"".as_slice()
-    );
-    Ok(())
-}
-
-#[test]
-fn first_rows_deleted(rt: HostRuntime) -> Result<(), Fail> {
-    let alloc = rt.alloc();
-    let mut state = six_hundred(alloc)?;
-    deleted(alloc, &mut state, 0, 256)?;
-    assert_eq!(rt; total(sizes(alloc, &state)?.as_slice()), 344);
-    assert_eq!(rt;
-        keys_between(alloc, &state, b"cc", b"", b"k257")?.as_slice(),
-        b"k256 ".as_slice()
-    );
-    assert_eq!(rt;
-        value_at(alloc, &state, b"k255")?.as_slice(),
-        b"-".as_slice()
-    );
-    assert_eq!(rt;
-        value_at(alloc, &state, b"k256")?.as_slice(),
-        b"new".as_slice()
-    );
-    Ok(())
-}
-
-#[test]
-fn all_rows_deleted(rt: HostRuntime) -> Result<(), Fail> {
-    let alloc = rt.alloc();
-    let mut state = six_hundred(alloc)?;
-    deleted(alloc, &mut state, 0, 600)?;
-    assert_eq!(rt; state.pages(), 0);
-    state.apply(&rows_written(alloc, 1)?)?;
-    assert_eq!(rt; sizes(alloc, &state)?.as_slice(), [1].as_slice());
-    Ok(())
-}
-
-#[test]
-fn one_row_deleted(rt: HostRuntime) -> Result<(), Fail> {
-    let alloc = rt.alloc();
-    let mut state = six_hundred(alloc)?;
-    let before = sizes(alloc, &state)?;
-    let last = before.len().saturating_sub(1);
-    deleted(alloc, &mut state, 0, 1)?;
-    let after_first = sizes(alloc, &state)?;
-    deleted(alloc, &mut state, 599, 600)?;
-    let after_last = sizes(alloc, &state)?;
-    assert_eq!(rt; after_first.len(), before.len());
-    assert_eq!(rt; after_last.len(), before.len());
-    for (page, size) in before.iter().enumerate() {
-        let first = if page == 0 { 1 } else { 0 };
-        let other = if page == last { 1 } else { 0 };
-        assert_eq!(rt; after_first.get(page), Some(&size.saturating_sub(first)));
-        let left = size.saturating_sub(first).saturating_sub(other);
-        assert_eq!(rt; after_last.get(page), Some(&left));
+fn bounds(rt: HostRuntime) -> Result<(), Failed> {
+    let state = six_hundred(rt.alloc())?;
+    let rows: [(&[u8], &[u8], &[u8], &[&[u8]]); 8] = [
+        (b"cc", b"k250", b"k260", &K25),
+        (b"cc", b"k5985", b"", &[b"k599"]),
+        (b"cc", b"", b"k001", &[b"k000"]),
+        (b"cc", b"k600", b"", &[]),
+        (b"cc", b"k300", b"k300", &[]),
+        (b"cc", b"k301", b"k300", &[]),
+        (b"c", b"", b"", &[]),
+        (b"cd", b"", b"", &[]),
+    ];
+    for (namespace, start, end, keys) in &rows {
+        assert!(rt; are_between(rt.alloc(), &state, namespace, start, end, keys)?);
     }
     Ok(())
 }
 
 #[test]
-fn page_of_one_row(rt: HostRuntime) -> Result<(), Fail> {
-    let alloc = rt.alloc();
-    let mut state = six_hundred(alloc)?;
-    let pages = state.pages();
-    let first = state.page_rows(0).ok_or("there is a page")?;
-    let one_left = first.saturating_sub(1) as u32;
-    deleted(alloc, &mut state, 0, one_left)?;
-    assert_eq!(rt; state.page_rows(0), Some(1));
-    assert_eq!(rt; state.pages(), pages);
-    deleted(alloc, &mut state, one_left, one_left.saturating_add(1))?;
-    assert_eq!(rt; state.pages(), pages.saturating_sub(1));
+fn first_rows_deleted(rt: HostRuntime) -> Result<(), Failed> {
+    let mut state = six_hundred(rt.alloc())?;
+    without(rt.alloc(), &mut state, 0, 256)?;
+    assert!(rt; are_all(rt.alloc(), &state, 256, 600)?);
+    assert!(rt; is_value(rt.alloc(), &state, b"k255", None)?);
+    assert!(rt; is_value(rt.alloc(), &state, b"k256", Some(b"k256"))?);
     Ok(())
 }
 
 #[test]
-fn last_call_of_a_key_stands(rt: HostRuntime) -> Result<(), Fail> {
-    let alloc = rt.alloc();
-    let mut state = six_hundred(alloc)?;
+fn all_rows_deleted(rt: HostRuntime) -> Result<(), Failed> {
+    let mut state = six_hundred(rt.alloc())?;
+    without(rt.alloc(), &mut state, 0, 600)?;
+    assert!(rt; state.pages() == 0);
+    let batch = written(rt.alloc(), 0, 1)?;
+    state.apply(&batch)?;
+    assert!(rt; (state.pages(), state.page_rows(0)) == (1, Some(1)));
+    Ok(())
+}
+
+// Whether the pages have as many rows as before, but for one fewer at a place.
+fn is_one_fewer(before: &[usize], after: &[usize], place: usize) -> bool {
+    for (page, (old, new)) in before.iter().zip(after).enumerate() {
+        let gone = if page == place { 1 } else { 0 };
+        if old.saturating_sub(gone) != *new {
+            return false;
+        }
+    }
+    before.len() == after.len()
+}
+
+#[test]
+fn the_first_row_deleted(rt: HostRuntime) -> Result<(), Failed> {
+    let mut state = six_hundred(rt.alloc())?;
+    let before = sizes(rt.alloc(), &state)?;
+    without(rt.alloc(), &mut state, 0, 1)?;
+    let after = sizes(rt.alloc(), &state)?;
+    assert!(rt; is_one_fewer(&before, &after, 0));
+    Ok(())
+}
+
+#[test]
+fn the_last_row_deleted(rt: HostRuntime) -> Result<(), Failed> {
+    let mut state = six_hundred(rt.alloc())?;
+    let before = sizes(rt.alloc(), &state)?;
+    without(rt.alloc(), &mut state, 599, 600)?;
+    let after = sizes(rt.alloc(), &state)?;
+    assert!(rt; is_one_fewer(&before, &after, before.len().saturating_sub(1)));
+    Ok(())
+}
+
+#[test]
+fn page_of_one_row(rt: HostRuntime) -> Result<(), Failed> {
+    let mut state = six_hundred(rt.alloc())?;
+    let first = state.page_rows(0).ok_or("a page")?.min(256) as u32;
+    without(rt.alloc(), &mut state, 1, first)?;
+    let before = sizes(rt.alloc(), &state)?;
+    assert!(rt; before.first() == Some(&1));
+    without(rt.alloc(), &mut state, 0, 1)?;
+    let after = sizes(rt.alloc(), &state)?;
+    assert!(rt; before.iter().skip(1).eq(after.iter()));
+    Ok(())
+}
+
+fn repeated(alloc: Global) -> Result<Batch, Failed> {
     let mut batch = Batch::new(alloc);
-    put(alloc, &mut batch, b"k300", b"first", 2)?;
+    put(alloc, &mut batch, b"k300", b"first")?;
     delete(alloc, &mut batch, b"k100")?;
-    put(alloc, &mut batch, b"k100", b"again", 2)?;
-    put(alloc, &mut batch, b"k300", b"second", 2)?;
-    put(alloc, &mut batch, b"k400", b"gone", 2)?;
+    put(alloc, &mut batch, b"k100", b"again")?;
+    put(alloc, &mut batch, b"k300", b"second")?;
+    put(alloc, &mut batch, b"k400", b"gone")?;
     delete(alloc, &mut batch, b"k400")?;
     delete(alloc, &mut batch, b"k4")?;
+    Ok(batch)
+}
+
+#[test]
+fn last_call_of_a_key_stands(rt: HostRuntime) -> Result<(), Failed> {
+    let mut state = six_hundred(rt.alloc())?;
+    let batch = repeated(rt.alloc())?;
     state.apply(&batch)?;
-    assert_eq!(rt;
-        value_at(alloc, &state, b"k100")?.as_slice(),
-        b"again".as_slice()
-    );
-    assert_eq!(rt;
-        value_at(alloc, &state, b"k300")?.as_slice(),
-        b"second".as_slice()
-    );
-    assert_eq!(rt;
-        value_at(alloc, &state, b"k400")?.as_slice(),
-        b"-".as_slice()
-    );
-    assert_eq!(rt;
-        value_at(alloc, &state, b"k401")?.as_slice(),
-        b"new".as_slice()
-    );
-    assert_eq!(rt; total(sizes(alloc, &state)?.as_slice()), 599);
+    let rows: [(&[u8], Option<&[u8]>); 4] = [
+        (b"k100", Some(b"again")),
+        (b"k300", Some(b"second")),
+        (b"k400", None),
+        (b"k401", Some(b"k401")),
+    ];
+    for (at, value) in &rows {
+        assert!(rt; is_value(rt.alloc(), &state, at, *value)?);
+    }
     Ok(())
 }
 
-// Keys and namespaces that begin alike, beyond what a head holds.
-#[test]
-fn long_common_beginnings(rt: HostRuntime) -> Result<(), Fail> {
-    let alloc = rt.alloc();
+// Keys in order that begin alike, beyond what a head holds.
+static ALIKE: [&[u8]; 6] = [
+    b"\0",
+    b"\0\0",
+    b"a-key-of-many-byte\0",
+    b"a-key-of-many-bytes",
+    b"a-key-of-many-bytes-1",
+    b"a-key-of-many-bytes-2",
+];
+
+// These, and keys of namespaces that begin alike.
+fn alike(alloc: Global) -> Result<Batch, Failed> {
     let mut batch = Batch::new(alloc);
-    for at in [
-        b"a-key-of-many-bytes-2".as_slice(),
-        b"a-key-of-many-bytes".as_slice(),
-        b"a-key-of-many-bytes-1".as_slice(),
-        b"a-key-of-many-byte\0".as_slice(),
-        b"\0".as_slice(),
-        b"\0\0".as_slice(),
-    ] {
-        put(alloc, &mut batch, at, at, 1)?;
+    for at in ALIKE.iter().rev() {
+        put(alloc, &mut batch, at, at)?;
     }
-    for (namespace, at) in [
-        (b"cc1".as_slice(), b"x".as_slice()),
-        (b"c".as_slice(), b"c".as_slice()),
-        (b"cb".as_slice(), b"z".as_slice()),
-    ] {
-        batch.put(name(alloc, namespace)?, key(alloc, at)?, row(alloc, at, 1)?)?;
+    let others: [(&[u8], &[u8]); 3] = [(b"cc1", b"x"), (b"c", b"c"), (b"cb", b"z")];
+    for (namespace, at) in &others {
+        let row = row(alloc, at)?;
+        batch.put(name(alloc, namespace)?, key(alloc, at)?, row)?;
     }
-    let mut state = StateDb::new(alloc);
+    Ok(batch)
+}
+
+#[test]
+fn long_common_beginnings(rt: HostRuntime) -> Result<(), Failed> {
+    let mut state = StateDb::new(rt.alloc());
+    let batch = alike(rt.alloc())?;
     state.apply(&batch)?;
-    let keys = keys_between(alloc, &state, b"cc", b"", b"")?;
-    let wanted =
-        b"\0 \0\0 a-key-of-many-byte\0 a-key-of-many-bytes a-key-of-many-bytes-1 a-key-of-many-bytes-2 ";
-    assert_eq!(rt; keys.as_slice(), wanted.as_slice());
-    assert_eq!(rt;
-        keys_between(alloc, &state, b"c", b"", b"")?.as_slice(),
-        b"c ".as_slice()
-    );
-    assert_eq!(rt;
-        keys_between(alloc, &state, b"cc1", b"", b"")?.as_slice(),
-        b"x ".as_slice()
-    );
-    let one = keys_between(
-        alloc,
-        &state,
-        b"cc",
-        b"a-key-of-many-bytes-1",
-        b"a-key-of-many-bytes-2",
-    )?;
-    assert_eq!(rt; one.as_slice(), b"a-key-of-many-bytes-1 ".as_slice());
-    assert_eq!(rt;
-        value_at(alloc, &state, b"\0\0")?.as_slice(),
-        b"\0\0".as_slice()
-    );
-    assert_eq!(rt;
-        value_at(alloc, &state, b"\0\0\0")?.as_slice(),
-        b"-".as_slice()
-    );
+    let rows: [(&[u8], &[u8], &[u8], &[&[u8]]); 4] = [
+        (b"cc", b"", b"", &ALIKE),
+        (
+            b"cc",
+            b"a-key-of-many-bytes-1",
+            b"a-key-of-many-bytes-2",
+            &ALIKE[4..5],
+        ),
+        (b"c", b"", b"", &[b"c"]),
+        (b"cc1", b"", b"", &[b"x"]),
+    ];
+    for (namespace, start, end, keys) in &rows {
+        assert!(rt; are_between(rt.alloc(), &state, namespace, start, end, keys)?);
+    }
+    assert!(rt; is_value(rt.alloc(), &state, b"\0\0", Some(b"\0\0"))?);
+    assert!(rt; is_value(rt.alloc(), &state, b"\0\0\0", None)?);
     Ok(())
 }
 
 // To be run with memory that is refused at any one allocation of the second `apply`: then the state is as before, and
 // takes the same batch next. Where it is refused before or after, the test ends by `?`.
 #[test]
-fn refused_memory_changes_nothing(rt: HostRuntime) -> Result<(), Fail> {
-    let alloc = rt.alloc();
-    let mut state = StateDb::new(alloc);
-    state.apply(&rows_written(alloc, 250)?)?;
-    let batch = rows_written(alloc, 600)?;
+fn refused_memory_changes_nothing(rt: HostRuntime) -> Result<(), Failed> {
+    let mut state = StateDb::new(rt.alloc());
+    let first = written(rt.alloc(), 0, 250)?;
+    state.apply(&first)?;
+    let batch = written(rt.alloc(), 0, 600)?;
     if state.apply(&batch).is_err() {
-        assert_eq!(rt; sizes(alloc, &state)?.as_slice(), [250].as_slice());
-        assert_eq!(rt;
-            value_at(alloc, &state, b"k250")?.as_slice(),
-            b"-".as_slice()
-        );
+        assert!(rt; (state.pages(), state.page_rows(0)) == (1, Some(250)));
+        assert!(rt; are_all(rt.alloc(), &state, 0, 250)?);
         state.apply(&batch)?;
     }
-    assert_eq!(rt; total(sizes(alloc, &state)?.as_slice()), 600);
-    assert_eq!(rt;
-        value_at(alloc, &state, b"k599")?.as_slice(),
-        b"new".as_slice()
-    );
+    assert!(rt; are_all(rt.alloc(), &state, 0, 600)?);
     Ok(())
 }
