@@ -180,8 +180,8 @@ impl World {
         self.deltas.as_slice()
     }
 
-    // An `Err` changes nothing.
-    pub(crate) fn apply(&mut self, delta: Delta) -> Result<(), AllocError>
+    /// Applies a delta, which is kept. An `Err` changes nothing.
+    pub fn apply(&mut self, delta: Delta) -> Result<(), AllocError>
         ensures ok { OnOk result (self.new ≡ applied self.old delta) }
         ensures err { OnErr result (self.new ≡ self.old) }
     {

@@ -1,6 +1,8 @@
-//! Tests of what a ledger holds: rows in pages, used ids, histories.
+//! Tests of what a ledger holds: rows in pages, used ids, histories, worlds.
 #![tactic(auto)]
 
+#[cfg(test)]
+mod deltas;
 #[cfg(test)]
 mod failed;
 #[cfg(test)]
@@ -10,4 +12,8 @@ mod histories;
 #[cfg(test)]
 mod ids;
 #[cfg(test)]
+mod noted;
+#[cfg(test)]
 mod pages;
+#[cfg(test)]
+mod worlds;

@@ -1,0 +1,148 @@
+//! Deltas at random, noted as they are made.
+
+use crate::failed::Failed;
+use crate::fixture::name;
+use crate::noted::{IDS, KEYS, NAMESPACE, Noted, id_of, key_of, use_at};
+use policy::Policy;
+use rules::{Change, CommittedBlock, Delta, HistoryEntry, KeyedRow, NewEntry, NewUse, Row};
+use std::alloc::Global;
+use transaction::Version;
+use values::{Bytes, Items, Shared};
+
+/// Numbers at random, by Marsaglia's xorshift.
+#[derive(Drop)]
+pub struct Random {
+    state: u64,
+    // how many puts, entries and uses were made
+    made: u32,
+}
+
+impl Random {
+    pub fn new() -> Random {
+        Random {
+            state: 88172645463325252,
+            made: 0,
+        }
+    }
+
+    /// A number below 256.
+    fn next(&mut self) -> usize {
+        self.state ^= self.state << 13;
+        self.state ^= self.state >> 7;
+        self.state ^= self.state << 17;
+        let [_, _, _, byte, ..] = self.state.to_be_bytes();
+        byte as usize
+    }
+
+    pub fn key(&mut self) -> usize {
+        self.next() % KEYS
+    }
+
+    pub fn id(&mut self) -> usize {
+        self.next() % IDS
+    }
+
+    pub fn up_to(&mut self, most: u8) -> usize {
+        self.next() % (most as usize + 1)
+    }
+
+    fn number(&mut self) -> u32 {
+        self.made = self.made.wrapping_add(1);
+        self.made
+    }
+}
+
+// A policy for every fourth row.
+fn policy(alloc: Global, number: u32) -> Result<Option<Shared<Policy>>, Failed> {
+    if number % 4 != 0 {
+        return Ok(None);
+    }
+    match Policy::parse(alloc, "'A.peer'") {
+        Ok(policy) => Ok(Some(Shared::new(alloc, policy)?)),
+        Err(_) => Err(Failed::Missing("a policy")),
+    }
+}
+
+fn change(alloc: Global, random: &mut Random, noted: &mut Noted) -> Result<Change, Failed> {
+    let namespace = name(alloc, NAMESPACE)?;
+    let at = random.key();
+    let key = key_of(alloc, at)?;
+    if random.up_to(2) == 0 {
+        noted.set(at, None);
+        return Ok(Change::Remove(namespace, key));
+    }
+    let number = random.number();
+    noted.set(at, Some(number));
+    let row = Row {
+        value: Shared::new(alloc, Bytes::from_vec(Vec::new(alloc)))?,
+        version: Version {
+            block: 0,
+            tx: number,
+        },
+        policy: policy(alloc, number)?,
+    };
+    let keyed = KeyedRow::new(alloc, &namespace.lend(), &key.lend(), row)?;
+    Ok(Change::Put(Shared::new(alloc, keyed)?))
+}
+
+fn entry(
+    alloc: Global,
+    random: &mut Random,
+    noted: &mut Noted,
+) -> Result<Shared<NewEntry>, Failed> {
+    let at = random.key();
+    let number = random.number();
+    noted.entries.push((at, number))?;
+    let entry = NewEntry {
+        namespace: name(alloc, NAMESPACE)?,
+        key: key_of(alloc, at)?,
+        entry: HistoryEntry {
+            version: Version {
+                block: 0,
+                tx: number,
+            },
+            id: [0; 64],
+            value: None,
+        },
+    };
+    Ok(Shared::new(alloc, entry)?)
+}
+
+/// A delta of changes in any order, with keys and ids that repeat: of each list up to so many.
+pub fn delta(
+    alloc: Global,
+    random: &mut Random,
+    noted: &mut Noted,
+    most: u8,
+    hash: [u8; 32],
+) -> Result<Delta, Failed> {
+    let mut changes = Items::new(alloc);
+    for _ in 0..random.up_to(most) {
+        changes.push(change(alloc, random, noted)?)?;
+    }
+    let mut entries = Items::new(alloc);
+    for _ in 0..random.up_to(most) {
+        entries.push(entry(alloc, random, noted)?)?;
+    }
+    let mut uses = Items::new(alloc);
+    for _ in 0..random.up_to(most) {
+        let id = random.id();
+        let number = random.number();
+        noted.add_use(id, number);
+        uses.push(NewUse {
+            id: id_of(id),
+            first_use: use_at(number),
+        })?;
+    }
+    let block = CommittedBlock {
+        bytes: Bytes::from_vec(Vec::new(alloc)),
+        header_hash: hash,
+        flags: Items::new(alloc),
+    };
+    Ok(Delta {
+        changes,
+        entries,
+        uses,
+        block: Shared::new(alloc, block)?,
+    })
+}

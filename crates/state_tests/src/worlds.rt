@@ -1,0 +1,246 @@
+use crate::deltas::{Random, delta};
+use crate::failed::Failed;
+use crate::fixture::{bound, name};
+use crate::noted::{IDS, KEYS, NAMESPACE, Noted, id_of, key_of, use_at};
+use rules::Row;
+use std::alloc::Global;
+use world::World;
+
+const BLOCKS: u32 = 2000;
+
+fn hash_of(block: u32) -> [u8; 32] {
+    let mut hash = [0; 32];
+    let [a, b, c, d] = block.to_be_bytes();
+    hash[0] = a;
+    hash[1] = b;
+    hash[2] = c;
+    hash[3] = d;
+    hash
+}
+
+// Whether the key has the row and the history that were noted.
+fn key_is_noted(alloc: Global, world: &World, noted: &Noted, at: usize) -> Result<bool, Failed> {
+    let namespace = name(alloc, NAMESPACE)?;
+    let key = key_of(alloc, at)?;
+    let row = match world.row(&namespace.lend(), &key.lend()) {
+        None => None,
+        Some(row) => Some(row.version.tx),
+    };
+    let mut history = Vec::new(alloc);
+    for entry in world.history(&namespace.lend(), &key.lend()) {
+        history.push(entry.version.tx)?;
+    }
+    let expected = noted.history(alloc, at)?;
+    Ok(row == noted.row(at) && history.as_slice() == expected.as_slice())
+}
+
+// Whether the range has the rows that were noted; a bound past all keys is an empty one.
+fn range_is_noted(
+    alloc: Global,
+    world: &World,
+    noted: &Noted,
+    start: usize,
+    end: usize,
+    limit: usize,
+) -> Result<bool, Failed> {
+    let name = name(alloc, NAMESPACE)?;
+    let first = key_of(alloc, start)?;
+    let behind = key_of(alloc, end)?;
+    let start_bytes = if start < KEYS { first.as_slice() } else { &[] };
+    let end_bytes = if end < KEYS { behind.as_slice() } else { &[] };
+    let answer = world.range(
+        alloc,
+        &name.lend(),
+        &bound(start_bytes)?,
+        &bound(end_bytes)?,
+        limit,
+    )?;
+    let mut rows = Vec::new(alloc);
+    for row in &answer.rows {
+        rows.push(row.row().version.tx)?;
+    }
+    let from = if start < KEYS { start } else { 0 };
+    let mut expected = noted.range(alloc, from, end)?;
+    let more = expected.len() > limit;
+    expected.truncate(limit);
+    Ok(rows.as_slice() == expected.as_slice() && answer.more == more)
+}
+
+fn ids_are_noted(world: &World, noted: &Noted) -> bool {
+    for (number, used) in noted.uses.iter().enumerate() {
+        let expected = match used {
+            None => None,
+            Some(place) => Some(use_at(*place)),
+        };
+        if world.first_use(&id_of(number)) != expected {
+            return false;
+        }
+    }
+    true
+}
+
+fn is_noted(alloc: Global, world: &World, noted: &Noted) -> Result<bool, Failed> {
+    for at in 0..KEYS {
+        if !key_is_noted(alloc, world, noted, at)? {
+            return Ok(false);
+        }
+    }
+    Ok(ids_are_noted(world, noted))
+}
+
+fn is_same_row(row: Option<&Row>, other: Option<&Row>) -> bool {
+    match (row, other) {
+        (None, None) => true,
+        (Some(row), Some(other)) => {
+            row.version == other.version && row.policy.is_some() == other.policy.is_some()
+        }
+        _ => false,
+    }
+}
+
+// Whether both worlds have the same row and history at a key.
+fn key_is_alike(
+    alloc: Global,
+    world: &World,
+    plain: &plain::World,
+    at: usize,
+) -> Result<bool, Failed> {
+    let namespace = name(alloc, NAMESPACE)?;
+    let key = key_of(alloc, at)?;
+    let entries = plain.history(alloc, &namespace, &key)?;
+    let versions = world
+        .history(&namespace.lend(), &key.lend())
+        .map(|entry| entry.version);
+    Ok(
+        versions.eq(entries.iter().map(|entry| entry.version))
+            && is_same_row(
+                world.row(&namespace.lend(), &key.lend()),
+                plain.row(&namespace, &key),
+            ),
+    )
+}
+
+fn ids_and_blocks_are_alike(world: &World, plain: &plain::World) -> bool {
+    for id in 0..IDS {
+        if world.first_use(&id_of(id)) != plain.first_use(&id_of(id)) {
+            return false;
+        }
+    }
+    world.height() == plain.height() && world.header_hash() == plain.header_hash()
+}
+
+fn is_behind(world: &World, block: u32) -> bool {
+    world.height() == block as u64 + 1 && world.header_hash() == Some(hash_of(block))
+}
+
+// Ranges between two keys at random, in any order.
+fn ranges_are_noted(
+    alloc: Global,
+    random: &mut Random,
+    world: &World,
+    noted: &Noted,
+) -> Result<bool, Failed> {
+    let start = random.up_to(KEYS as u8);
+    let end = random.up_to(KEYS as u8);
+    for limit in [0, 1, 5, 100] {
+        if !range_is_noted(alloc, world, noted, start, end, limit)? {
+            return Ok(false);
+        }
+    }
+    Ok(true)
+}
+
+/// A world, one of plain lists, and what both are to hold.
+#[derive(Drop)]
+struct Worlds {
+    random: Random,
+    noted: Noted,
+    world: World,
+    plain: plain::World,
+}
+
+impl Worlds {
+    fn new(alloc: Global) -> Result<Worlds, Failed> {
+        Ok(Worlds {
+            random: Random::new(),
+            noted: Noted::new(alloc)?,
+            world: World::new(alloc),
+            plain: plain::World::new(alloc),
+        })
+    }
+
+    // Applies a delta at random, of which each list has up to `most`: where memory is refused once more, and then
+    // nothing is to have changed.
+    fn apply_next(&mut self, alloc: Global, most: u8, block: u32) -> Result<(), Failed> {
+        let mut after = self.noted.copy(alloc)?;
+        let next = delta(alloc, &mut self.random, &mut after, most, hash_of(block))?;
+        if self.world.apply(&next).is_err() {
+            if !is_noted(alloc, &self.world, &self.noted)? || self.world.height() != block as u64 {
+                return Err(Failed::Missing("the world as it was"));
+            }
+            self.world.apply(&next)?;
+        }
+        self.plain.apply(next)?;
+        self.noted = after;
+        Ok(())
+    }
+
+    // Whether the worlds hold what they are to hold behind a block: all ids, a key and ranges at random.
+    fn are_right(&mut self, alloc: Global, block: u32) -> Result<bool, Failed> {
+        let at = self.random.key();
+        Ok(
+            is_behind(&self.world, block)
+                && ids_are_noted(&self.world, &self.noted)
+                && key_is_noted(alloc, &self.world, &self.noted, at)?
+                && key_is_alike(alloc, &self.world, &self.plain, at)?
+                && ranges_are_noted(alloc, &mut self.random, &self.world, &self.noted)?,
+        )
+    }
+
+    fn are_right_at_last(&self, alloc: Global) -> Result<bool, Failed> {
+        Ok(
+            is_noted(alloc, &self.world, &self.noted)?
+                && ids_and_blocks_are_alike(&self.world, &self.plain),
+        )
+    }
+}
+
+#[test]
+fn random_deltas(rt: HostRuntime) -> Result<(), Failed> {
+    let mut worlds = Worlds::new(rt.alloc())?;
+    for block in 0..BLOCKS {
+        worlds.apply_next(rt.alloc(), 4, block)?;
+        assert!(rt;
+            worlds.are_right(rt.alloc(), block)?,
+            "behind block {block}"
+        );
+    }
+    assert!(rt; worlds.are_right_at_last(rt.alloc())?);
+    Ok(())
+}
+
+fn is_kept(world: &World, block: u32) -> bool {
+    match world.block(block as u64) {
+        None => false,
+        Some(kept) => kept.header_hash == hash_of(block),
+    }
+}
+
+#[test]
+fn blocks_are_kept(rt: HostRuntime) -> Result<(), Failed> {
+    let mut worlds = Worlds::new(rt.alloc())?;
+    worlds.apply_next(rt.alloc(), 0, 0)?;
+    worlds.apply_next(rt.alloc(), 0, 1)?;
+    assert!(rt; is_kept(&worlds.world, 0) && is_kept(&worlds.world, 1));
+    assert!(rt; worlds.world.block(2).is_none());
+    Ok(())
+}
+
+#[test]
+fn refused_memory_changes_nothing(rt: HostRuntime) -> Result<(), Failed> {
+    let mut worlds = Worlds::new(rt.alloc())?;
+    worlds.apply_next(rt.alloc(), 40, 0)?;
+    worlds.apply_next(rt.alloc(), 40, 1)?;
+    assert!(rt; worlds.are_right_at_last(rt.alloc())?);
+    Ok(())
+}

@@ -1,0 +1,57 @@
+-- One more of each of a delta's lists.
+use Rattle.std.proofs.Common.{◌≡◌, ℕ, ◌+◌, ◌<◌, ◌≤◌, Bool, true, false, List, [], ◌∷◌, length, take, get_or, Option, sym, ap, ◌∙◌, arith}
+use Rattle.std.specs.Prelude.{if◌then◌else◌}
+use Rattle.std.proofs.lemmas.List.{map_more}
+use Rattle.std.proofs.lemmas.List.{nil_from_length}
+use Rattle.std.specs.FinMap.{empty, entries, len-entries, len-empty}
+use Rattle.rules.specs.declared.delta.Change.{Change}
+use Rattle.rules.specs.declared.delta.NewEntry.{NewEntry}
+use Rattle.rules.specs.declared.delta.NewUse.{NewUse}
+use Rattle.rules.specs.declared.row.Row.{Row}
+use Rattle.rules.specs.State.{State, key_cmp, set_at, with_changes}
+use Rattle.rules.specs.History.{History, with_entries}
+use Rattle.rules.specs.FirstUses.{FirstUses, with_uses}
+use Rattle.rules.specs.Delta.{change_of, changes_in, entries_in, uses_in}
+use Rattle.state_db.specs.Batch.{changed}
+use Rattle.rules.proofs.Changes.{with_changes-push}
+use Rattle.rules.proofs.HistoryEntries.{with_entries-append, with_entries-none}
+use Rattle.rules.proofs.IdUses.{with_uses-append}
+
+pub changes_more : (changes : List Change) (i : ℕ) (c : Change) (s old new : State) → i < length changes → c ≡ get_or changes i c
+    → new ≡ set_at old (change_of c).0 (change_of c).1 → old ≡ with_changes s (changes_in (take i changes))
+    → new ≡ with_changes s (changes_in (take (i + 1) changes))
+changes_more changes i c s old new lt is made so_far =
+    made
+    ∙ (λ j. set_at (so_far j) (change_of (is j)).0 (change_of (is j)).1)
+    ∙ sym (with_changes-push s (changes_in (take i changes)) (change_of (get_or changes i c)))
+    ∙ ap (with_changes s) (sym (map_more change_of changes i c lt))
+
+pub uses_more : (uses : List NewUse) (i : ℕ) (d : NewUse) (first old new : FirstUses) → i < length uses
+    → new ≡ with_uses old (((get_or uses i d).id, (get_or uses i d).first_use) ∷ []) → old ≡ with_uses first (uses_in (take i uses))
+    → new ≡ with_uses first (uses_in (take (i + 1) uses))
+uses_more uses i d first old new lt made so_far =
+    made
+    ∙ ap (λ m. with_uses m (uses_in (get_or uses i d ∷ []))) so_far
+    ∙ sym (with_uses-append first (uses_in (take i uses)) (uses_in (get_or uses i d ∷ [])))
+    ∙ ap (with_uses first) (sym (map_more (λ (x : NewUse). (x.id, x.first_use)) uses i d lt))
+
+pub room_left : (b : Bool) (n i before after : ℕ) → after + (if b then 0 else 1) ≡ before → n ≤ i + before → n ≤ i + 1 + after
+room_left true n i before after e h = omega arith
+room_left false n i before after e h = omega arith
+
+pub entry_more : (e : NewEntry) (left rest : List NewEntry) (first old new : History) (all : List NewEntry) → left ≡ e ∷ rest
+    → new ≡ with_entries old (((e.namespace, e.key), e.entry) ∷ []) → with_entries old (entries_in left) ≡ with_entries first (entries_in all)
+    → with_entries new (entries_in rest) ≡ with_entries first (entries_in all)
+entry_more e left rest first old new all is made so_far =
+    ap (λ h. with_entries h (entries_in rest)) made
+    ∙ sym (with_entries-append old (entries_in (e ∷ [])) (entries_in rest))
+    ∙ ap (λ l. with_entries old (entries_in l)) (sym is)
+    ∙ so_far
+
+pub no_changes : (s : State) → changed s empty ≡ with_changes s []
+no_changes s = ap (with_changes s) (nil_from_length (entries {X = Option Row} {R = key_cmp} empty) (sym (len-entries empty) ∙ len-empty key_cmp (Option Row)))
+
+pub no_entry_left : (left all : List NewEntry) (first now : History) → length left ≡ 0 → with_entries now (entries_in left) ≡ with_entries first (entries_in all)
+    → now ≡ with_entries first (entries_in all)
+no_entry_left left all first now none so_far =
+    sym (with_entries-none now) ∙ ap (λ l. with_entries now (entries_in l)) (sym (nil_from_length left none)) ∙ so_far

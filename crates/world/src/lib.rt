@@ -1,0 +1,10 @@
+//! What a ledger holds: its state, the history of each key, the first use of each id, its blocks. A block's delta is
+//! applied at the cost of the delta, whatever the ledger's length.
+#![tactic(auto)]
+
+mod deltas;
+mod range;
+mod world;
+
+pub use range::RangeAnswer;
+pub use world::World;

@@ -1,0 +1,146 @@
+ghost use Rattle.std.specs.Prelude.{◌≡◌, map, IfOk, OnOk, OnErr};
+ghost use Rattle.std.specs.Option.{option_copied};
+ghost use Rattle.rules.specs.Delta.{applied};
+ghost use Rattle.rules.specs.World.{empty_world, height_of, last_header_hash};
+ghost use Rattle.rules.specs.Answers.{row_answer, range_answer, history_answer, first_use_answer, block_answer};
+
+use crate::deltas::{add_entries, add_uses, batch_of, share_entries};
+use crate::range::{RangeAnswer, up_to};
+use history_index::{Entries, HistoryIndex};
+use rules::{CommittedBlock, Delta, FirstUse, Row};
+use state_db::StateDb;
+use std::alloc::{AllocError, Global};
+use std::marker::Model;
+use transaction::TxId;
+use txid_index::TxIds;
+use values::{BoundRef, Hash, KeyRef, NameRef, Shared};
+
+/// What a ledger holds. A contract sees the world of the definitions.
+#[derive(Drop)]
+pub struct World {
+    alloc: Global,
+    state: StateDb,
+    history: HistoryIndex,
+    ids: TxIds,
+    blocks: Vec<Shared<CommittedBlock>>,
+}
+
+impl Model for World {
+    ghost use Rattle.rules.specs.World as world;
+    ghost use Rattle.rules.specs.Code.{world_code};
+
+    ghost Value = { world.World };
+
+    ghost coded = { world_code };
+
+    ghost view = { λ w. record { state = w.state.state; history = w.history.history; first_uses = w.ids.uses; blocks = w.blocks.items } };
+}
+
+impl World {
+    /// The world of height 0. Takes no memory.
+    pub fn new(alloc: Global) -> World
+        ensures { result ≡ empty_world }
+    {
+        World {
+            alloc,
+            state: StateDb::new(alloc),
+            history: HistoryIndex::new(alloc),
+            ids: TxIds::new(alloc),
+            blocks: Vec::new(alloc),
+        }
+    }
+
+    /// The number of accepted blocks. Constant time.
+    pub fn height(&self) -> u64
+        ensures { result ≡ height_of self.now }
+    {
+        self.blocks.len() as u64
+    }
+
+    /// The header hash of the last block, or none at height 0. Constant time.
+    pub fn header_hash(&self) -> Option<Hash>
+        ensures { result ≡ last_header_hash self.now }
+    {
+        match self.blocks.last() {
+            None => None,
+            Some(block) => Some(block.get().header_hash),
+        }
+    }
+
+    /// The block of a number, if it was accepted. Constant time.
+    pub fn block(&self, number: u64) -> Option<&CommittedBlock>
+        ensures { option_copied result ≡ block_answer self.now number }
+    {
+        match self.blocks.get(number as usize) {
+            None => None,
+            Some(block) => Some(block.get()),
+        }
+    }
+
+    /// The rows in their pages.
+    pub fn state(&self) -> &StateDb
+        ensures { result.now.state ≡ self.now.state }
+    {
+        &self.state
+    }
+
+    /// What the state has at a key. Logarithmic in the number of rows.
+    pub fn row(&self, namespace: &NameRef<'_>, key: &KeyRef<'_>) -> Option<&Row>
+        ensures { option_copied result ≡ row_answer self.now (namespace.now, key.now) }
+    {
+        self.state.get(namespace, key)
+    }
+
+    /// The rows of a namespace from a start to before an end, up to a limit; an empty end is no bound. Logarithmic in the
+    /// number of rows, and linear, in time and memory, in those that are answered.
+    pub fn range<'a>(
+        &'a self,
+        alloc: Global,
+        namespace: &NameRef<'a>,
+        start: &BoundRef<'a>,
+        end: &BoundRef<'a>,
+        limit: usize,
+    ) -> Result<RangeAnswer<'a>, AllocError>
+        ensures rows { IfOk result (λ answer. map (λ row. row.now) answer.rows.items ≡ (range_answer self.now namespace.now start.now end.now limit).rows) }
+        ensures more { IfOk result (λ answer. answer.more ≡ (range_answer self.now namespace.now start.now end.now limit).more) }
+    {
+        up_to(alloc, self.state.range(namespace, start, end), limit)
+    }
+
+    /// Where an id was used first. Constant time.
+    pub fn first_use(&self, id: &TxId) -> Option<FirstUse>
+        ensures { result ≡ first_use_answer self.now id.now }
+    {
+        self.ids.first_use(id)
+    }
+
+    /// The value writes and deletes of a key, lent newest first. Constant time, and so is each step but for
+    /// keys of the same hash.
+    pub fn history<'a>(&'a self, namespace: &NameRef<'a>, key: &KeyRef<'a>) -> Entries<'a>
+        ensures { result ≡ history_answer self.now (namespace.now, key.now) }
+    {
+        self.history.entries(namespace, key)
+    }
+
+    /// Applies what a block changes: all of it or, where memory is refused, nothing. Linear in the delta, each change
+    /// logarithmic in the number of rows, whatever the number of blocks; but for lists and maps that grow, which they do
+    /// seldom. Changes in the order of their keys go fastest.
+    pub fn apply(&mut self, delta: &Delta) -> Result<(), AllocError>
+        ensures ok { OnOk result (self.new ≡ applied self.old delta.now) }
+        ensures err { OnErr result (self.new ≡ self.old) }
+    {
+        // all that may want memory
+        let batch = batch_of(self.alloc, delta.changes.as_slice())?;
+        let entries = share_entries(self.alloc, delta.entries.as_slice())?;
+        let block = delta.block.share()?;
+        self.history.reserve(entries.len())?;
+        self.ids.reserve(delta.uses.len())?;
+        self.blocks.reserve(1)?;
+        self.state.apply(&batch)?;
+        // from here on nothing does
+        add_entries(&mut self.history, entries);
+        add_uses(&mut self.ids, delta.uses.as_slice());
+        self.blocks.push_reserved(block);
+        Ok(())
+    }
+}
