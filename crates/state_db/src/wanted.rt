@@ -1,5 +1,5 @@
 ghost use Rattle.std.specs.Prelude.{◌≡◌, IsTrue};
-ghost use Rattle.std.specs.declared.cmp.Ordering.TheVariants.{Less, Greater};
+ghost use Rattle.std.specs.declared.cmp.Ordering.TheVariants.{Less, Equal, Greater};
 ghost use Rattle.values.specs.Name.{is_name};
 ghost use Rattle.rules.specs.State.{StateKey, key_cmp};
 ghost use Rattle.state_db.specs.Head.{head_of};
@@ -46,6 +46,7 @@ impl<'a> Wanted<'a> {
 
     /// How a key with this head stands to this one, or `Equal` where the heads don't tell.
     pub fn order_of_head(&self, head: &Head) -> Ordering
+        ensures same { result ≡ Equal → head.now ≡ head_of self.now }
         ensures less { (k : StateKey) → IsTrue (is_name k.0) → head.now ≡ head_of k → result ≡ Less → key_cmp k self.now ≡ Less }
         ensures greater { (k : StateKey) → IsTrue (is_name k.0) → head.now ≡ head_of k → result ≡ Greater → key_cmp k self.now ≡ Greater }
     {

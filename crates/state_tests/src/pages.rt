@@ -4,6 +4,7 @@ use crate::fixture::{bound, key, name};
 use rules::Row;
 use state_db::{Batch, StateDb};
 use std::alloc::Global;
+use std::process::Abort;
 use std::test::Fail;
 use transaction::Version;
 use values::{Bytes, Shared};
@@ -17,10 +18,15 @@ fn row(alloc: Global, value: &[u8], block: u64) -> Result<Row, Fail> {
     })
 }
 
+fn digit(number: u32) -> u8 {
+    b'0' + (number % 10) as u8
+}
+
 // `k` with three digits.
 fn numbered(number: u32) -> [u8; 4] {
-    let digit = |n: u32| b"0123456789"[(n % 10) as usize];
-    [b'k', digit(number / 100), digit(number / 10), digit(number)]
+    let hundreds = digit(number / 100);
+    let tens = digit(number / 10);
+    [b'k', hundreds, tens, digit(number)]
 }
 
 fn put(alloc: Global, batch: &mut Batch, at: &[u8], value: &[u8], block: u64) -> Result<(), Fail> {
@@ -102,6 +108,15 @@ fn total(sizes: &[usize]) -> usize {
     total
 }
 
+fn are_from_1_to_256(sizes: &[usize]) -> bool {
+    for size in sizes {
+        if *size == 0 || *size > 256 {
+            return false;
+        }
+    }
+    true
+}
+
 #[test]
 fn no_rows(rt: HostRuntime) -> Result<(), Fail> {
     let alloc = rt.alloc();
@@ -127,7 +142,7 @@ fn six_hundred_rows(rt: HostRuntime) -> Result<(), Fail> {
     let sizes = sizes(alloc, &state)?;
     assert!(rt; 3 <= sizes.len() && sizes.len() <= 599);
     assert_eq!(rt; total(sizes.as_slice()), 600);
-    assert!(rt; sizes.iter().all(|size| 1 <= *size && *size <= 256));
+    assert!(rt; are_from_1_to_256(sizes.as_slice()));
     assert!(rt; state.page_rows(state.pages()).is_none());
     let keys = keys_between(alloc, &state, b"cc", b"k250", b"k260")?;
     let ten = b"k250 k251 k252 k253 k254 k255 k256 k257 k258 k259 ";
@@ -136,24 +151,30 @@ fn six_hundred_rows(rt: HostRuntime) -> Result<(), Fail> {
     Ok(())
 }
 
+fn same_keys(
+    rt: &impl Abort,
+    alloc: Global,
+    state: &StateDb,
+    start: &[u8],
+    end: &[u8],
+    wanted: &[u8],
+) -> Result<(), Fail> {
+    let keys = keys_between(alloc, state, b"cc", start, end)?;
+    assert_eq!(rt; keys.as_slice(), wanted);
+    Ok(())
+}
+
 #[test]
 fn bounds(rt: HostRuntime) -> Result<(), Fail> {
     let alloc = rt.alloc();
     let state = six_hundred(alloc)?;
-    let of = |start: &[u8], end: &[u8]| keys_between(alloc, &state, b"cc", start, end);
-    assert_eq!(rt; of(b"k5985", b"")?.as_slice(), b"k599 ".as_slice());
-    assert_eq!(rt; of(b"", b"k001")?.as_slice(), b"k000 ".as_slice());
-    assert_eq!(rt; of(b"k600", b"")?.as_slice(), b"".as_slice());
-    assert_eq!(rt; of(b"k300", b"k300")?.as_slice(), b"".as_slice());
-    assert_eq!(rt; of(b"k301", b"k300")?.as_slice(), b"".as_slice());
-    assert_eq!(rt;
-        keys_between(alloc, &state, b"c", b"", b"")?.as_slice(),
-        b"".as_slice()
-    );
-    assert_eq!(rt;
-        keys_between(alloc, &state, b"cd", b"", b"")?.as_slice(),
-        b"".as_slice()
-    );
+    same_keys(&rt, alloc, &state, b"k5985", b"", b"k599 ")?;
+    same_keys(&rt, alloc, &state, b"", b"k001", b"k000 ")?;
+    same_keys(&rt, alloc, &state, b"k600", b"", b"")?;
+    same_keys(&rt, alloc, &state, b"k300", b"k300", b"")?;
+    same_keys(&rt, alloc, &state, b"k301", b"k300", b"")?;
+    assert!(rt; keys_between(alloc, &state, b"c", b"", b"")?.is_empty());
+    assert!(rt; keys_between(alloc, &state, b"cd", b"", b"")?.is_empty());
     Ok(())
 }
 
@@ -259,53 +280,49 @@ fn last_call_of_a_key_stands(rt: HostRuntime) -> Result<(), Fail> {
     Ok(())
 }
 
+fn put_in(alloc: Global, batch: &mut Batch, namespace: &[u8], at: &[u8]) -> Result<(), Fail> {
+    batch.put(
+        name(alloc, namespace)?,
+        key(alloc, at)?,
+        row(alloc, b"other", 1)?,
+    )?;
+    Ok(())
+}
+
+fn alike(alloc: Global) -> Result<StateDb, Fail> {
+    let mut batch = Batch::new(alloc);
+    put(alloc, &mut batch, b"a-key-of-many-bytes-2", b"2", 1)?;
+    put(alloc, &mut batch, b"a-key-of-many-bytes", b"0", 1)?;
+    put(alloc, &mut batch, b"a-key-of-many-bytes-1", b"1", 1)?;
+    put(alloc, &mut batch, b"a-key-of-many-byte\0", b"zero", 1)?;
+    put(alloc, &mut batch, b"\0", b"one zero", 1)?;
+    put(alloc, &mut batch, b"\0\0", b"two zeros", 1)?;
+    put_in(alloc, &mut batch, b"cc1", b"x")?;
+    put_in(alloc, &mut batch, b"c", b"c")?;
+    put_in(alloc, &mut batch, b"cb", b"z")?;
+    let mut state = StateDb::new(alloc);
+    state.apply(&batch)?;
+    Ok(state)
+}
+
 // Keys and namespaces that begin alike, beyond what a head holds.
 #[test]
 fn long_common_beginnings(rt: HostRuntime) -> Result<(), Fail> {
     let alloc = rt.alloc();
-    let mut batch = Batch::new(alloc);
-    for at in [
-        b"a-key-of-many-bytes-2".as_slice(),
-        b"a-key-of-many-bytes".as_slice(),
-        b"a-key-of-many-bytes-1".as_slice(),
-        b"a-key-of-many-byte\0".as_slice(),
-        b"\0".as_slice(),
-        b"\0\0".as_slice(),
-    ] {
-        put(alloc, &mut batch, at, at, 1)?;
-    }
-    for (namespace, at) in [
-        (b"cc1".as_slice(), b"x".as_slice()),
-        (b"c".as_slice(), b"c".as_slice()),
-        (b"cb".as_slice(), b"z".as_slice()),
-    ] {
-        batch.put(name(alloc, namespace)?, key(alloc, at)?, row(alloc, at, 1)?)?;
-    }
-    let mut state = StateDb::new(alloc);
-    state.apply(&batch)?;
-    let keys = keys_between(alloc, &state, b"cc", b"", b"")?;
-    let wanted =
+    let state = alike(alloc)?;
+    let all =
         b"\0 \0\0 a-key-of-many-byte\0 a-key-of-many-bytes a-key-of-many-bytes-1 a-key-of-many-bytes-2 ";
-    assert_eq!(rt; keys.as_slice(), wanted.as_slice());
-    assert_eq!(rt;
-        keys_between(alloc, &state, b"c", b"", b"")?.as_slice(),
-        b"c ".as_slice()
-    );
-    assert_eq!(rt;
-        keys_between(alloc, &state, b"cc1", b"", b"")?.as_slice(),
-        b"x ".as_slice()
-    );
-    let one = keys_between(
-        alloc,
-        &state,
-        b"cc",
-        b"a-key-of-many-bytes-1",
-        b"a-key-of-many-bytes-2",
-    )?;
-    assert_eq!(rt; one.as_slice(), b"a-key-of-many-bytes-1 ".as_slice());
+    same_keys(&rt, alloc, &state, b"", b"", all)?;
+    let first = b"a-key-of-many-bytes-1";
+    let second = b"a-key-of-many-bytes-2";
+    same_keys(&rt, alloc, &state, first, second, b"a-key-of-many-bytes-1 ")?;
+    let others = keys_between(alloc, &state, b"c", b"", b"")?;
+    assert_eq!(rt; others.as_slice(), b"c ".as_slice());
+    let others = keys_between(alloc, &state, b"cc1", b"", b"")?;
+    assert_eq!(rt; others.as_slice(), b"x ".as_slice());
     assert_eq!(rt;
         value_at(alloc, &state, b"\0\0")?.as_slice(),
-        b"\0\0".as_slice()
+        b"two zeros".as_slice()
     );
     assert_eq!(rt;
         value_at(alloc, &state, b"\0\0\0")?.as_slice(),
