@@ -4,7 +4,8 @@ use crate::fixture::{bound, name};
 use crate::noted::{IDS, KEYS, NAMESPACE, Noted, id_of, key_of, use_at};
 use rules::Row;
 use std::alloc::Global;
-use world::World;
+use values::Key;
+use world::{RangeAnswer, World};
 
 const BLOCKS: u32 = 2000;
 
@@ -34,36 +35,32 @@ fn key_is_noted(alloc: Global, world: &World, noted: &Noted, at: usize) -> Resul
     Ok(row == noted.row(at) && history.as_slice() == expected.as_slice())
 }
 
-// Whether the range has the rows that were noted; a bound past all keys is an empty one.
+fn is_answer(answer: &RangeAnswer<'_>, expected: &[u32], limit: usize) -> bool {
+    let rows = answer.rows.iter().map(|row| row.row().version.tx);
+    answer.more == (expected.len() > limit) && rows.eq(expected.iter().copied().take(limit))
+}
+
+// The bytes of the key of a number; past all keys none, which is no bound.
+fn bound_of(key: &Key, number: usize) -> &[u8] {
+    if number < KEYS { key.as_slice() } else { &[] }
+}
+
+// Whether the range has the rows that were noted.
 fn range_is_noted(
     alloc: Global,
     world: &World,
     noted: &Noted,
-    start: usize,
-    end: usize,
+    (start, end): (usize, usize),
     limit: usize,
 ) -> Result<bool, Failed> {
-    let name = name(alloc, NAMESPACE)?;
+    let namespace = name(alloc, NAMESPACE)?;
     let first = key_of(alloc, start)?;
     let behind = key_of(alloc, end)?;
-    let start_bytes = if start < KEYS { first.as_slice() } else { &[] };
-    let end_bytes = if end < KEYS { behind.as_slice() } else { &[] };
-    let answer = world.range(
-        alloc,
-        &name.lend(),
-        &bound(start_bytes)?,
-        &bound(end_bytes)?,
-        limit,
-    )?;
-    let mut rows = Vec::new(alloc);
-    for row in &answer.rows {
-        rows.push(row.row().version.tx)?;
-    }
-    let from = if start < KEYS { start } else { 0 };
-    let mut expected = noted.range(alloc, from, end)?;
-    let more = expected.len() > limit;
-    expected.truncate(limit);
-    Ok(rows.as_slice() == expected.as_slice() && answer.more == more)
+    let from = bound(bound_of(&first, start))?;
+    let to = bound(bound_of(&behind, end))?;
+    let answer = world.range(alloc, &namespace.lend(), &from, &to, limit)?;
+    let expected = noted.range(alloc, if start < KEYS { start } else { 0 }, end)?;
+    Ok(is_answer(&answer, &expected, limit))
 }
 
 fn ids_are_noted(world: &World, noted: &Noted) -> bool {
@@ -143,7 +140,7 @@ fn ranges_are_noted(
     let start = random.up_to(KEYS as u8);
     let end = random.up_to(KEYS as u8);
     for limit in [0, 1, 5, 100] {
-        if !range_is_noted(alloc, world, noted, start, end, limit)? {
+        if !range_is_noted(alloc, world, noted, (start, end), limit)? {
             return Ok(false);
         }
     }
@@ -169,9 +166,21 @@ impl Worlds {
         })
     }
 
-    // Applies a delta at random, of which each list has up to `most`: where memory is refused once more, and then
-    // nothing is to have changed.
+    // Applies a delta at random, of which each list has up to `most`.
     fn apply_next(&mut self, alloc: Global, most: u8, block: u32) -> Result<(), Failed> {
+        let next = delta(
+            alloc,
+            &mut self.random,
+            &mut self.noted,
+            most,
+            hash_of(block),
+        )?;
+        self.world.apply(&next)?;
+        Ok(self.plain.apply(next)?)
+    }
+
+    // The same; where memory is refused nothing is to have changed, and it is applied once more.
+    fn apply_at_last(&mut self, alloc: Global, most: u8, block: u32) -> Result<(), Failed> {
         let mut after = self.noted.copy(alloc)?;
         let next = delta(alloc, &mut self.random, &mut after, most, hash_of(block))?;
         if self.world.apply(&next).is_err() {
@@ -180,19 +189,19 @@ impl Worlds {
             }
             self.world.apply(&next)?;
         }
-        self.plain.apply(next)?;
         self.noted = after;
-        Ok(())
+        Ok(self.plain.apply(next)?)
     }
 
-    // Whether the worlds hold what they are to hold behind a block: all ids, a key and ranges at random.
+    // Whether the worlds hold what they are to hold behind a block: all ids, a key and ranges at random. The slow world
+    // is asked behind each sixteenth.
     fn are_right(&mut self, alloc: Global, block: u32) -> Result<bool, Failed> {
         let at = self.random.key();
         Ok(
             is_behind(&self.world, block)
                 && ids_are_noted(&self.world, &self.noted)
                 && key_is_noted(alloc, &self.world, &self.noted, at)?
-                && key_is_alike(alloc, &self.world, &self.plain, at)?
+                && (block % 16 != 0 || key_is_alike(alloc, &self.world, &self.plain, at)?)
                 && ranges_are_noted(alloc, &mut self.random, &self.world, &self.noted)?,
         )
     }
@@ -239,8 +248,8 @@ fn blocks_are_kept(rt: HostRuntime) -> Result<(), Failed> {
 #[test]
 fn refused_memory_changes_nothing(rt: HostRuntime) -> Result<(), Failed> {
     let mut worlds = Worlds::new(rt.alloc())?;
-    worlds.apply_next(rt.alloc(), 40, 0)?;
-    worlds.apply_next(rt.alloc(), 40, 1)?;
+    worlds.apply_at_last(rt.alloc(), 40, 0)?;
+    worlds.apply_at_last(rt.alloc(), 40, 1)?;
     assert!(rt; worlds.are_right_at_last(rt.alloc())?);
     Ok(())
 }
