@@ -1,8 +1,9 @@
-//! Deltas at random, noted as they are made.
+//! Deltas: at random, noted as they are made, and one of 600 puts.
 
 use crate::failed::Failed;
-use crate::fixture::name;
+use crate::fixture::{key, name};
 use crate::noted::{IDS, KEYS, NAMESPACE, Noted, id_of, key_of, use_at};
+use crate::pages::{numbered, row};
 use policy::Policy;
 use rules::{Change, CommittedBlock, Delta, HistoryEntry, KeyedRow, NewEntry, NewUse, Row};
 use std::alloc::Global;
@@ -108,6 +109,33 @@ fn entry(
     Ok(Shared::new(alloc, entry)?)
 }
 
+fn block_of(alloc: Global, hash: [u8; 32]) -> Result<Shared<CommittedBlock>, Failed> {
+    let block = CommittedBlock {
+        bytes: Bytes::from_vec(Vec::new(alloc)),
+        header_hash: hash,
+        flags: Items::new(alloc),
+    };
+    Ok(Shared::new(alloc, block)?)
+}
+
+/// Puts k000 to k599.
+pub fn six_hundred_puts(alloc: Global) -> Result<Delta, Failed> {
+    let namespace = name(alloc, NAMESPACE)?;
+    let mut changes = Items::new(alloc);
+    for number in 0..600 {
+        let key = key(alloc, &numbered(number))?;
+        let row = row(alloc, &numbered(number))?;
+        let keyed = KeyedRow::new(alloc, &namespace.lend(), &key.lend(), row)?;
+        changes.push(Change::Put(Shared::new(alloc, keyed)?))?;
+    }
+    Ok(Delta {
+        changes,
+        entries: Items::new(alloc),
+        uses: Items::new(alloc),
+        block: block_of(alloc, [0; 32])?,
+    })
+}
+
 /// A delta of changes in any order, with keys and ids that repeat: of each list up to so many.
 pub fn delta(
     alloc: Global,
@@ -134,15 +162,10 @@ pub fn delta(
             first_use: use_at(number),
         })?;
     }
-    let block = CommittedBlock {
-        bytes: Bytes::from_vec(Vec::new(alloc)),
-        header_hash: hash,
-        flags: Items::new(alloc),
-    };
     Ok(Delta {
         changes,
         entries,
         uses,
-        block: Shared::new(alloc, block)?,
+        block: block_of(alloc, hash)?,
     })
 }

@@ -8,7 +8,7 @@ use std::alloc::Global;
 use transaction::Version;
 use values::{Bytes, Shared};
 
-fn row(alloc: Global, value: &[u8]) -> Result<Row, Failed> {
+pub fn row(alloc: Global, value: &[u8]) -> Result<Row, Failed> {
     Ok(Row {
         value: Shared::new(alloc, Bytes::from_slice(alloc, value)?)?,
         version: Version { block: 0, tx: 0 },
@@ -16,8 +16,8 @@ fn row(alloc: Global, value: &[u8]) -> Result<Row, Failed> {
     })
 }
 
-// `k` with three digits.
-fn numbered(number: u32) -> [u8; 4] {
+/// `k` with three digits.
+pub fn numbered(number: u32) -> [u8; 4] {
     let digit = |n: u32| b"0123456789"[(n % 10) as usize];
     [b'k', digit(number / 100), digit(number / 10), digit(number)]
 }

@@ -1,7 +1,8 @@
-use crate::deltas::{Random, delta};
+use crate::deltas::{Random, delta, six_hundred_puts};
 use crate::failed::Failed;
 use crate::fixture::{bound, name};
 use crate::noted::{IDS, KEYS, NAMESPACE, Noted, id_of, key_of, use_at};
+use crate::pages::numbered;
 use rules::Row;
 use std::alloc::Global;
 use values::Key;
@@ -251,5 +252,26 @@ fn refused_memory_changes_nothing(rt: HostRuntime) -> Result<(), Failed> {
     worlds.apply_at_last(rt.alloc(), 40, 0)?;
     worlds.apply_at_last(rt.alloc(), 40, 1)?;
     assert!(rt; worlds.are_right_at_last(rt.alloc())?);
+    Ok(())
+}
+
+fn is_first_half(answer: &RangeAnswer<'_>) -> bool {
+    let keys = answer.rows.iter().map(|row| row.key().as_slice());
+    answer.more
+        && answer.rows.len() == 300
+        && keys
+            .zip(0u32..)
+            .all(|(key, number)| key == numbered(number).as_slice())
+}
+
+#[test]
+fn a_range_of_300(rt: HostRuntime) -> Result<(), Failed> {
+    let mut world = World::new(rt.alloc());
+    let delta = six_hundred_puts(rt.alloc())?;
+    world.apply(&delta)?;
+    let namespace = name(rt.alloc(), NAMESPACE)?;
+    let all = bound(b"")?;
+    let answer = world.range(rt.alloc(), &namespace.lend(), &all, &all, 300)?;
+    assert!(rt; is_first_half(&answer));
     Ok(())
 }
