@@ -1,5 +1,5 @@
 use crate::failed::Failed;
-use crate::fixture::{Peer, SaysOk, after};
+use crate::fixture::{Peer, after};
 use crate::shown::shown;
 use crate::vectors::worked::three_transactions;
 use rules::Refused;
@@ -23,14 +23,9 @@ fn refused_memory_changes_nothing(rt: HostRuntime) -> Result<(), Failed> {
     let [first, block] = *three_transactions();
     let mut peer = after(alloc, &[first], &[0])?;
     let before = shown(alloc, peer.world())?;
-    match peer.take(alloc, block, &SaysOk) {
-        Ok(flags) => {
-            assert!(rt; flags.as_slice() == [0, 0, 0].as_slice());
-        }
-        Err(refused) => {
-            assert!(rt; is_as_wanted(alloc, &peer, refused, &before)?);
-            assert!(rt; peer.is_taken(alloc, block, &[0, 0, 0])?);
-        }
+    if let Some(refused) = peer.refusal_of(alloc, block) {
+        assert!(rt; is_as_wanted(alloc, &peer, refused, &before)?);
+        assert!(rt; peer.is_taken(alloc, block, &[0, 0, 0])?);
     }
     assert!(rt; peer.world().height() == 2);
     Ok(())
