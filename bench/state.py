@@ -5,7 +5,7 @@ Run as `bench/state.py` from anywhere, on a machine that has the kit: it builds 
 in a scratch folder. It prints, the least of five runs each, a look-up, a range of 100 rows, a batch of 1,000 changes
 at random and one of 1,000 new rows, and the peak memory of one state and of three that share their rows. It fails
 where a million rows cost more than they may against 100,000 in the same run: look-ups and batches two and a half
-times as much, a range twice.
+times as much, a range twice. The machine is to be quiet: what runs beside it changes these ratios.
 """
 
 import os

@@ -5,7 +5,7 @@ Run as `bench/world.py` from anywhere, on a machine that has the kit: it builds 
 in a scratch folder. Each transaction puts a row of 100 bytes at one of 10,000 keys of 32 bytes. It prints the least of
 five runs of three blocks at each height (of which one may meet a list or map that grows), once with blocks of no
 transactions between the two heights, and fails where the later ones take half as much again; and once with blocks of
-10 between them. These leave a history of 90,000 entries and as many ids behind, so that the rows that are replaced lie
+10 between them. These leave a history of 100,000 entries and as many ids behind, so that the rows that are replaced lie
 apart in more memory than a cache holds: that time is told, and nothing is promised of it.
 """
 
@@ -18,7 +18,7 @@ from scratch import RUNS, build
 
 CRATES = ["values", "transaction", "block", "header_hash", "policy", "policy_eval", "text_lines", "channel", "rules",
           "history_index", "state_db", "txid_index", "world"]
-HEIGHTS = (1_000, 10_000)
+HEIGHTS = (10, 10_000)
 RATIO = 1.5
 
 PROGRAM = r"""
