@@ -1,0 +1,13 @@
+//! Candidates: what each transaction of a block is before the rules on the state are asked. Flagged, or open with its
+//! signers and with the keys that it writes gathered in order.
+#![tactic(auto)]
+
+mod candidate;
+mod open_tx;
+mod state_key;
+mod written_key;
+
+pub use candidate::Candidate;
+pub use open_tx::OpenTx;
+pub use state_key::StateKey;
+pub use written_key::WrittenKey;

@@ -1,0 +1,2 @@
+//! The endorsement rule, as far as the earlier endorsements are known.
+#![tactic(auto)]

@@ -1,0 +1,28 @@
+-- What the calls of a job speak of.
+use Rattle.std.specs.Prelude.{◌≡◌, ℕ, List, [], map, flat_map}
+use Rattle.transaction.specs.declared.transaction.Tx.{Tx}
+use Rattle.rules.specs.declared.flag.Flag.{Flag}
+use Rattle.rules.specs.State.{StateKey}
+use Rattle.rules.specs.Candidate.{Candidate, flagged, opened}
+use Rattle.rules.specs.Job.{Job, candidate_at, operated_by}
+use Rattle.candidates.specs.declared.open_tx.OpenTx.{OpenTx}
+use Rattle.candidates.specs.Written.{keys_in_order}
+
+-- candidate i is this open transaction
+abbrev pub IsOpened : Job → ℕ → OpenTx → Type 0
+IsOpened j i o = candidate_at j i ≡ opened o.tx o.signers
+
+abbrev pub IsFlagged : Job → ℕ → Type 0
+IsFlagged j i = (flag : Flag) × (candidate_at j i ≡ flagged flag)
+
+-- the keys that it reads, in the order of its namespaces and reads
+abbrev pub read_keys : Tx → List StateKey
+read_keys tx = flat_map (λ n. map (λ r. (n.name, r.key)) n.reads) tx.namespaces
+
+abbrev pub read_by : Candidate → List StateKey
+read_by (flagged flag) = []
+read_by (opened tx signers) = read_keys tx
+
+-- the keys that it writes, in the keys' order, each once
+abbrev pub written_by : Candidate → List StateKey
+written_by c = keys_in_order (operated_by c)

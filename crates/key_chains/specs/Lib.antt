@@ -1,0 +1,6 @@
+pub mod Code
+pub mod Decided
+pub mod Job
+pub mod Known
+pub mod Operations
+pub mod PolicyWriters

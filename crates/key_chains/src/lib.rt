@@ -1,0 +1,15 @@
+//! One block as it is checked: its candidates over the state before it, and for each key that they write who writes it.
+#![tactic(auto)]
+
+mod board;
+mod cursor;
+mod decision;
+mod job;
+mod operation;
+
+pub use board::Board;
+pub use candidates::{Candidate, OpenTx, StateKey, WrittenKey};
+pub use cursor::{Operations, PolicyWriters};
+pub use decision::Decision;
+pub use job::Job;
+pub use operation::{Kind, Operation};

@@ -1,0 +1,2 @@
+//! The read rule, as far as the earlier flags are known.
+#![tactic(auto)]
