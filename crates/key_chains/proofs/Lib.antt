@@ -1,0 +1,2 @@
+mod Chaining
+mod KeyListing

@@ -4,3 +4,5 @@ pub mod Job
 pub mod Known
 pub mod Operations
 pub mod PolicyWriters
+pub mod Linked
+pub mod Lists

@@ -2,14 +2,12 @@
 #![tactic(auto)]
 
 mod board;
-mod cursor;
 mod decision;
-mod job;
+mod links;
 mod operation;
 
 pub use board::Board;
 pub use candidates::{Candidate, OpenTx, StateKey, WrittenKey};
-pub use cursor::{Operations, PolicyWriters};
 pub use decision::Decision;
-pub use job::Job;
+pub use links::Chain;
 pub use operation::{Kind, Operation};
