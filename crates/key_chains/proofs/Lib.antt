@@ -1,2 +1,9 @@
 mod Chaining
 mod KeyListing
+mod NumberedKeys
+mod WritesInForm
+mod Flagged
+mod Gathering
+mod Adding
+mod Growing
+mod Beginning

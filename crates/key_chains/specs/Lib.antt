@@ -6,3 +6,6 @@ pub mod Operations
 pub mod PolicyWriters
 pub mod Linked
 pub mod Lists
+pub mod Numbers
+pub mod Building
+pub mod Built

@@ -18,6 +18,10 @@ abbrev pub value_kind : Option (List ℕ) → Kind
 value_kind (Some value) = Value
 value_kind None = Delete
 
+abbrev pub kind_of : Option (Option (List ℕ)) → Kind
+kind_of (Some value) = value_kind value
+kind_of None = Policy
+
 abbrev pub kind_from : Option Write → Option PolicyWrite → Option Kind
 kind_from (Some w) p = Some (value_kind w.value)
 kind_from None (Some p) = Some Policy

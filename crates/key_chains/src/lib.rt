@@ -2,8 +2,10 @@
 #![tactic(auto)]
 
 mod board;
+mod chains;
 mod decision;
 mod links;
+mod numbering;
 mod operation;
 
 pub use board::Board;

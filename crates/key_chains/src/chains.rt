@@ -1,0 +1,214 @@
+//! Who writes each key of a block.
+ghost use Rattle.std.specs.Prelude.{◌≡◌, ◌≢◌, ◌<◌, ◌++◌, ◌∷◌, ℕ, suc, List, All, length, map, flat_map, is_some, IsSome, IfOk, OnOk, if◌then◌else◌};
+ghost use Rattle.key_chains.specs.Job.{written_by};
+ghost use Rattle.key_chains.specs.Linked.{chain_in, list_of, IsLink, LinksStay};
+ghost use Rattle.key_chains.specs.Numbers.{number_in};
+ghost use Rattle.key_chains.specs.Operations.{kind_of};
+ghost use Rattle.key_chains.specs.Building.{block_keys, list_at};
+ghost use Rattle.key_chains.specs.Built.{IsNext, AreNext, IsBuilt, IsWhole};
+ghost use Rattle.rules.specs.Candidate as candidate;
+ghost use Rattle.candidates.specs.Seen.{seen};
+
+use crate::links::KeyLists;
+use crate::numbering::Numbering;
+use crate::operation::{Kind, Operation};
+use candidates::{Candidate, StateKey, WrittenKey};
+use std::alloc::{AllocError, Global};
+use transaction::NsSet;
+
+/// A key that a candidate writes: its number, and the newest candidate before it that writes the key's policy.
+#[derive(Clone, Copy)]
+pub(crate) struct Written {
+    pub number: u32,
+    pub policy_writers: Option<u32>,
+}
+
+/// The keys that a block writes with their lists, and for each candidate where its reads and the keys that it writes
+/// lead.
+#[derive(Drop)]
+pub(crate) struct Chains<'a> {
+    pub keys: Numbering<'a>,
+    pub operations: KeyLists<Operation>,
+    pub policy_writers: KeyLists<u32>,
+    /// The newest operation before its candidate, for each read of each candidate.
+    pub reads: Vec<Option<u32>>,
+    pub first_reads: Vec<usize>,
+    /// The keys that each candidate writes.
+    pub written: Vec<Written>,
+    pub first_written: Vec<usize>,
+}
+
+/// The entry that the list of a key begins with now, none where nobody writes the key.
+fn newest_on<T: Copy>(
+    keys: &Numbering<'_>,
+    lists: &KeyLists<T>,
+    key: &StateKey<'_>,
+) -> Option<u32>
+    requires { length lists.now.1 ≡ length keys.now }
+    ensures link { IsLink lists.now.0 result }
+    ensures list { chain_in lists.now.0 result ≡ list_at keys.now lists.now key.now }
+{
+    match keys.number(key) {
+        None => None,
+        Some(number) => lists.newest(number),
+    }
+}
+
+/// Links of the reads in one namespace.
+fn link_reads_in(
+    links: &mut Vec<Option<u32>>,
+    keys: &Numbering<'_>,
+    operations: &KeyLists<Operation>,
+    set: &NsSet<'_>,
+) -> Result<(), AllocError>
+    requires { length operations.now.1 ≡ length keys.now }
+    ensures lists { OnOk result (map (chain_in operations.now.0) links.new.items ≡ map (chain_in operations.now.0) links.old.items ++ map (λ r. list_at keys.now operations.now (set.now.name, r.key)) set.now.reads) }
+    ensures links { OnOk result (All (IsLink operations.now.0) links.old.items → All (IsLink operations.now.0) links.new.items) }
+{
+    for read in set.reads.as_slice() {
+        let key = StateKey::new(&set.name, &read.key);
+        links.push(newest_on(keys, operations, &key))?;
+    }
+    Ok(())
+}
+
+/// Links of the reads in all namespaces.
+fn link_reads(
+    links: &mut Vec<Option<u32>>,
+    keys: &Numbering<'_>,
+    operations: &KeyLists<Operation>,
+    sets: &[NsSet<'_>],
+) -> Result<(), AllocError>
+    requires { length operations.now.1 ≡ length keys.now }
+    ensures lists { OnOk result (map (chain_in operations.now.0) links.new.items ≡ map (chain_in operations.now.0) links.old.items ++ flat_map (λ n. map (λ r. list_at keys.now operations.now (n.name, r.key)) n.reads) sets.now) }
+    ensures links { OnOk result (All (IsLink operations.now.0) links.old.items → All (IsLink operations.now.0) links.new.items) }
+{
+    for set in sets {
+        link_reads_in(links, keys, operations, set)?;
+    }
+    Ok(())
+}
+
+/// The keys that candidates write, each as often as it is written.
+fn written_keys<'a>(
+    alloc: Global,
+    candidates: &[Candidate<'a>],
+) -> Result<Vec<StateKey<'a>>, AllocError>
+    ensures { IfOk result (λ keys. keys.items ≡ flat_map written_by (map seen candidates.now)) }
+{
+    let mut keys = Vec::new(alloc);
+    for candidate in candidates {
+        add_written_keys(&mut keys, candidate)?;
+    }
+    Ok(keys)
+}
+
+fn add_written_keys<'a>(
+    keys: &mut Vec<StateKey<'a>>,
+    candidate: &Candidate<'a>,
+) -> Result<(), AllocError>
+    ensures { OnOk result (keys.new.items ≡ keys.old.items ++ written_by (seen candidate.now)) }
+{
+    match candidate {
+        Candidate::Flagged(_) => Ok(()),
+        Candidate::Opened(open_tx) => add_keys(keys, open_tx.written.as_slice()),
+    }
+}
+
+fn add_keys<'a>(
+    keys: &mut Vec<StateKey<'a>>,
+    written: &[WrittenKey<'a>],
+) -> Result<(), AllocError>
+    ensures { OnOk result (keys.new.items ≡ keys.old.items ++ map (λ w. w.key) written.now) }
+{
+    for one in written {
+        keys.push(one.key.again())?;
+    }
+    Ok(())
+}
+
+/// Whether the key's value is written, deleted or left.
+fn kind_of(written: &WrittenKey<'_>) -> Kind
+    ensures { result ≡ kind_of written.now.value }
+{
+    match &written.value {
+        Some(Some(_)) => Kind::Value,
+        Some(None) => Kind::Delete,
+        None => Kind::Policy,
+    }
+}
+
+/// The candidate writes the policy of the key, if it does.
+fn add_policy_writer(
+    lists: &mut KeyLists<u32>,
+    number: u32,
+    i: u32,
+    written: &WrittenKey<'_>,
+) -> Result<(), AllocError>
+    requires { number < length lists.old.1 }
+    ensures key { OnOk result (list_of lists.new number ≡ (if is_some written.now.policy then i ∷ list_of lists.old number else list_of lists.old number)) }
+    ensures others { OnOk result ((k : ℕ) → k ≢ number → list_of lists.new k ≡ list_of lists.old k) }
+    ensures links { OnOk result (LinksStay lists.old lists.new) }
+    ensures count { OnOk result (length lists.new.1 ≡ length lists.old.1) }
+{
+    if written.policy.is_some() {
+        lists.push(number, i)?;
+    }
+    Ok(())
+}
+
+impl<'a> Chains<'a> {
+    fn new(alloc: Global, keys: Numbering<'a>) -> Result<Chains<'a>, AllocError>
+        ensures { IfOk result (λ c. (cs : List candidate.Candidate) → keys.entry ≡ block_keys cs → IsBuilt cs 0 0 0 c) }
+    {
+        let count = keys.as_slice().len();
+        Ok(Chains {
+            keys,
+            operations: KeyLists::new(alloc, count)?,
+            policy_writers: KeyLists::new(alloc, count)?,
+            reads: Vec::new(alloc),
+            first_reads: Vec::new(alloc),
+            written: Vec::new(alloc),
+            first_written: Vec::new(alloc),
+        })
+    }
+
+    /// One key more that candidate i writes.
+    fn add_key(&mut self, i: u32, written: &WrittenKey<'_>) -> Result<(), AllocError>
+        requires number { IsSome (number_in self.old.keys written.now.key) }
+        requires whole { IsWhole self.old }
+        ensures built { OnOk result ((cs : List candidate.Candidate) (p : ℕ) → IsNext cs i p written.now → IsBuilt cs i (suc i) p self.old → IsBuilt cs i (suc i) (suc p) self.new) }
+        ensures keys { OnOk result (self.new.keys ≡ self.old.keys) }
+        ensures whole { OnOk result (IsWhole self.new) }
+    {
+        let Some(number) = self.keys.number(&written.key) else {
+            unreachable!()
+        };
+        let policy_writers = self.policy_writers.newest(number);
+        self.written.push(Written {
+            number,
+            policy_writers,
+        })?;
+        let operation = Operation {
+            tx: i,
+            kind: kind_of(written),
+        };
+        self.operations.push(number, operation)?;
+        add_policy_writer(&mut self.policy_writers, number, i, written)?;
+        Ok(())
+    }
+
+    /// The keys that candidate i writes.
+    fn add_written(&mut self, i: u32, written: &[WrittenKey<'_>]) -> Result<(), AllocError>
+        requires numbers { All (λ w. IsSome (number_in self.old.keys w.key)) written.now }
+        requires whole { IsWhole self.old }
+        ensures built { OnOk result ((cs : List candidate.Candidate) → AreNext cs i written.now → IsBuilt cs i (suc i) 0 self.old → IsBuilt cs i (suc i) (length written.now) self.new) }
+        ensures keys { OnOk result (self.new.keys ≡ self.old.keys) }
+        ensures whole { OnOk result (IsWhole self.new) }
+    {
+        for one in written {
+            self.add_key(i, one)?;
+        }
+        Ok(())
+    }
+}
