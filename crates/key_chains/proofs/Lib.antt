@@ -7,3 +7,7 @@ mod Gathering
 mod Adding
 mod Growing
 mod Beginning
+mod Finishing
+mod OpenWrites
+mod Passing
+mod BlockKeys

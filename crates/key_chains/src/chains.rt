@@ -1,12 +1,13 @@
 //! Who writes each key of a block.
-ghost use Rattle.std.specs.Prelude.{◌≡◌, ◌≢◌, ◌<◌, ◌++◌, ◌∷◌, ℕ, suc, List, All, length, map, flat_map, is_some, IsSome, IfOk, OnOk, if◌then◌else◌};
+ghost use Rattle.std.specs.Prelude.{◌≡◌, ◌≢◌, ◌<◌, ◌^◌, true, ◌++◌, ◌∷◌, ℕ, suc, List, All, length, map, flat_map, is_some, IsSome, IfOk, OnOk, if◌then◌else◌};
 ghost use Rattle.key_chains.specs.Job.{written_by};
 ghost use Rattle.key_chains.specs.Linked.{chain_in, list_of, IsLink, LinksStay};
 ghost use Rattle.key_chains.specs.Numbers.{number_in};
-ghost use Rattle.key_chains.specs.Operations.{kind_of};
+ghost use Rattle.key_chains.specs.Operations.{kind_of, candidate_in};
+ghost use Rattle.rules.specs.State.{StateKey, is_among};
 ghost use Rattle.key_chains.specs.Building.{block_keys, list_at};
 ghost use Rattle.key_chains.specs.Built.{IsNext, AreNext, IsBuilt, IsWhole};
-ghost use Rattle.rules.specs.Candidate as candidate;
+ghost use Rattle.rules.specs.Candidate as seen_by_rules;
 ghost use Rattle.candidates.specs.Seen.{seen};
 
 use crate::links::KeyLists;
@@ -159,7 +160,7 @@ fn add_policy_writer(
 
 impl<'a> Chains<'a> {
     fn new(alloc: Global, keys: Numbering<'a>) -> Result<Chains<'a>, AllocError>
-        ensures { IfOk result (λ c. (cs : List candidate.Candidate) → keys.entry ≡ block_keys cs → IsBuilt cs 0 0 0 c) }
+        ensures { IfOk result (λ c. (cs : List seen_by_rules.Candidate) → keys.entry ≡ block_keys cs → IsBuilt cs 0 0 0 c) }
     {
         let count = keys.as_slice().len();
         Ok(Chains {
@@ -177,7 +178,7 @@ impl<'a> Chains<'a> {
     fn add_key(&mut self, i: u32, written: &WrittenKey<'_>) -> Result<(), AllocError>
         requires number { IsSome (number_in self.old.keys written.now.key) }
         requires whole { IsWhole self.old }
-        ensures built { OnOk result ((cs : List candidate.Candidate) (p : ℕ) → IsNext cs i p written.now → IsBuilt cs i (suc i) p self.old → IsBuilt cs i (suc i) (suc p) self.new) }
+        ensures built { OnOk result ((cs : List seen_by_rules.Candidate) (p : ℕ) → IsNext cs i p written.now → IsBuilt cs i (suc i) p self.old → IsBuilt cs i (suc i) (suc p) self.new) }
         ensures keys { OnOk result (self.new.keys ≡ self.old.keys) }
         ensures whole { OnOk result (IsWhole self.new) }
     {
@@ -202,7 +203,7 @@ impl<'a> Chains<'a> {
     fn add_written(&mut self, i: u32, written: &[WrittenKey<'_>]) -> Result<(), AllocError>
         requires numbers { All (λ w. IsSome (number_in self.old.keys w.key)) written.now }
         requires whole { IsWhole self.old }
-        ensures built { OnOk result ((cs : List candidate.Candidate) → AreNext cs i written.now → IsBuilt cs i (suc i) 0 self.old → IsBuilt cs i (suc i) (length written.now) self.new) }
+        ensures built { OnOk result ((cs : List seen_by_rules.Candidate) → AreNext cs i written.now → IsBuilt cs i (suc i) 0 self.old → IsBuilt cs i (suc i) (length written.now) self.new) }
         ensures keys { OnOk result (self.new.keys ≡ self.old.keys) }
         ensures whole { OnOk result (IsWhole self.new) }
     {
@@ -210,5 +211,44 @@ impl<'a> Chains<'a> {
             self.add_key(i, one)?;
         }
         Ok(())
+    }
+
+    /// One candidate more.
+    fn add(&mut self, i: u32, candidate: &Candidate<'_>) -> Result<(), AllocError>
+        requires numbers { (k : StateKey) → is_among k (written_by (seen candidate.now)) ≡ true → IsSome (number_in self.old.keys k) }
+        requires whole { IsWhole self.old }
+        ensures built { OnOk result ((cs : List seen_by_rules.Candidate) → candidate_in cs i ≡ seen candidate.now → IsBuilt cs i i 0 self.old → IsBuilt cs (suc i) (suc i) 0 self.new) }
+    {
+        self.first_reads.push(self.reads.as_slice().len())?;
+        self.first_written.push(self.written.as_slice().len())?;
+        match candidate {
+            Candidate::Flagged(_) => Ok(()),
+            Candidate::Opened(open_tx) => {
+                link_reads(
+                    &mut self.reads,
+                    &self.keys,
+                    &self.operations,
+                    open_tx.tx.namespaces.as_slice(),
+                )?;
+                self.add_written(i, open_tx.written.as_slice())?;
+                Ok(())
+            }
+        }
+    }
+
+    /// The chains of a block's candidates: a sort of the keys that they write, and one pass.
+    pub fn build(
+        alloc: Global,
+        candidates: &[Candidate<'a>],
+    ) -> Result<Chains<'a>, AllocError>
+        requires { length candidates.now < 2 ^ 32 }
+        ensures { IfOk result (λ c. IsBuilt (map seen candidates.now) (length candidates.now) (length candidates.now) 0 c) }
+    {
+        let keys = Numbering::new(written_keys(alloc, candidates)?)?;
+        let mut chains = Chains::new(alloc, keys)?;
+        for (i, candidate) in candidates.iter().enumerate() {
+            chains.add(i as u32, candidate)?;
+        }
+        Ok(chains)
     }
 }

@@ -1,0 +1,46 @@
+-- One candidate of a block.
+use Rattle.std.proofs.Common.{◌≡◌, ℕ, suc, List, [], ◌∷◌, ◌++◌, length, map, All, Option, Vec, Global, refl, sym, ap, subst, ◌∙◌}
+use Rattle.std.specs.Prelude.{flat_map}
+use Rattle.std.proofs.lemmas.List.{append-nil, length-map}
+use Rattle.transaction.specs.declared.transaction.NsSet.{NsSet}
+use Rattle.rules.specs.declared.flag.Flag.{Flag}
+use Rattle.rules.specs.State.{StateKey}
+use Rattle.rules.specs.Candidate.{Candidate, flagged, opened}
+use Rattle.candidates.specs.declared.open_tx.OpenTx.{OpenTx}
+use Rattle.key_chains.specs.declared.operation.Operation.{Operation}
+use Rattle.key_chains.specs.declared.chains.Chains.{Chains}
+use Rattle.key_chains.specs.Linked.{KeyedLists, chain_in, IsLink}
+use Rattle.key_chains.specs.Operations.{candidate_in, operations}
+use Rattle.key_chains.specs.Job.{read_by, written_by}
+use Rattle.key_chains.specs.Building.{list_at, lists_read, keys_written}
+use Rattle.key_chains.specs.Built.{IsBuilt}
+use Rattle.key_chains.proofs.Flagged.{no_keys}
+use Rattle.key_chains.proofs.OpenWrites.{keys_are}
+use Rattle.key_chains.proofs.Finishing.{finished, reads_linked, read_of}
+
+-- a flagged one
+pub flagged_passes : (cs : List Candidate) (i n m : ℕ) (flag : Flag) (old new : Chains) → candidate_in cs i ≡ flagged flag → IsBuilt cs i i 0 old → n ≡ length old.reads.items → m ≡ length old.written.items
+    → new.first_reads.items ≡ old.first_reads.items ++ n ∷ [] → new.first_written.items ≡ old.first_written.items ++ m ∷ []
+    → new.keys ≡ old.keys → new.operations ≡ old.operations → new.policy_writers ≡ old.policy_writers → new.written ≡ old.written → new.reads ≡ old.reads → IsBuilt cs (suc i) (suc i) 0 new
+flagged_passes cs i n m flag old new is b count counted first first_written keys ops pols written reads =
+    finished cs i new (subst (λ (p : ℕ). IsBuilt cs i (suc i) p new) (sym nothing) (reads_linked cs i n m old new [] b count counted first first_written
+        (ap (λ (v : Vec (Option ℕ) Global). map (chain_in old.operations.0) v.items) reads ∙ sym (append-nil (map (chain_in old.operations.0) old.reads.items))) (sym (ap (λ (c : Candidate). map (λ k. operations cs k i) (read_by c)) is))
+        (λ links. subst (λ (v : Vec (Option ℕ) Global). All (IsLink old.operations.0) v.items) (sym reads) links) keys ops pols written))
+  where
+    nothing : length (keys_written cs i) ≡ 0
+    nothing = ap (λ (c : Candidate). length (written_by c)) is ∙ ap length no_keys
+
+-- an open one, once its reads are linked
+pub reads_pass : (cs : List Candidate) (i n m : ℕ) (o : OpenTx) (old new : Chains) (sets : List NsSet) → candidate_in cs i ≡ opened o.tx o.signers → IsBuilt cs i i 0 old → n ≡ length old.reads.items → m ≡ length old.written.items
+    → new.first_reads.items ≡ old.first_reads.items ++ n ∷ [] → new.first_written.items ≡ old.first_written.items ++ m ∷ [] → sets ≡ o.tx.namespaces
+    → map (chain_in old.operations.0) new.reads.items ≡ map (chain_in old.operations.0) old.reads.items ++ flat_map (λ s. map (λ r. list_at old.keys old.operations (s.name, r.key)) s.reads) sets
+    → (All (IsLink old.operations.0) old.reads.items → All (IsLink old.operations.0) new.reads.items)
+    → new.keys ≡ old.keys → new.operations ≡ old.operations → new.policy_writers ≡ old.policy_writers → new.written ≡ old.written → IsBuilt cs i (suc i) 0 new
+reads_pass cs i n m o old new sets is b count counted first first_written same lead links keys ops pols written =
+    reads_linked cs i n m old new _ b count counted first first_written lead
+    (ap (flat_map (λ s. map (λ r. list_at old.keys old.operations (s.name, r.key)) s.reads)) same ∙ read_of cs i old o.tx o.signers b is) links keys ops pols written
+
+-- and once its keys are
+pub writes_pass : (cs : List Candidate) (i : ℕ) (o : OpenTx) (new : Chains) (n : ℕ) → candidate_in cs i ≡ opened o.tx o.signers → n ≡ length o.written.items → IsBuilt cs i (suc i) n new → IsBuilt cs (suc i) (suc i) 0 new
+writes_pass cs i o new n is count b =
+    finished cs i new (subst (λ (p : ℕ). IsBuilt cs i (suc i) p new) (count ∙ sym (length-map o.written.items (λ w. w.key)) ∙ ap length (sym (keys_are cs i o is))) b)
