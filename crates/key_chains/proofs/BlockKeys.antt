@@ -20,7 +20,7 @@ candidate_is [] i c lt is = absurd (omega arith)
 candidate_is (x ∷ cs) zero c lt is = ap seen (sym is)
 candidate_is (x ∷ cs) (suc i) c lt is = candidate_is cs i c (omega arith) is
 
-written_among : (cs : List rule.Candidate) (i : ℕ) (k : StateKey) → i < length cs → is_among k (written_by (candidate_in cs i)) ≡ true → is_among k (flat_map written_by cs) ≡ true
+pub written_among : (cs : List rule.Candidate) (i : ℕ) (k : StateKey) → i < length cs → is_among k (written_by (candidate_in cs i)) ≡ true → is_among k (flat_map written_by cs) ≡ true
 written_among [] i k lt e = absurd (omega arith)
 written_among (c ∷ cs) zero k lt e =
     ap (is_among k) (flat_map-cons written_by c cs) ∙ list_any-append (is_same_key k) (written_by c) (flat_map written_by cs) ∙ ap (λ (b : Bool). b || is_among k (flat_map written_by cs)) e

@@ -101,3 +101,6 @@ module _ {X : Type 0} where
   pub lists-none : lists_of {X = X} [] ≡ []
   unfolding lists_of
   lists-none = refl
+
+  pub older_below : (es : List (Entry X)) (n : ℕ) (e : Entry X) → AreLinkedBack es → n < length (lists_of es) → e ≡ get_or es n e → IfSome e.older (λ m. m < n)
+  older_below es n e back lt is = let k = length-lists es in subst (λ (x : Entry X). IfSome x.older (λ m. m < n)) (sym is) (back.back n e (omega arith))

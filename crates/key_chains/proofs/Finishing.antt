@@ -58,7 +58,7 @@ untouched k (flagged flag) e = refl
 untouched k (opened tx signers) e = policies_unwritten k tx.namespaces e
 
 module _ (cs : List Candidate) (k : StateKey) (i : ℕ) where
-  unwritten : (c : Candidate) → is_among k (operated_by c) ≡ false → ◌≡◌ {A = Option Kind} (kind_by c k) None
+  pub unwritten : (c : Candidate) → is_among k (operated_by c) ≡ false → ◌≡◌ {A = Option Kind} (kind_by c k) None
   unwritten (flagged flag) e = refl
   unwritten (opened tx signers) e = λ j. kind_from (write_of-unwritten tx k e j) (policy_write_of-unwritten tx k e j)
 

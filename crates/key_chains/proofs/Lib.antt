@@ -11,3 +11,8 @@ mod Finishing
 mod OpenWrites
 mod Passing
 mod BlockKeys
+mod LookUps
+mod JobLists
+mod OlderOperations
+mod Unwritten
+mod Bounds

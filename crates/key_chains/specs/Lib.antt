@@ -9,3 +9,4 @@ pub mod Lists
 pub mod Numbers
 pub mod Building
 pub mod Built
+pub mod Older

@@ -40,7 +40,7 @@ pub(crate) struct Chains<'a> {
 }
 
 /// The entry that the list of a key begins with now, none where nobody writes the key.
-fn newest_on<T: Copy>(
+pub(crate) fn newest_on<T: Copy>(
     keys: &Numbering<'_>,
     lists: &KeyLists<T>,
     key: &StateKey<'_>,

@@ -4,6 +4,7 @@
 mod board;
 mod chains;
 mod decision;
+mod job;
 mod links;
 mod numbering;
 mod operation;
@@ -11,5 +12,6 @@ mod operation;
 pub use board::Board;
 pub use candidates::{Candidate, OpenTx, StateKey, WrittenKey};
 pub use decision::Decision;
+pub use job::Job;
 pub use links::Chain;
 pub use operation::{Kind, Operation};

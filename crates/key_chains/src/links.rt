@@ -1,8 +1,10 @@
 //! Lists that share one array: each entry is linked to the one that its list goes on with.
-ghost use Rattle.std.specs.Prelude.{◌≡◌, ◌≢◌, ◌<◌, ◌∷◌, ℕ, [], None, length, IfOk, OnOk, replicate, slice_index_or};
+ghost use Rattle.std.specs.Prelude.{◌≡◌, ◌≢◌, ◌<◌, ◌∷◌, ℕ, [], None, length, IfOk, IfSome, OnOk, replicate, slice_index_or};
 ghost use Rattle.key_chains.specs.Linked.{chain_in, list_of, IsLink, LinksStay};
 ghost use Rattle.key_chains.specs.Lists.{lists_of, AreLinkedBack};
+ghost use Rattle.key_chains.specs.Older.{older_than};
 
+use crate::operation::Operation;
 use std::alloc::{AllocError, Global};
 use std::marker::Model;
 
@@ -19,6 +21,7 @@ fn entry_at<T: Copy>(entries: &[Entry<T>], number: u32) -> Entry<T>
     requires place { number < length (lists_of entries.now) }
     ensures list { slice_index_or (lists_of entries.now) number [] ≡ result.item ∷ chain_in (lists_of entries.now) result.older }
     ensures link { IsLink (lists_of entries.now) result.older }
+    ensures older { IfSome result.older (λ m. m < number) }
 {
     entries[number as usize]
 }
@@ -58,6 +61,36 @@ impl<'a, T: Copy> Iterator for Chain<'a, T> {
         let entry = entry_at(self.entries, number);
         self.link = entry.older;
         Some(entry.item)
+    }
+}
+
+/// The link to the newest operation before candidate i, from one to a newer operation on its key.
+fn newest_before(entries: &[Entry<Operation>], newest: Option<u32>, i: u32) -> Option<u32>
+    requires back { AreLinkedBack entries.now }
+    requires link { IsLink (lists_of entries.now) newest }
+    ensures list { chain_in (lists_of entries.now) result ≡ older_than i (chain_in (lists_of entries.now) newest) }
+    ensures link { IsLink (lists_of entries.now) result }
+{
+    let mut link = newest;
+    while let Some(number) = link {
+        let entry = entry_at(entries, number);
+        if entry.item.tx < i {
+            return link;
+        }
+        link = entry.older;
+    }
+    None
+}
+
+impl<'a> Chain<'a, Operation> {
+    /// The operations before candidate i. Linear in those that are passed over.
+    pub(crate) fn before(self, i: u32) -> Chain<'a, Operation>
+        ensures { result ≡ older_than i self.entry }
+    {
+        Chain {
+            entries: self.entries,
+            link: newest_before(self.entries, self.link, i),
+        }
     }
 }
 

@@ -1,14 +1,17 @@
 //! The keys that a block writes, numbered.
-ghost use Rattle.std.specs.Prelude.{◌≡◌, ◌<◌, ◌^◌, length, IfOk, IfSome, IsTrue};
-ghost use Rattle.std.specs.List.Sorted.{IsStrictlySortedBy};
+ghost use Rattle.std.specs.Prelude.{◌≡◌, ◌<◌, ◌≤◌, ◌^◌, ℕ, true, false, length, IfOk, IfSome, IsTrue, slice_index_or};
+ghost use Rattle.std.specs.List.Sorted.{IsStrictlySortedBy, IsPartitionPoint};
 ghost use Rattle.rules.specs.State as state;
 ghost use Rattle.rules.specs.State.{is_among, key_cmp};
-ghost use Rattle.rules.specs.Ranges.{is_within};
+ghost use Rattle.std.specs.Ordering.{is_lt, is_le};
+ghost use Rattle.values.specs.Order.{bytes_cmp};
+ghost use Rattle.rules.specs.Ranges.{is_within, is_below};
 ghost use Rattle.candidates.specs.Written.{keys_in_order};
 ghost use Rattle.key_chains.specs.Numbers.{number_in};
 
 use candidates::{StateKey, keys_in_order};
 use std::alloc::AllocError;
+use std::cmp::Ordering;
 use std::marker::Model;
 use values::{BoundRef, NameRef};
 
@@ -42,6 +45,60 @@ fn place_of<'k>(keys: &[StateKey<'k>], key: &StateKey<'k>) -> Option<usize>
     keys.binary_search(key).ok()
 }
 
+fn is_before(key: &StateKey<'_>, namespace: &NameRef<'_>, bound: &[u8]) -> bool
+    ensures { result ≡ is_lt (key_cmp key.now (namespace.now, bound.now)) }
+{
+    match key.namespace().as_slice().cmp(&namespace.as_slice()) {
+        Ordering::Equal => key.key().as_slice().cmp(&bound).is_lt(),
+        other => other.is_lt(),
+    }
+}
+
+fn is_through(key: &StateKey<'_>, namespace: &NameRef<'_>) -> bool
+    ensures { result ≡ is_le (bytes_cmp key.now.0 namespace.now) }
+{
+    key.namespace().as_slice().cmp(&namespace.as_slice()).is_le()
+}
+
+/// How many keys stand before a bound in a namespace. Logarithmic.
+fn count_before(keys: &[StateKey<'_>], namespace: &NameRef<'_>, bound: &[u8]) -> usize
+    requires { IsStrictlySortedBy key_cmp keys.now }
+    ensures bound { result ≤ length keys.now }
+    ensures point { IsPartitionPoint (λ k. is_lt (key_cmp k (namespace.now, bound.now)) ≡ true) (λ k. is_lt (key_cmp k (namespace.now, bound.now)) ≡ false) keys.now result }
+{
+    keys.partition_point(
+        |key: &StateKey<'_>| -> bool
+            ensures { result ≡ is_lt (key_cmp key.now (namespace.entry.now, bound.entry.now)) }
+        { is_before(key, namespace, bound) },
+    )
+}
+
+/// How many keys stand in the namespaces up to this one. Logarithmic.
+fn count_through(keys: &[StateKey<'_>], namespace: &NameRef<'_>) -> usize
+    requires { IsStrictlySortedBy key_cmp keys.now }
+    ensures bound { result ≤ length keys.now }
+    ensures point { IsPartitionPoint (λ k. is_le (bytes_cmp k.0 namespace.now) ≡ true) (λ k. is_le (bytes_cmp k.0 namespace.now) ≡ false) keys.now result }
+{
+    keys.partition_point(
+        |key: &StateKey<'_>| -> bool
+            ensures { result ≡ is_le (bytes_cmp key.now.0 namespace.entry.now) }
+        { is_through(key, namespace) },
+    )
+}
+
+/// How many keys stand before an end in a namespace, an empty end being no bound.
+fn count_below(keys: &[StateKey<'_>], namespace: &NameRef<'_>, end: &[u8]) -> usize
+    requires { IsStrictlySortedBy key_cmp keys.now }
+    ensures bound { result ≤ length keys.now }
+    ensures below { (n : ℕ) (d : state.StateKey) → n < length keys.now → (slice_index_or keys.now n d).0 ≡ namespace.now → IsTrue (is_below (slice_index_or keys.now n d).1 end.now) → n < result }
+{
+    if end.is_empty() {
+        count_through(keys, namespace)
+    } else {
+        count_before(keys, namespace, end)
+    }
+}
+
 impl<'a> Numbering<'a> {
     /// Numbers these keys. Takes no memory; n log n comparisons.
     pub fn new(keys: Vec<StateKey<'a>>) -> Result<Numbering<'a>, AllocError>
@@ -69,5 +126,20 @@ impl<'a> Numbering<'a> {
             None => None,
             Some(place) => Some(place as u32),
         }
+    }
+
+    /// The keys of a namespace from a start to before an end, an empty end being no bound. Logarithmic.
+    pub fn between(
+        &self,
+        namespace: &NameRef<'_>,
+        start: &BoundRef<'_>,
+        end: &BoundRef<'_>,
+    ) -> &[StateKey<'a>]
+        ensures { (k : state.StateKey) → k.0 ≡ namespace.now → IsTrue (is_within start.now end.now k.1) → IsTrue (is_among k self.now) → IsTrue (is_among k result.now) }
+    {
+        let keys = self.keys.as_slice();
+        let high = count_below(keys, namespace, end.as_slice());
+        let low = count_before(keys, namespace, start.as_slice());
+        &keys[low.min(high)..high]
     }
 }

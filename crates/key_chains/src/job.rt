@@ -1,0 +1,183 @@
+ghost use Rattle.std.specs.Prelude.{◌≡◌, ◌≢◌, ◌<◌, ◌≤◌, ◌+◌, ℕ, [], Some, length, map, IfOk, IsTrue, MatchOption, slice_get, slice_index, slice_index_or};
+ghost use Rattle.std.specs.Option.{option_copied};
+ghost use Rattle.std.specs.FinMap.{get};
+ghost use Rattle.block.specs.Limits.{max_txs};
+ghost use Rattle.rules.specs.State.{StateKey, is_among};
+ghost use Rattle.rules.specs.Ranges.{is_within, rows_where};
+ghost use Rattle.rules.specs.Job.{candidate_at};
+ghost use Rattle.key_chains.specs.Job.{IsOpened, IsFlagged, read_by, written_by};
+ghost use Rattle.candidates.specs.Seen.{seen};
+ghost use Rattle.key_chains.specs.Operations.{operations};
+ghost use Rattle.key_chains.specs.PolicyWriters.{policy_writers};
+
+use crate::chains::{Chains, newest_on};
+use crate::links::Chain;
+use crate::operation::Operation;
+use candidates::{Candidate, OpenTx, StateKey};
+use policy::{Definitions, Policy};
+use rules::Row;
+use state_db::{Rows, StateDb};
+use std::alloc::{AllocError, Global};
+use std::marker::Model;
+use values::{BoundRef, NameRef};
+
+/// The candidates of one block over the state before it, with the operations on each key that they write. A contract
+/// sees the job of the rules.
+#[derive(Drop)]
+pub struct Job<'a> {
+    number: u64,
+    state: &'a StateDb,
+    definitions: &'a Definitions,
+    candidates: Vec<Candidate<'a>>,
+    chains: Chains<'a>,
+}
+
+impl<'a> Model for Job<'a> {
+    ghost use Rattle.rules.specs.Job as job;
+    ghost use Rattle.key_chains.specs.Code.{job_code};
+
+    ghost Value = { job.Job };
+
+    ghost coded = { job_code };
+
+    ghost use Rattle.std.specs.Prelude.{◌≤◌, map, length};
+    ghost use Rattle.block.specs.Limits.{max_txs};
+    ghost use Rattle.candidates.specs.Seen.{seen};
+    ghost use Rattle.key_chains.specs.Built.{IsBuilt};
+
+    ghost view = { λ j. record { number = j.number; state = j.state.now.state; definitions = j.definitions.now; candidates = map seen j.candidates.items } };
+
+    ghost invariant = { λ j. (length j.candidates.items ≤ max_txs) × IsBuilt (map seen j.candidates.items) (length j.candidates.items) (length j.candidates.items) 0 j.chains };
+}
+
+/// An item of candidate i, whose items begin at the place that `firsts` has for it.
+fn item_of<T: Copy>(items: &[T], firsts: &[usize], i: u32, item: usize) -> T
+    requires candidate { i < length firsts.now }
+    requires item { slice_index firsts.now i + item < length items.now }
+    ensures { (d : T) → result ≡ slice_index_or items.now (slice_index firsts.now i + item) d }
+{
+    items[firsts[i as usize] + item]
+}
+
+impl<'a> Job<'a> {
+    /// The job of a block's candidates, over the state before the block. A sort of the keys that they write, and one
+    /// pass over what they read and write, with a search for each key.
+    pub fn build(
+        alloc: Global,
+        number: u64,
+        state: &'a StateDb,
+        definitions: &'a Definitions,
+        candidates: Vec<Candidate<'a>>,
+    ) -> Result<Job<'a>, AllocError>
+        requires { length candidates.items ≤ max_txs }
+        ensures { IfOk result (λ j. j ≡ record { number = number; state = state.entry.now.state; definitions = definitions.entry.now; candidates = map seen candidates.entry.items }) }
+    {
+        let chains = Chains::build(alloc, candidates.as_slice())?;
+        Ok(Job {
+            number,
+            state,
+            definitions,
+            candidates,
+            chains,
+        })
+    }
+
+    /// The block's number.
+    pub fn number(&self) -> u64
+        ensures { result ≡ self.now.number }
+    {
+        self.number
+    }
+
+    /// How many candidates there are, at most 4,096.
+    pub fn len(&self) -> u32
+        ensures value { result ≡ length self.now.candidates }
+        ensures most { result ≤ max_txs }
+    {
+        self.candidates.as_slice().len() as u32
+    }
+
+    /// The transaction of a candidate that is open.
+    pub fn open_tx(&self, i: u32) -> Option<&OpenTx<'a>>
+        requires { i < length self.now.candidates }
+        ensures { MatchOption (option_copied result) (IsFlagged self.now i) (λ o. IsOpened self.now i o) }
+    {
+        match &self.candidates[i as usize] {
+            Candidate::Flagged(_) => None,
+            Candidate::Opened(open_tx) => Some(open_tx),
+        }
+    }
+
+    /// The row of a key before the block. Logarithmic in the number of rows.
+    pub fn row(&self, key: &StateKey<'_>) -> Option<&'a Row>
+        ensures { option_copied result ≡ get self.now.state key.now }
+    {
+        self.state.get(&key.namespace(), &key.key())
+    }
+
+    /// The rows of a namespace before the block, from a start to before an end, an empty end being no bound.
+    pub fn rows_between(
+        &'a self,
+        namespace: &NameRef<'a>,
+        start: &BoundRef<'a>,
+        end: &BoundRef<'a>,
+    ) -> Rows<'a>
+        ensures { result ≡ rows_where self.now.state namespace.now (is_within start.now end.now) }
+    {
+        self.state.range(namespace, start, end)
+    }
+
+    /// The policy of a chaincode.
+    pub fn definition(&self, namespace: &NameRef<'_>) -> Option<&'a Policy>
+        ensures { option_copied result ≡ get self.now.definitions namespace.now }
+    {
+        self.definitions.of(namespace)
+    }
+
+    /// The operations on a key before candidate i.
+    pub fn operations_before(&self, i: u32, key: &StateKey<'_>) -> Chain<'_, Operation>
+        ensures { result ≡ operations self.now.candidates key.now i }
+    {
+        let operations = &self.chains.operations;
+        let newest = newest_on(&self.chains.keys, operations, key);
+        operations.chain(newest).before(i)
+    }
+
+    /// The operations before candidate i on the key of one of its reads, which are counted through all its namespaces.
+    /// Constant time.
+    pub fn operations_on_read(&self, i: u32, read: usize) -> Chain<'_, Operation>
+        requires { read < length (read_by (candidate_at self.now i)) }
+        ensures { (k : StateKey) → slice_get (read_by (candidate_at self.now i)) read ≡ Some k → result ≡ operations self.now.candidates k i }
+    {
+        let chains = &self.chains;
+        let link = item_of(chains.reads.as_slice(), chains.first_reads.as_slice(), i, read);
+        chains.operations.chain(link)
+    }
+
+    /// The candidates before i that write the policy of one of the keys that candidate i writes. Constant time.
+    pub fn policy_writers(&self, i: u32, written: usize) -> Chain<'_, u32>
+        requires { written < length (written_by (candidate_at self.now i)) }
+        ensures { (k : StateKey) → slice_get (written_by (candidate_at self.now i)) written ≡ Some k → result ≡ policy_writers self.now.candidates k i }
+    {
+        let chains = &self.chains;
+        let written = item_of(
+            chains.written.as_slice(),
+            chains.first_written.as_slice(),
+            i,
+            written,
+        );
+        chains.policy_writers.chain(written.policy_writers)
+    }
+
+    /// The keys of a namespace that the block writes, from a start to before an end, an empty end being no bound.
+    pub fn keys_between(
+        &self,
+        namespace: &NameRef<'_>,
+        start: &BoundRef<'_>,
+        end: &BoundRef<'_>,
+    ) -> &[StateKey<'a>]
+        ensures { (k : StateKey) (i : ℕ) → k.0 ≡ namespace.now → IsTrue (is_within start.now end.now k.1) → operations self.now.candidates k i ≢ [] → IsTrue (is_among k result.now) }
+    {
+        self.chains.keys.between(namespace, start, end)
+    }
+}
