@@ -1,3 +1,4 @@
 pub mod InOrder
 pub mod Rising
 pub mod KeysInOrder
+pub mod Distinct

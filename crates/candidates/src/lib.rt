@@ -4,6 +4,7 @@
 
 mod candidate;
 mod in_order;
+mod labels;
 mod laws;
 mod open_tx;
 mod state_key;
