@@ -2,3 +2,4 @@ pub mod InOrder
 pub mod Rising
 pub mod KeysInOrder
 pub mod Distinct
+pub mod InForm

@@ -92,3 +92,12 @@ rise_at f front xs i x lt is =
     ap (λ l. are_rising (front ++ map f l)) (drop-cons xs i x lt)
     ∙ ap (λ (k : ℕ). are_rising (front ++ f (get_or xs i x) ∷ map f (drop k xs))) (sym (add-one i))
     ∙ ap (λ y. are_rising (front ++ f y ∷ map f (drop (i + 1) xs))) (sym is)
+
+below_keys : {K X : Type 0} (f : K → List ℕ) (g : K → X) (k : List ℕ) (xs : List K) → below_all bytes_cmp k (marked (map f xs)) ≡ below_all bytes_cmp k (map (λ x. (f x, g x)) xs)
+below_keys f g k [] = refl
+below_keys f g k (x ∷ xs) = ap (λ b. is_lt (bytes_cmp k (f x)) && b) (below_keys f g k xs)
+
+-- entries rise by their keys
+pub rise_keys : {K X : Type 0} (f : K → List ℕ) (g : K → X) (xs : List K) → are_rising (map f xs) ≡ is_sorted bytes_cmp (map (λ x. (f x, g x)) xs)
+rise_keys f g [] = refl
+rise_keys f g (x ∷ xs) = λ i. below_keys f g (f x) xs i && rise_keys f g xs i

@@ -1,3 +1,4 @@
 pub mod Written
 pub mod Seen
 pub mod Rising
+pub mod Form

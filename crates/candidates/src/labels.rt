@@ -70,7 +70,7 @@ impl Labelled for &[u8] {
     }
 }
 
-fn is_before(bytes: &[u8], others: &[u8]) -> bool
+pub(crate) fn is_before(bytes: &[u8], others: &[u8]) -> bool
     ensures { result ≡ is_lt (bytes_cmp bytes.now others.now) }
 {
     bytes < others

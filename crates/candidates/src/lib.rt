@@ -3,6 +3,7 @@
 #![tactic(auto)]
 
 mod candidate;
+mod form;
 mod in_order;
 mod labels;
 mod laws;
