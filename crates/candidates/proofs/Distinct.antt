@@ -17,7 +17,7 @@ use Rattle.candidates.specs.Rising.{are_rising}
 use Rattle.candidates.proofs.InOrder.{marked, keys_marked}
 use Rattle.candidates.proofs.Rising.{rise_from, rise_to, first_holds, second_holds, both_hold, same_test}
 
-none_from : {K : Type 0} (p : K → Bool) (xs : List K) → not (list_any p xs) ≡ true → AllByRecursion (λ y. p y ≡ false) xs
+pub none_from : {K : Type 0} (p : K → Bool) (xs : List K) → not (list_any p xs) ≡ true → AllByRecursion (λ y. p y ≡ false) xs
 none_from p [] h = tt
 none_from p (x ∷ xs) h =
     elim (p x) as (λ b. p x ≡ b → not (b || list_any p xs) ≡ true → AllByRecursion (λ y. p y ≡ false) (x ∷ xs)) [
@@ -29,7 +29,7 @@ none_to : {K : Type 0} (p : K → Bool) (xs : List K) → AllByRecursion (λ y. 
 none_to p [] h = refl
 none_to p (x ∷ xs) h = rw h.0 (none_to p xs h.1)
 
-any_map : {K : Type 0} (f : K → List ℕ) (x : List ℕ) (xs : List K) → list_any (bytes_eq x) (map f xs) ≡ list_any (λ y. bytes_eq x (f y)) xs
+pub any_map : {K : Type 0} (f : K → List ℕ) (x : List ℕ) (xs : List K) → list_any (bytes_eq x) (map f xs) ≡ list_any (λ y. bytes_eq x (f y)) xs
 any_map f x [] = refl
 any_map f x (y ∷ ys) = ap (λ b. bytes_eq x (f y) || b) (any_map f x ys)
 

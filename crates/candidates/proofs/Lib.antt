@@ -3,3 +3,7 @@ pub mod Rising
 pub mod KeysInOrder
 pub mod Distinct
 pub mod InForm
+pub mod Joined
+pub mod Found
+pub mod Parts
+pub mod Gathered

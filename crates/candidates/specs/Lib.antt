@@ -2,3 +2,4 @@ pub mod Written
 pub mod Seen
 pub mod Rising
 pub mod Form
+pub mod Gathering

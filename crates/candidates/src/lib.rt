@@ -4,6 +4,7 @@
 
 mod candidate;
 mod form;
+mod gathering;
 mod in_order;
 mod labels;
 mod laws;
