@@ -2,8 +2,9 @@ pub mod InOrder
 pub mod Rising
 pub mod KeysInOrder
 pub mod Distinct
-pub mod InForm
+pub mod FormParts
 pub mod Joined
 pub mod Found
 pub mod Parts
 pub mod Gathered
+pub mod Namespaces

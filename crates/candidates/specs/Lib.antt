@@ -3,3 +3,4 @@ pub mod Seen
 pub mod Rising
 pub mod Form
 pub mod Gathering
+pub mod SetsFault

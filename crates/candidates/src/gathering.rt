@@ -5,11 +5,12 @@ ghost use Rattle.std.specs.List.{list_all};
 ghost use Rattle.std.specs.List.Sorted.{IsPermutation, IsSortedByKey};
 ghost use Rattle.rules.specs.Effect as effect;
 ghost use Rattle.rules.specs.State.{key_cmp};
-ghost use Rattle.rules.specs.ReadWriteSets.{has_policy_in_form};
+ghost use Rattle.rules.specs.ReadWriteSets.{has_policy_in_form, is_in_form};
 ghost use Rattle.candidates.specs.Form.{has_policies_in_form, are_policies_in_form, are_lists_in_form};
 ghost use Rattle.candidates.specs.Gathering.{value_write, policy_write, single_writes, joined};
-ghost use Rattle.candidates.specs.Written.{AreWritesOf};
+ghost use Rattle.candidates.specs.Written.{IsGathered};
 
+use crate::form::are_lists_in_form;
 use crate::state_key::StateKey;
 use crate::written_key::WrittenKey;
 use policy::{Policy, PolicyFault};
@@ -112,17 +113,31 @@ fn in_order<'a>(mut written: Vec<WrittenKey<'a>>) -> Vec<WrittenKey<'a>>
 }
 
 /// The keys that it writes in their order, each once, with what it writes there; nothing where a policy can't be read.
-/// Each policy is read once. Linear where the transaction has its keys in order, as peers write them, else n log n
-/// comparisons. The memory is that of the result, but that a key of both lists is there twice at first.
-pub(crate) fn gathered<'a>(
+fn gathered<'a>(
     alloc: Global,
     tx: &Tx<'a>,
 ) -> Result<Option<Vec<WrittenKey<'a>>>, AllocError>
     requires { IsTrue (are_lists_in_form tx.now) }
-    ensures { IfOk result (λ writes. MatchOption writes (are_policies_in_form tx.now ≡ false) (λ ws. IsTrue (are_policies_in_form tx.now) × AreWritesOf tx.now ws.items)) }
+    ensures { IfOk result (λ writes. MatchOption writes (is_in_form tx.now ≡ false) (λ ws. IsGathered tx.now ws.items)) }
 {
     match single_writes(alloc, tx)? {
         None => Ok(None),
         Some(written) => Ok(Some(joined(in_order(written)))),
     }
+}
+
+/// What it writes, where its read and write sets are in form.
+///
+/// Each policy is read once. Linear where the transaction has its keys in order, as peers write them, else n log n
+/// comparisons. The memory is that of the result, but that a key of both lists is there twice at first.
+pub(crate) fn written_in_form<'a>(
+    alloc: Global,
+    tx: &Tx<'a>,
+) -> Result<Option<Vec<WrittenKey<'a>>>, AllocError>
+    ensures { IfOk result (λ writes. MatchOption writes (is_in_form tx.now ≡ false) (λ ws. IsGathered tx.now ws.items)) }
+{
+    if !are_lists_in_form(alloc, tx)? {
+        return Ok(None);
+    }
+    gathered(alloc, tx)
 }

@@ -1,4 +1,4 @@
-use Rattle.candidates.proofs.InForm.{first_test, second_test}
+use Rattle.candidates.proofs.FormParts.{first_test, second_test}
 use Rattle.candidates.proofs.form.has_results_in_form.Goals as goal
 
 pub returns-then-are_rising : goal.returns-then-are_rising

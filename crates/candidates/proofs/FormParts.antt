@@ -44,3 +44,9 @@ pub in_form_is : (tx : Tx) → is_in_form tx ≡ (are_lists_in_form tx && are_po
 in_form_is tx =
     let names = are_distinct (map (λ n. n.name) tx.namespaces) in
     ap (λ b. names && b) (sets_apart tx.namespaces) ∙ assoc names (list_all have_lists_in_form tx.namespaces) (are_policies_in_form tx)
+
+pub not_in_form : (tx : Tx) → are_lists_in_form tx ≡ false → is_in_form tx ≡ false
+not_in_form tx e = in_form_is tx ∙ ap (λ b. b && are_policies_in_form tx) e
+
+pub in_form_by_policies : (tx : Tx) → are_lists_in_form tx ≡ true → is_in_form tx ≡ are_policies_in_form tx
+in_form_by_policies tx e = in_form_is tx ∙ ap (λ b. b && are_policies_in_form tx) e
