@@ -1,11 +1,11 @@
 -- Labels of which no two are the same, told by their order.
-use Rattle.std.proofs.Common.{◌≡◌, ℕ, ◌+◌, ◌<◌, Bool, true, false, not, ◌&&◌, ◌||◌, List, [], ◌∷◌, map, length, get_or, refl, sym, ap, subst, ◌∙◌, arith}
+use Rattle.std.proofs.Common.{◌≡◌, ℕ, ◌+◌, Bool, true, false, not, ◌&&◌, ◌||◌, List, [], ◌∷◌, map, get_or, refl, sym, ap, subst, ◌∙◌, arith}
 use Rattle.std.specs.declared.cmp.Ordering.{Ordering}
 use Rattle.std.specs.declared.cmp.Ordering.TheVariants.{Less, Equal, Greater}
 use Rattle.std.specs.Str.{bytes_eq}
-use Rattle.std.specs.Ordering.{eq_by_cmp, is_lt, is_eq, nat_cmp, ordering_reverse, on}
+use Rattle.std.specs.Ordering.{eq_by_cmp, is_lt, is_eq, nat_cmp, ordering_reverse}
 use Rattle.std.specs.Cmp.{IsTotalOrder, on_total, unsigned_ties}
-use Rattle.std.specs.Cmp.Lexicographic.{slice_cmp, nat_list_cmp_total, nat_list_eq_equiv, lists_ties}
+use Rattle.std.specs.Cmp.Lexicographic.{nat_list_cmp_total, nat_list_eq_equiv, lists_ties}
 use Rattle.std.specs.List.{AllByRecursion, list_any, IsDistinct}
 use Rattle.std.specs.List.Sorted.{IsPermutation, IsSorted, IsStrictlySortedBy}
 use Rattle.std.specs.FinMap.Entries.{below_all, is_sorted}
@@ -69,9 +69,9 @@ module _ {K : Type 0} (f : K → List ℕ) where
   rising [] up apart = tt
   rising (y ∷ ys) up apart =
       sorted_from_all_adjacent order_total (y ∷ ys) y (λ k lt.
-        sorted_step _ _ (order_total.antisymm (get_or (y ∷ ys) k y) (get_or (y ∷ ys) (k + 1) y))
-        (up k y (omega arith) lt)
-        (ties _ _ ∙ apart_from_distinct same (y ∷ ys) k (k + 1) y apart (omega arith) lt))
+      sorted_step _ _ (order_total.antisymm (get_or (y ∷ ys) k y) (get_or (y ∷ ys) (k + 1) y))
+      (up k y (omega arith) lt)
+      (ties _ _ ∙ apart_from_distinct same (y ∷ ys) k (k + 1) y apart (omega arith) lt))
 
   same_flips : (x y : K) → same x y ≡ same y x
   same_flips x y = nat_list_eq_equiv.symm (f x) (f y)
@@ -92,7 +92,7 @@ module _ {K : Type 0} (f : K → List ℕ) where
       same_test _ _
       (λ d. rises_same ys ∙ rise_to order (marked ys) (rw (keys_marked ys) (rising ys up (IsDistinct-IsPermutation same same_flips xs ys moved (distinct_from xs d)))))
       (λ r. distinct_to xs (IsDistinct-IsPermutation same same_flips ys xs (IsPermutation-sym xs ys moved)
-        (told ys (IsDistinct-from_sorted order ys (rw keys_marked at (rise_from order (marked ys) (sym (rises_same ys) ∙ r)))))))
+      (told ys (IsDistinct-from_sorted order ys (rw keys_marked at (rise_from order (marked ys) (sym (rises_same ys) ∙ r)))))))
 
   pub rising_are_distinct : (xs : List K) → are_rising (map f xs) ≡ true → are_distinct (map f xs) ≡ true
   rising_are_distinct xs r =

@@ -1,5 +1,5 @@
 -- Finding items by labels of which no two are the same.
-use Rattle.std.proofs.Common.{◌≡◌, ℕ, Bool, true, false, not, cond, ◌&&◌, List, [], ◌∷◌, map, Option, Some, None, refl, sym, ap, ◌∙◌}
+use Rattle.std.proofs.Common.{◌≡◌, ℕ, Bool, true, false, not, cond, List, [], ◌∷◌, map, Some, sym, ap, ◌∙◌}
 use Rattle.std.specs.Str.{bytes_eq}
 use Rattle.std.specs.Cmp.Lexicographic.{nat_list_eq_equiv}
 use Rattle.std.specs.List.{AllByRecursion, find, list_any}
@@ -23,6 +23,6 @@ module _ {K : Type 0} (f : K → List ℕ) where
   found (x ∷ xs) h = (
     ap (λ b. cond b (Some x) (find (at_label x) xs)) (nat_list_eq_equiv.refl (f x)),
     later x xs xs
-      (none_from (at_label x) xs (ap not (sym (any_map f (f x) xs)) ∙ first_holds _ _ h))
-      (found xs (second_holds (not (list_any (bytes_eq (f x)) (map f xs))) _ h)),
+        (none_from (at_label x) xs (ap not (sym (any_map f (f x) xs)) ∙ first_holds _ _ h))
+        (found xs (second_holds (not (list_any (bytes_eq (f x)) (map f xs))) _ h)),
   )

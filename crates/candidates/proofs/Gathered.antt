@@ -1,15 +1,12 @@
 -- What a transaction writes, in the order of the keys and with neighbours of one key joined, is what it writes at each key.
-use Rattle.std.proofs.Common.{◌≡◌, ℕ, ◌+◌, ◌<◌, ◌≤◌, Bool, true, false, cond, ◌&&◌, ◌||◌, List, [], ◌∷◌, map, length, get_or, Option, Some, None, is_some, refl, sym, ap, subst, ◌∙◌, arith}
-use Rattle.std.specs.Prelude.{option_map}
-use Rattle.std.specs.declared.cmp.Ordering.{Ordering}
-use Rattle.std.specs.declared.cmp.Ordering.TheVariants.{Less, Equal, Greater}
+use Rattle.std.proofs.Common.{◌≡◌, ◌+◌, ◌<◌, Bool, true, false, cond, ◌&&◌, ◌||◌, List, [], ◌∷◌, map, length, Option, Some, None, is_some, refl, sym, ap, subst, ◌∙◌, arith}
 use Rattle.std.specs.Ordering.{eq_by_cmp, is_lt}
 use Rattle.std.specs.Cmp.Lexicographic.{nat_list_eq_equiv}
 use Rattle.std.specs.Option.{option_or}
-use Rattle.std.specs.List.{AllByRecursion, All, list_any, dedup_from, dedup, IsDistinct}
+use Rattle.std.specs.List.{AllByRecursion, list_any, dedup_from, dedup, IsDistinct}
 use Rattle.std.specs.List.Sorted.{IsPermutation, IsSorted, IsSortedByKey}
 use Rattle.std.proofs.lemmas.List.{get_or-map, length-map}
-use Rattle.std.proofs.lemmas.List.Elements.{All-nil, All-cons, All-head, All-tail, All-from_recursion, recursion_from_All}
+use Rattle.std.proofs.lemmas.List.Elements.{All-from_recursion, recursion_from_All}
 use Rattle.std.proofs.lemmas.List.Sorted.{IsPermutation-map, All-permutation, list_any-IsPermutation}
 use Rattle.std.proofs.lemmas.Map.Keys.{IsDistinct-from_sorted}
 use Rattle.transaction.specs.declared.transaction.Tx.{Tx}
@@ -77,9 +74,10 @@ either_part (Some x) b whole p q = p
 
 both_are_parts : (tx : Tx) (a b : WrittenKey) → is_same_key b.key a.key ≡ true → IsPartOf tx a → IsPartOf tx b → IsPartOf tx (both_writes a b)
 both_are_parts tx a b e p q =
-    let same = same_key_is b.key a.key e in
-    (either_part a.value b.value (value_at tx a.key) p.0 (subst (λ k. IsPart b.value (value_at tx k)) same q.0),
-     either_part a.policy b.policy (policy_at tx a.key) p.1 (subst (λ k. IsPart b.policy (policy_at tx k)) same q.1))
+    let same = same_key_is b.key a.key e in (
+      either_part a.value b.value (value_at tx a.key) p.0 (subst (λ k. IsPart b.value (value_at tx k)) same q.0),
+      either_part a.policy b.policy (policy_at tx a.key) p.1 (subst (λ k. IsPart b.policy (policy_at tx k)) same q.1),
+    )
 
 parts_from : (tx : Tx) (ws : List WrittenKey) (k : WrittenKey) → IsPartOf tx k → AllByRecursion (IsPartOf tx) ws → AllByRecursion (IsPartOf tx) (joined_from k ws)
 parts_from tx [] k p all = (p, tt)
@@ -137,8 +135,10 @@ wholes : (tx : Tx) (all ws : List WrittenKey) →
     AllByRecursion (IsPartOf tx) ws → AllByRecursion (IsWriteOf tx) ws
 wholes tx all [] value policy values policies parts = tt
 wholes tx all (w ∷ ws) value policy values policies parts = (
-  (all_of w.value (value_at tx w.key) parts.0.0 (λ there. sym values.0 ∙ value w.key there),
-   all_of w.policy (policy_at tx w.key) parts.0.1 (λ there. sym policies.0 ∙ policy w.key there)),
+  (
+    all_of w.value (value_at tx w.key) parts.0.0 (λ there. sym values.0 ∙ value w.key there),
+    all_of w.policy (policy_at tx w.key) parts.0.1 (λ there. sym policies.0 ∙ policy w.key there),
+  ),
   wholes tx all ws value policy values.1 policies.1 parts.1,
 )
 
@@ -153,19 +153,19 @@ pub writes_gathered : (tx : Tx) (sorted : List WrittenKey) → are_lists_in_form
 writes_gathered tx sorted form moved up =
     let single = single_writes tx in
     let keys : map (λ w. w.key) (joined sorted) ≡ keys_in_order (written_keys tx) =
-        joined_keys sorted
-        ∙ sorted_is (map (λ w. w.key) single) (map (λ w. w.key) sorted) (IsPermutation-map (λ w. w.key) single sorted moved) (sorted_by_keys sorted up)
-        ∙ ap keys_in_order (single_writes_keys tx) in
+    joined_keys sorted
+    ∙ sorted_is (map (λ w. w.key) single) (map (λ w. w.key) sorted) (IsPermutation-map (λ w. w.key) single sorted moved) (sorted_by_keys sorted up)
+    ∙ ap keys_in_order (single_writes_keys tx) in
     let apart = IsDistinct-from_sorted key_cmp (map (λ w. w.key) (joined sorted)) (rw keys (keys_rise (written_keys tx))) in
     let there : (p : WrittenKey → Bool) → Joins p → list_any p single ≡ true → list_any p (joined sorted) ≡ true =
-        λ p joins h. any_joined p joins sorted ∙ sym (list_any-IsPermutation p single sorted moved) ∙ h in
+    λ p joins h. any_joined p joins sorted ∙ sym (list_any-IsPermutation p single sorted moved) ∙ h in
     let parts = parts_joined tx sorted (recursion_from_All (IsPartOf tx) sorted (All-permutation (IsPartOf tx) single sorted moved (single_writes_are_parts tx form))) in
     record {
       keys = keys;
       each = All-from_recursion (IsWriteOf tx) (joined sorted) (wholes tx (joined sorted) (joined sorted)
-        (λ k h. there (has_value k) (value_joins k) (value_there tx k h))
-        (λ k h. there (has_policy k) (policy_joins k) (policy_there tx k h))
-        (one_of_each (λ w. is_some w.value) (joined sorted) apart)
-        (one_of_each (λ w. is_some w.policy) (joined sorted) apart)
-        parts);
+          (λ k h. there (has_value k) (value_joins k) (value_there tx k h))
+          (λ k h. there (has_policy k) (policy_joins k) (policy_there tx k h))
+          (one_of_each (λ w. is_some w.value) (joined sorted) apart)
+          (one_of_each (λ w. is_some w.policy) (joined sorted) apart)
+          parts);
     }

@@ -1,7 +1,7 @@
 -- What joining the neighbours of one key makes of a list.
-use Rattle.std.proofs.Common.{◌≡◌, Bool, true, false, cond, List, [], ◌∷◌, IsTrue, refl, sym, ap, subst, ◌∙◌}
+use Rattle.std.proofs.Common.{◌≡◌, Bool, true, false, cond, List, [], ◌∷◌, IsTrue, refl, ap, ◌∙◌}
 use Rattle.std.specs.Bool.{MatchBool}
-use Rattle.std.specs.List.Retain.{IsDeduped, DedupsFrom, DedupsAll}
+use Rattle.std.specs.List.Retain.{IsDeduped, DedupsFrom}
 use Rattle.rules.specs.State.{is_same_key}
 use Rattle.candidates.specs.declared.written_key.WrittenKey.{WrittenKey}
 use Rattle.candidates.specs.Gathering.{both_writes, joined_from, joined}

@@ -8,3 +8,4 @@ pub mod Found
 pub mod Parts
 pub mod Gathered
 pub mod Namespaces
+pub mod Counts

@@ -9,7 +9,6 @@ use Rattle.transaction.specs.declared.transaction.Write.{Write}
 use Rattle.transaction.specs.declared.transaction.PolicyWrite.{PolicyWrite}
 use Rattle.transaction.specs.declared.transaction.NsSet.{NsSet}
 use Rattle.transaction.specs.declared.transaction.Tx.{Tx}
-use Rattle.policy.specs.Tree.{Tree}
 use Rattle.rules.specs.State.{StateKey, is_same_key}
 use Rattle.rules.specs.Effect.{set_of, policy_left, written_keys, value_keys_in, policy_keys_in}
 use Rattle.rules.specs.ReadWriteSets.{are_distinct, has_results_in_form}
@@ -34,14 +33,14 @@ value_of_set : (tx : Tx) (n : NsSet) (ws : List Write) → set_of tx n.name ≡ 
 value_of_set tx n [] set h = tt
 value_of_set tx n (w ∷ ws) set h =
     let there : value_at tx (n.name, w.key) ≡ Some w.value =
-        ap (λ s. option_map (λ x. x.value) (option_and_then (λ (m : NsSet). find (λ x. bytes_eq w.key x.key) m.writes) s)) set ∙ ap (option_map (λ x. x.value)) h.0 in
+    ap (λ s. option_map (λ x. x.value) (option_and_then (λ (m : NsSet). find (λ x. bytes_eq w.key x.key) m.writes) s)) set ∙ ap (option_map (λ x. x.value)) h.0 in
     ((there, tt), value_of_set tx n ws set h.1)
 
 policy_of_set : (tx : Tx) (n : NsSet) (ws : List PolicyWrite) → set_of tx n.name ≡ Some n → AllByRecursion (λ w. find (λ x. bytes_eq w.key x.key) n.policy_writes ≡ Some w) ws → AllByRecursion (λ w. IsPartOf tx (policy_write n w)) ws
 policy_of_set tx n [] set h = tt
 policy_of_set tx n (w ∷ ws) set h =
     let there : policy_at tx (n.name, w.key) ≡ Some (policy_left w) =
-        ap (λ s. option_map policy_left (option_and_then (λ (m : NsSet). find (λ x. bytes_eq w.key x.key) m.policy_writes) s)) set ∙ ap (option_map policy_left) h.0 in
+    ap (λ s. option_map policy_left (option_and_then (λ (m : NsSet). find (λ x. bytes_eq w.key x.key) m.policy_writes) s)) set ∙ ap (option_map policy_left) h.0 in
     ((tt, there), policy_of_set tx n ws set h.1)
 
 writes_distinct : (a b c d : Bool) → (a && b && c && d) ≡ true → b ≡ true

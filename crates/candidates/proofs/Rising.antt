@@ -80,8 +80,8 @@ rise_higher last x xs e =
     same_test _ _
     (second_holds (below_all bytes_cmp last (marked (x ∷ xs))) (are_rising (x ∷ xs)))
     (λ up. both_hold _ _
-      (both_hold _ _ e (below_to bytes_cmp last (marked xs) (rw keys_marked (above nat_list_cmp_total last x (is_Less _ e) xs (rw keys_marked at (below_from bytes_cmp x (marked xs) (first_holds _ _ up)))))))
-      up)
+    (both_hold _ _ e (below_to bytes_cmp last (marked xs) (rw keys_marked (above nat_list_cmp_total last x (is_Less _ e) xs (rw keys_marked at (below_from bytes_cmp x (marked xs) (first_holds _ _ up)))))))
+    up)
 
 pub rise_no_more : (last x : List ℕ) (xs : List (List ℕ)) → is_lt (bytes_cmp last x) ≡ false → are_rising (last ∷ x ∷ xs) ≡ false
 rise_no_more last x xs e = rw e refl

@@ -1,5 +1,5 @@
 -- Steps between a transaction and the keys that it writes. No public contract cites this.
-use Rattle.std.specs.Prelude.{◌≡◌, ℕ, List, [], ◌∷◌, ◌++◌, Bool, map, flat_map, Option, Some, None, if◌then◌else◌}
+use Rattle.std.specs.Prelude.{List, [], ◌∷◌, ◌++◌, map, flat_map, Some, None, if◌then◌else◌}
 use Rattle.std.specs.Option.{option_or}
 use Rattle.transaction.specs.declared.transaction.Write.{Write}
 use Rattle.transaction.specs.declared.transaction.PolicyWrite.{PolicyWrite}

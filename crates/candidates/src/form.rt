@@ -55,10 +55,12 @@ fn have_results_in_form(ranges: &[Range<'_>]) -> bool
 fn have_lists_in_form(alloc: Global, set: &NsSet<'_>) -> Result<bool, AllocError>
     ensures { IfOk result (λ fine. fine ≡ have_lists_in_form set.now) }
 {
-    Ok(are_distinct(alloc, set.reads.as_slice())?
-        && are_distinct(alloc, set.writes.as_slice())?
-        && are_distinct(alloc, set.policy_writes.as_slice())?
-        && have_results_in_form(set.ranges.as_slice()))
+    Ok(
+        are_distinct(alloc, set.reads.as_slice())?
+            && are_distinct(alloc, set.writes.as_slice())?
+            && are_distinct(alloc, set.policy_writes.as_slice())?
+            && have_results_in_form(set.ranges.as_slice()),
+    )
 }
 
 /// Whether no namespace repeats, nor a key in one of its lists, and the results of ranges rise within them. What time

@@ -1,5 +1,5 @@
 //! From a transaction to the keys that it writes.
-ghost use Rattle.std.specs.Prelude.{◌≡◌, ◌++◌, map, false, Some, IsTrue, IfOk, OnOk, MatchOption};
+ghost use Rattle.std.specs.Prelude.{◌≡◌, ◌++◌, map, flat_map, length, min, false, Some, IsTrue, IfOk, OnOk, MatchOption};
 ghost use Rattle.std.specs.Bool.{then_some};
 ghost use Rattle.std.specs.List.{list_all};
 ghost use Rattle.std.specs.List.Sorted.{IsPermutation, IsSortedByKey};
@@ -7,7 +7,7 @@ ghost use Rattle.rules.specs.Effect as effect;
 ghost use Rattle.rules.specs.State.{key_cmp};
 ghost use Rattle.rules.specs.ReadWriteSets.{has_policy_in_form, is_in_form};
 ghost use Rattle.candidates.specs.Form.{has_policies_in_form, are_policies_in_form, are_lists_in_form};
-ghost use Rattle.candidates.specs.Gathering.{value_write, policy_write, single_writes, joined};
+ghost use Rattle.candidates.specs.Gathering.{value_write, policy_write, writes_in, single_writes, joined};
 ghost use Rattle.candidates.specs.Written.{IsGathered};
 
 use crate::form::are_lists_in_form;
@@ -79,15 +79,26 @@ fn add_policies<'a>(
     Ok(true)
 }
 
+/// How many values and policies the sets write, or the greatest number where there are more.
+fn count_writes(sets: &[NsSet<'_>]) -> usize
+    ensures { result ≡ min (length (flat_map writes_in sets.now)) usize.MAX }
+{
+    let mut count = 0_usize;
+    for set in sets {
+        count = count
+            .saturating_add(set.writes.len())
+            .saturating_add(set.policy_writes.len());
+    }
+    count
+}
+
 /// Each value and each policy that it writes by itself, or nothing where a policy can't be read.
-fn single_writes<'a>(
-    alloc: Global,
-    tx: &Tx<'a>,
-) -> Result<Option<Vec<WrittenKey<'a>>>, AllocError>
+fn single_writes<'a>(alloc: Global, tx: &Tx<'a>) -> Result<Option<Vec<WrittenKey<'a>>>, AllocError>
     ensures { IfOk result (λ writes. MatchOption writes (are_policies_in_form tx.now ≡ false) (λ ws. IsTrue (are_policies_in_form tx.now) × (ws.items ≡ single_writes tx.now))) }
 {
-    let mut written = Vec::new(alloc);
-    for set in tx.namespaces.as_slice() {
+    let sets = tx.namespaces.as_slice();
+    let mut written = Vec::with_capacity(alloc, count_writes(sets))?;
+    for set in sets {
         add_values(&mut written, set)?;
         if !add_policies(alloc, &mut written, set)? {
             return Ok(None);
@@ -113,10 +124,7 @@ fn in_order<'a>(mut written: Vec<WrittenKey<'a>>) -> Vec<WrittenKey<'a>>
 }
 
 /// The keys that it writes in their order, each once, with what it writes there; nothing where a policy can't be read.
-fn gathered<'a>(
-    alloc: Global,
-    tx: &Tx<'a>,
-) -> Result<Option<Vec<WrittenKey<'a>>>, AllocError>
+fn gathered<'a>(alloc: Global, tx: &Tx<'a>) -> Result<Option<Vec<WrittenKey<'a>>>, AllocError>
     requires { IsTrue (are_lists_in_form tx.now) }
     ensures { IfOk result (λ writes. MatchOption writes (is_in_form tx.now ≡ false) (λ ws. IsGathered tx.now ws.items)) }
 {
