@@ -13,7 +13,7 @@ use Rattle.std.specs.FinMap.Entries.{put, by_order, find, is_some-find}
 abbrev pub marked : {K : Type 0} → List K → List (K × Unit {0})
 marked ks = map (λ k. (k, tt)) ks
 
-keys_marked : {K : Type 0} (ks : List K) → map (λ e. e.0) (marked ks) ≡ ks
+pub keys_marked : {K : Type 0} (ks : List K) → map (λ e. e.0) (marked ks) ≡ ks
 keys_marked [] = refl
 keys_marked (k ∷ ks) = ap (λ l. k ∷ l) (keys_marked ks)
 

@@ -1,3 +1,11 @@
 pub mod InOrder
 pub mod Rising
 pub mod KeysInOrder
+pub mod Distinct
+pub mod FormParts
+pub mod Joined
+pub mod Found
+pub mod Parts
+pub mod Gathered
+pub mod Namespaces
+pub mod Counts

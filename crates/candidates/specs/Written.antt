@@ -1,10 +1,11 @@
 -- The keys that a transaction writes, in their order, each once, with what it writes there.
-use Rattle.std.specs.Prelude.{◌≡◌, ℕ, List, map, All, Option, option_map}
+use Rattle.std.specs.Prelude.{◌≡◌, ℕ, List, map, All, Option, option_map, IsTrue}
 use Rattle.std.specs.FinMap.{keys, from_entries}
 use Rattle.transaction.specs.declared.transaction.Tx.{Tx}
 use Rattle.policy.specs.Tree.{Tree}
 use Rattle.rules.specs.State.{StateKey, key_cmp}
 use Rattle.rules.specs.Effect.{write_of, policy_write_of, policy_left, written_keys}
+use Rattle.rules.specs.ReadWriteSets.{is_in_form}
 use Rattle.candidates.specs.declared.written_key.WrittenKey.{WrittenKey}
 
 -- the keys of a list in their order, each once: those of a map that has nothing at each of them
@@ -27,3 +28,8 @@ IsWriteOf tx w = (w.value ≡ value_at tx w.key) × (w.policy ≡ policy_at tx w
 pub record AreWritesOf (tx : Tx) (ws : List WrittenKey) : Type 0 where
   pub keys : map (λ w. w.key) ws ≡ keys_in_order (written_keys tx)
   pub each : All (IsWriteOf tx) ws
+
+-- its read and write sets are in form, and these are what it writes
+pub record IsGathered (tx : Tx) (ws : List WrittenKey) : Type 0 where
+  pub in_form : IsTrue (is_in_form tx)
+  pub writes : AreWritesOf tx ws

@@ -1,5 +1,10 @@
+use crate::in_form::InForm;
 use crate::open_tx::OpenTx;
+use policy::Definitions;
+use policy_eval::Signers;
 use rules::Flag;
+use std::alloc::{AllocError, Global};
+use transaction::Tx;
 
 /// What a transaction is before the rules on the state are asked.
 #[derive(Drop)]
@@ -8,4 +13,27 @@ pub enum Candidate<'a> {
     Flagged(Flag),
     /// The endorsement and read rules decide.
     Opened(OpenTx<'a>),
+}
+
+impl<'a> Candidate<'a> {
+    ghost use Rattle.std.specs.Prelude.{◌≡◌, IfOk};
+    ghost use Rattle.rules.specs.Candidate.{flagged_or, opened};
+    ghost use Rattle.candidates.specs.SetsFault.{sets_fault};
+    ghost use Rattle.candidates.specs.Seen.{seen};
+
+    /// Of a transaction whose origin is good and whose id is new: flagged for its read and write sets, or open with
+    /// these signers. It takes what [`InForm::check`] takes.
+    pub fn open(
+        alloc: Global,
+        tx: Tx<'a>,
+        signers: Signers<'a>,
+        definitions: &Definitions,
+    ) -> Result<Candidate<'a>, AllocError>
+        ensures { IfOk result (λ c. seen c ≡ flagged_or (sets_fault definitions.now tx.entry) (opened tx.entry signers.entry)) }
+    {
+        match InForm::check(alloc, tx, definitions)? {
+            Ok(in_form) => Ok(Candidate::Opened(in_form.with_signers(signers))),
+            Err(flag) => Ok(Candidate::Flagged(flag)),
+        }
+    }
 }

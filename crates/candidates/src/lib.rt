@@ -3,13 +3,19 @@
 #![tactic(auto)]
 
 mod candidate;
+mod defined;
+mod form;
+mod gathering;
+mod in_form;
 mod in_order;
+mod labels;
 mod laws;
 mod open_tx;
 mod state_key;
 mod written_key;
 
 pub use candidate::Candidate;
+pub use in_form::InForm;
 pub use in_order::keys_in_order;
 pub use laws::keys_have_one_order;
 pub use open_tx::OpenTx;

@@ -1,3 +1,7 @@
+ghost use Rattle.std.specs.Prelude.{◌≡◌, IsTrue, false};
+ghost use Rattle.rules.specs.State.{is_same_key};
+ghost use Rattle.candidates.specs.Gathering.{both_writes};
+
 use crate::state_key::StateKey;
 use policy::Policy;
 use values::{Shared, Slice};
@@ -10,4 +14,20 @@ pub struct WrittenKey<'a> {
     pub value: Option<Option<Slice<'a>>>,
     /// The new policy, read once, `Some(None)` where it is removed; `None` where the policy isn't written.
     pub policy: Option<Option<Shared<Policy>>>,
+}
+
+impl<'a> WrittenKey<'a> {
+    /// Takes over what another one has, if it is of the same key; else nothing changes.
+    pub(crate) fn join(&mut self, next: &mut WrittenKey<'a>) -> bool
+        ensures same { result ≡ is_same_key next.old.key self.old.key }
+        ensures joined { IsTrue result → self.new ≡ both_writes self.old next.old }
+        ensures apart { result ≡ false → (self.new ≡ self.old) × (next.new ≡ next.old) }
+    {
+        if !next.key.is_same(&self.key) {
+            return false;
+        }
+        self.value = self.value.take().or(next.value.take());
+        self.policy = self.policy.take().or(next.policy.take());
+        true
+    }
 }

@@ -1,0 +1,12 @@
+-- What a transaction's read and write sets are flagged for, before the rules on the state.
+use Rattle.std.specs.Prelude.{[], ◌∷◌, Option}
+use Rattle.transaction.specs.declared.transaction.Tx.{Tx}
+use Rattle.policy.specs.Policies.{Policies}
+use Rattle.rules.specs.declared.flag.Flag.{Flag}
+use Rattle.rules.specs.declared.flag.Flag.TheVariants.{BadRwset, InvalidChaincode}
+use Rattle.rules.specs.ReadWriteSets.{is_in_form}
+use Rattle.rules.specs.Candidate.{first_failed, is_all_defined}
+
+-- sets that aren't in form, else a chaincode without a definition
+abbrev pub sets_fault : Policies → Tx → Option Flag
+sets_fault definitions tx = first_failed ((is_in_form tx, BadRwset) ∷ (is_all_defined definitions tx, InvalidChaincode) ∷ [])

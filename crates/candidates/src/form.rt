@@ -1,0 +1,81 @@
+//! Whether read and write sets are in form, but for the policies that they write.
+ghost use Rattle.std.specs.Prelude.{◌≡◌, map, IfOk};
+ghost use Rattle.std.specs.List.{list_all};
+ghost use Rattle.std.specs.Ordering.{is_le};
+ghost use Rattle.values.specs.Order.{bytes_cmp};
+ghost use Rattle.rules.specs.Ranges.{is_within};
+ghost use Rattle.rules.specs.ReadWriteSets.{has_results_in_form};
+ghost use Rattle.candidates.specs.Form.{have_lists_in_form, are_lists_in_form};
+
+use crate::labels::{are_distinct, are_rising, is_before};
+use std::alloc::{AllocError, Global};
+use transaction::{KeyVersion, NsSet, Range, Tx};
+use values::{BoundRef, KeyRef};
+
+fn is_at_most(bytes: &[u8], others: &[u8]) -> bool
+    ensures { result ≡ is_le (bytes_cmp bytes.now others.now) }
+{
+    bytes <= others
+}
+
+/// From the start to before the end, which is no bound where it is empty.
+fn is_within(start: &BoundRef<'_>, end: &BoundRef<'_>, key: &KeyRef<'_>) -> bool
+    ensures { result ≡ is_within start.now end.now key.now }
+{
+    let end = end.as_slice();
+    is_at_most(start.as_slice(), key.as_slice())
+        && (end.is_empty() || is_before(key.as_slice(), end))
+}
+
+fn are_within(start: &BoundRef<'_>, end: &BoundRef<'_>, results: &[KeyVersion<'_>]) -> bool
+    ensures { result ≡ list_all (λ x. is_within start.now end.now x.key) results.now }
+{
+    for found in results {
+        if !is_within(start, end, &found.key) {
+            return false;
+        }
+    }
+    true
+}
+
+/// Whether the keys strictly rise, and none leaves the range.
+fn has_results_in_form(range: &Range<'_>) -> bool
+    ensures { result ≡ has_results_in_form range.now }
+{
+    let results = range.results.as_slice();
+    are_rising(results) && are_within(&range.start, &range.end, results)
+}
+
+fn have_results_in_form(ranges: &[Range<'_>]) -> bool
+    ensures { result ≡ list_all has_results_in_form ranges.now }
+{
+    ranges.iter().all(has_results_in_form)
+}
+
+fn have_lists_in_form(alloc: Global, set: &NsSet<'_>) -> Result<bool, AllocError>
+    ensures { IfOk result (λ fine. fine ≡ have_lists_in_form set.now) }
+{
+    Ok(
+        are_distinct(alloc, set.reads.as_slice())?
+            && are_distinct(alloc, set.writes.as_slice())?
+            && are_distinct(alloc, set.policy_writes.as_slice())?
+            && have_results_in_form(set.ranges.as_slice()),
+    )
+}
+
+/// Whether no namespace repeats, nor a key in one of its lists, and the results of ranges rise within them. What time
+/// and memory it takes is that of [`are_distinct`] for each list, and linear for results.
+pub(crate) fn are_lists_in_form(alloc: Global, tx: &Tx<'_>) -> Result<bool, AllocError>
+    ensures { IfOk result (λ fine. fine ≡ are_lists_in_form tx.now) }
+{
+    let sets = tx.namespaces.as_slice();
+    if !are_distinct(alloc, sets)? {
+        return Ok(false);
+    }
+    for set in sets {
+        if !have_lists_in_form(alloc, set)? {
+            return Ok(false);
+        }
+    }
+    Ok(true)
+}

@@ -1,0 +1,96 @@
+//! What can be said of transactions without the world.
+ghost use Rattle.std.specs.Prelude.{◌≡◌, map, None, IfOk};
+ghost use Rattle.transaction.specs.Decoded.{tx_of};
+ghost use Rattle.transaction.specs.Spelled.{IsSpelled};
+ghost use Rattle.policy_eval.specs.Signers.{signers_of};
+ghost use Rattle.rules.specs.Candidate.{flagged, flagged_or, opened};
+ghost use Rattle.candidates.specs.Seen.{seen};
+ghost use Rattle.candidates.specs.SetsFault.{sets_fault};
+ghost use Rattle.intake.specs.Place.{taken_of, shown};
+
+use crate::origin::{decoded_tx, origin_fault};
+use candidates::{Candidate, InForm};
+use channel::Channel;
+use policy::Definitions;
+use policy_eval::{Verify, signers};
+use rules::Flag;
+use std::alloc::{AllocError, Global};
+use transaction::{Tx, TxId};
+use values::Slice;
+
+/// What is known of a place of a block before the ids that are used.
+#[derive(Drop)]
+pub struct Taken<'a> {
+    /// The id that its transaction uses: none where there is a fault in where it comes from.
+    pub id: Option<TxId>,
+    /// What the transaction is where that id is new.
+    pub candidate: Candidate<'a>,
+}
+
+/// The candidate of a transaction whose origin is good and whose id is new. Only where its sets are in form and its
+/// chaincodes defined are its endorsers' signatures verified.
+fn candidate_of<'a, V: Verify>(
+    alloc: Global,
+    definitions: &Definitions,
+    verifier: &V,
+    tx: Tx<'a>,
+) -> Result<Candidate<'a>, AllocError>
+    requires { IsSpelled tx }
+    ensures { IfOk result (λ c. seen c ≡ flagged_or (sets_fault definitions.now tx.entry) (opened tx.entry (signers_of (V.accepts verifier.now) tx.entry))) }
+{
+    match InForm::check(alloc, tx, definitions)? {
+        Ok(in_form) => {
+            let signers = signers(alloc, in_form.tx(), verifier)?;
+            Ok(Candidate::Opened(in_form.with_signers(signers)))
+        }
+        Err(flag) => Ok(Candidate::Flagged(flag)),
+    }
+}
+
+fn without_id<'a>(flag: Flag) -> Taken<'a>
+    ensures { shown result ≡ (None, flagged flag) }
+{
+    Taken {
+        id: None,
+        candidate: Candidate::Flagged(flag),
+    }
+}
+
+fn take_one<'a, V: Verify>(
+    alloc: Global,
+    channel: &Channel,
+    verifier: &V,
+    bytes: &'a [u8],
+) -> Result<Taken<'a>, AllocError>
+    ensures { IfOk result (λ t. shown t ≡ taken_of channel.now (V.accepts verifier.now) (tx_of bytes.now)) }
+{
+    let Some(tx) = decoded_tx(alloc, bytes)? else {
+        return Ok(without_id(Flag::BadPayload));
+    };
+    if let Some(flag) = origin_fault(channel, verifier, &tx) {
+        return Ok(without_id(flag));
+    }
+    Ok(Taken {
+        id: Some(tx.tx().id),
+        candidate: candidate_of(alloc, channel.definitions(), verifier, tx.into_tx())?,
+    })
+}
+
+/// Takes in the transactions of a block, or of any piece of one, in order.
+///
+/// In each the cheapest test comes first: its grammar, its channel, its creator's signature, its id, its read and write
+/// sets with the chaincodes that it names, and the signatures of its endorsers, up to the first that fails.
+pub fn take_in<'a, V: Verify>(
+    alloc: Global,
+    channel: &Channel,
+    verifier: &V,
+    txs: &[Slice<'a>],
+) -> Result<Vec<Taken<'a>>, AllocError>
+    ensures { IfOk result (λ ts. map shown ts.items ≡ map (taken_of channel.now (V.accepts verifier.now)) (map tx_of txs.now)) }
+{
+    let mut all = Vec::with_capacity(alloc, txs.len())?;
+    for bytes in txs {
+        all.push(take_one(alloc, channel, verifier, bytes.as_slice())?)?;
+    }
+    Ok(all)
+}
