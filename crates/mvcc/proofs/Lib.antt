@@ -1,0 +1,4 @@
+pub mod Agreeing
+pub mod ByOperations
+pub mod Walking
+pub mod Deciding
