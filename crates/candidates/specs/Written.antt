@@ -1,16 +1,15 @@
 -- The keys that a transaction writes, in their order, each once, with what it writes there.
 use Rattle.std.specs.Prelude.{◌≡◌, ℕ, List, map, All, Option, option_map}
-use Rattle.std.specs.FinMap.{keys}
-use Rattle.std.specs.FinSet.{from_list}
+use Rattle.std.specs.FinMap.{keys, from_entries}
 use Rattle.transaction.specs.declared.transaction.Tx.{Tx}
 use Rattle.policy.specs.Tree.{Tree}
 use Rattle.rules.specs.State.{StateKey, key_cmp}
 use Rattle.rules.specs.Effect.{write_of, policy_write_of, policy_left, written_keys}
 use Rattle.candidates.specs.declared.written_key.WrittenKey.{WrittenKey}
 
--- the keys of a list in their order, each once
+-- the keys of a list in their order, each once: those of a map that has nothing at each of them
 unfoldable pub keys_in_order : List StateKey → List StateKey
-keys_in_order ks = keys (from_list {R = key_cmp} ks)
+keys_in_order ks = keys (from_entries {X = Unit {0}} {R = key_cmp} (map (λ k. (k, tt)) ks))
 
 -- the value that is written at a key, `Some None` being a delete
 abbrev pub value_at : Tx → StateKey → Option (Option (List ℕ))

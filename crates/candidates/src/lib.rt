@@ -3,11 +3,15 @@
 #![tactic(auto)]
 
 mod candidate;
+mod in_order;
+mod laws;
 mod open_tx;
 mod state_key;
 mod written_key;
 
 pub use candidate::Candidate;
+pub use in_order::keys_in_order;
+pub use laws::keys_have_one_order;
 pub use open_tx::OpenTx;
 pub use state_key::StateKey;
 pub use written_key::WrittenKey;

@@ -1,5 +1,10 @@
 ghost use Rattle.std.specs.Prelude.{◌≡◌};
+ghost use Rattle.std.proofs.Common.{refl, sym, rules};
+ghost use Rattle.std.specs.Cmp.{partial_order_from_agreeing_total};
+ghost use Rattle.std.specs.Cmp.Rules.{comparing};
+ghost use Rattle.std.specs.Ordering.{as_partial_cmp};
 ghost use Rattle.rules.specs.State.{is_same_key, key_cmp};
+ghost use Rattle.rules.proofs.Keys.{key_cmp_total, key_ties};
 
 use std::cmp::Ordering;
 use std::marker::Model;
@@ -66,13 +71,47 @@ impl<'a> StateKey<'a> {
     pub fn order(&self, other: &StateKey<'_>) -> Ordering
         ensures { result ≡ key_cmp self.now other.now }
     {
-        match self
-            .namespace
-            .as_slice()
-            .cmp(&other.namespace.as_slice())
-        {
+        match self.namespace.as_slice().cmp(&other.namespace.as_slice()) {
             Ordering::Equal => self.key.as_slice().cmp(&other.key.as_slice()),
             other => other,
         }
+    }
+}
+
+impl<'a> PartialEq for StateKey<'a> {
+    ghost eq = { is_same_key };
+
+    ghost laws = { Prim.search (comparing, rules) };
+
+    fn eq(&self, other: &StateKey<'a>) -> bool {
+        self.is_same(other)
+    }
+}
+
+impl<'a> Eq for StateKey<'a> {
+    ghost laws = { Prim.search (comparing, rules) };
+}
+
+impl<'a> PartialOrd for StateKey<'a> {
+    ghost partial_cmp = { as_partial_cmp key_cmp };
+
+    ghost laws = { partial_order_from_agreeing_total key_cmp key_cmp_total (λ _ _. refl) (λ a b. sym (key_ties a b)) };
+
+    fn partial_cmp(&self, other: &StateKey<'a>) -> Option<Ordering> {
+        Some(self.order(other))
+    }
+}
+
+impl<'a> Ord for StateKey<'a> {
+    ghost cmp = { key_cmp };
+
+    ghost total = { key_cmp_total };
+
+    ghost matches_partial_cmp = { Prim.search (comparing, rules) };
+
+    ghost matches_eq = { λ a b. sym (key_ties a b) };
+
+    fn cmp(&self, other: &StateKey<'a>) -> Ordering {
+        self.order(other)
     }
 }
