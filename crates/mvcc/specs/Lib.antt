@@ -1,2 +1,4 @@
 pub mod Versions
 pub mod Findings
+pub mod ReadPlaces
+pub mod Waiting

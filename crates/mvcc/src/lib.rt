@@ -3,6 +3,7 @@
 //! No call takes memory, and none waits: where a flag that it needs is unknown, it says whose.
 #![tactic(auto)]
 
+mod reads;
 mod version;
 mod walk;
 
