@@ -5,3 +5,5 @@ pub mod Deciding
 pub mod EachTested
 pub mod LookedAt
 pub mod NumberedReads
+pub mod RangeLaw
+pub mod Ordering

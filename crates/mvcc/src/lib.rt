@@ -3,6 +3,8 @@
 //! No call takes memory, and none waits: where a flag that it needs is unknown, it says whose.
 #![tactic(auto)]
 
+mod bounds;
+mod ranges;
 mod reads;
 mod version;
 mod walk;
