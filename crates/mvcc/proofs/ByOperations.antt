@@ -1,7 +1,6 @@
 -- The version of a key under an assignment is its version over the operations on it.
 use Rattle.std.proofs.Common.{◌≡◌, ℕ, zero, suc, ◌<◌, ◌≤◌, Bool, true, false, cond, List, ◌++◌, subst, Option, Some, None, refl, sym, ap, ◌∙◌, arith, All}
 use Rattle.std.specs.Prelude.{option_map, option_to_list}
-use Rattle.std.specs.List.{Contains}
 use Rattle.std.proofs.lemmas.List.Elements.{All-cons, All-nil, All-weaker, All-contains}
 use Rattle.transaction.specs.declared.transaction.Version.{Version}
 use Rattle.transaction.specs.declared.transaction.Write.{Write}

@@ -1,9 +1,13 @@
 pub mod Agreeing
 pub mod ByOperations
 pub mod Walking
-pub mod Deciding
+pub mod SureVersions
 pub mod EachTested
 pub mod LookedAt
 pub mod NumberedReads
+pub mod Answering
+pub mod Results
 pub mod RangeLaw
+pub mod RangeCovers
 pub mod Ordering
+pub mod FirstFault

@@ -1,16 +1,13 @@
 -- A range whose results rise holds where each of them has its version in the compared part, and each key that may have a row
 -- there is a result or absent.
-use Rattle.std.proofs.Common.{◌≡◌, ℕ, Bool, true, false, cond, not, ◌&&◌, ◌||◌, List, [], ◌∷◌, ◌++◌, map, Option, Some, None, T, refl, sym, ap, subst, ◌∙◌}
-use Rattle.std.specs.Prelude.{is_some, is_none, IsTrue, IsSome}
-use Rattle.std.specs.declared.cmp.Ordering.{Ordering}
-use Rattle.std.specs.declared.cmp.Ordering.TheVariants.{Less, Equal, Greater}
-use Rattle.std.specs.Ordering.{is_lt, is_eq, eq_by_cmp}
+use Rattle.std.proofs.Common.{◌≡◌, ℕ, Bool, true, false, cond, not, ◌&&◌, ◌||◌, List, [], ◌∷◌, ◌++◌, Option, Some, None, T, refl, sym, ap, subst, ◌∙◌}
+use Rattle.std.specs.Prelude.{is_some, is_none, IsTrue, IsSome, ◌↔◌}
+use Rattle.std.specs.Ordering.{eq_by_cmp}
 use Rattle.std.specs.Option.{option_eq}
 use Rattle.std.specs.List.{list_all, list_any}
 use Rattle.std.specs.Str.{bytes_eq}
 use Rattle.std.specs.Cmp.Lexicographic.{bytes_decides}
-use Rattle.std.specs.FinMap.{find, is_sorted}
-use Rattle.std.specs.FinMap.Entries.{below_all}
+use Rattle.std.specs.FinMap.{is_sorted}
 use Rattle.std.proofs.lemmas.List.Folds.{list_all-append}
 use Rattle.transaction.specs.declared.transaction.Version.{Version}
 use Rattle.transaction.specs.declared.transaction.Range.{Range}
@@ -22,8 +19,9 @@ use Rattle.rules.specs.Ranges.{is_within, is_compared, results_of, range_holds}
 use Rattle.rules.specs.ReadWriteSets.{has_results_in_form}
 use Rattle.rules.proofs.Booleans.{both_true}
 use Rattle.rules.proofs.Keys.{bytes_ties}
-use Rattle.rules.proofs.Ranges.{range_by_keys, version_decides}
+use Rattle.rules.proofs.Ranges.{HoldsAtKey, range_by_keys, version_decides}
 use Rattle.mvcc.specs.RangeChecks.{is_found, is_result, is_listed, is_as_found}
+use Rattle.mvcc.proofs.Results.{and_true, given, given_where, each_given}
 
 -- ---- tests
 
@@ -32,9 +30,6 @@ same_test : (a b : Bool) → (a ≡ true → b ≡ true) → (b ≡ true → a �
 same_test true b to from = sym (to refl)
 same_test false true to from = from refl
 same_test false false to from = refl
-
-and_true : (a b : Bool) → a ≡ true → b ≡ true → (a && b) ≡ true
-and_true a b p q = λ i. p i && q i
 
 each_passes : {X : Type 0} (p : X → Bool) (xs : List X) → ((x : X) → p x ≡ true) → list_all p xs ≡ true
 each_passes p [] passes = refl
@@ -48,62 +43,6 @@ one_passes p q (x ∷ qs) all among = by (bytes_eq q x) refl (both_true (p x) (l
     by : (b : Bool) → bytes_eq q x ≡ b → (p x ≡ true) × (list_all p qs ≡ true) → (list_all p qs ≡ true → list_any (bytes_eq q) qs ≡ true → p q ≡ true) → (b || list_any (bytes_eq q) qs) ≡ true → p q ≡ true
     by true is each later among = ap p ((bytes_decides q x).0 is) ∙ each.0
     by false is each later among = later each.1 among
-
--- ---- results by their keys
-
-abbrev versions : List KeyVersion → List (List ℕ × Version)
-versions xs = map (λ x. (x.key, x.version)) xs
-
--- the version that the results give a key
-abbrev given : List ℕ → List KeyVersion → Option Version
-given q xs = find bytes_cmp q (versions xs)
-
-given_where : (q : List ℕ) (xs : List KeyVersion) → is_some (given q xs) ≡ list_any (λ x. bytes_eq q x.key) xs
-given_where q [] = refl
-given_where q (x ∷ xs) = ap (λ (b : Bool). is_some (cond b (Some x.version) (given q xs))) (bytes_ties q x.key) ∙ by (bytes_eq q x.key) (given_where q xs)
-  where
-    by : (b : Bool) → is_some (given q xs) ≡ list_any (λ x. bytes_eq q x.key) xs → is_some (cond b (Some x.version) (given q xs)) ≡ (b || list_any (λ x. bytes_eq q x.key) xs)
-    by true rest = refl
-    by false rest = rest
-
-first_T : (a b : Bool) → T (a && b) → T a
-first_T true b p = tt
-first_T false b p = p
-
-second_T : (a b : Bool) → T (a && b) → T b
-second_T true b p = p
-second_T false b p = absurd p
-
-no_tie : (o : Ordering) → T (is_lt o) → is_eq o ≡ false
-no_tie Less p = refl
-no_tie Equal p = absurd p
-no_tie Greater p = absurd p
-
-not_given_below : (q : List ℕ) (xs : List KeyVersion) → T (below_all bytes_cmp q (versions xs)) → ◌≡◌ {A = Option Version} (given q xs) None
-not_given_below q [] below = refl
-not_given_below q (x ∷ xs) below =
-    ap (λ (b : Bool). cond b (Some x.version) (given q xs)) (no_tie (bytes_cmp q x.key) (first_T (is_lt (bytes_cmp q x.key)) (below_all bytes_cmp q (versions xs)) below))
-    ∙ not_given_below q xs (second_T (is_lt (bytes_cmp q x.key)) (below_all bytes_cmp q (versions xs)) below)
-
-ties_itself : (q : List ℕ) → eq_by_cmp bytes_cmp q q ≡ true
-ties_itself q = bytes_ties q q ∙ (bytes_decides q q).1 refl
-
--- results that rise give each of their keys its own version, so a test of what is given is one of each result
-each_given : (p : KeyVersion → Bool) (xs : List KeyVersion) → T (is_sorted bytes_cmp (versions xs)) → ((x : KeyVersion) → given x.key xs ≡ Some x.version → p x ≡ true) → list_all p xs ≡ true
-each_given p [] rising passes = refl
-each_given p (x ∷ xs) rising passes =
-    and_true (p x) (list_all p xs)
-    (passes x (ap (λ (b : Bool). cond b (Some x.version) (given x.key xs)) (ties_itself x.key)))
-    (each_given p xs (second_T (below_all bytes_cmp x.key (versions xs)) (is_sorted bytes_cmp (versions xs)) rising) (λ y is. passes y (by y (eq_by_cmp bytes_cmp y.key x.key) refl is)))
-  where
-    not_again : ◌≡◌ {A = Option Version} (given x.key xs) None
-    not_again = not_given_below x.key xs (first_T (below_all bytes_cmp x.key (versions xs)) (is_sorted bytes_cmp (versions xs)) rising)
-
-    by : (y : KeyVersion) (b : Bool) → eq_by_cmp bytes_cmp y.key x.key ≡ b → given y.key xs ≡ Some y.version → cond b (Some x.version) (given y.key xs) ≡ Some y.version
-    by y true tie is =
-        let same : y.key ≡ x.key = (bytes_decides y.key x.key).0 (sym (bytes_ties y.key x.key) ∙ tie) in
-        let none = sym is ∙ ap (λ (k : List ℕ). given k xs) same ∙ not_again in absurd cc
-    by y false tie is = is
 
 -- ---- what a range asks of a key
 
@@ -164,6 +103,7 @@ module _ (s : State) (namespace : List ℕ) (r : Range) where
     by_looks : IsTrue (is_sorted bytes_cmp (results_of r)) → range_holds s namespace r ≡ (list_all (is_found s namespace r) r.results && list_all (is_listed s namespace r) qs)
     by_looks rising = same_test (range_holds s namespace r) (list_all (is_found s namespace r) r.results && list_all (is_listed s namespace r) qs) to from
       where
+        law : IsTrue (range_holds s namespace r) ↔ ((q : List ℕ) → HoldsAtKey s namespace r q)
         law = range_by_keys s namespace r rising
 
         to : range_holds s namespace r ≡ true → (list_all (is_found s namespace r) r.results && list_all (is_listed s namespace r) qs) ≡ true

@@ -7,6 +7,7 @@ ghost use Rattle.rules.specs.Ranges.{is_within, is_up_to, is_compared};
 ghost use Rattle.rules.specs.ReadWriteSets.{has_results_in_form};
 ghost use Rattle.mvcc.specs.RangeChecks.{is_result};
 
+use std::cmp::Ordering;
 use transaction::Range;
 use values::{BoundRef, KeyRef};
 
@@ -47,6 +48,12 @@ pub(crate) fn is_compared(range: &Range<'_>, key: &KeyRef<'_>) -> bool
     is_within(&range.start, &range.end, key) && (range.exhausted || is_up_to_last(range, key))
 }
 
+fn order(key: &KeyRef<'_>, other: &KeyRef<'_>) -> Ordering
+    ensures { result ≡ bytes_cmp key.now other.now }
+{
+    key.as_slice().cmp(&other.as_slice())
+}
+
 /// Whether the key is one of the results, whose keys rise. Logarithmic in their number.
 pub(crate) fn is_result(range: &Range<'_>, key: &KeyRef<'_>) -> bool
     requires { IsTrue (has_results_in_form range.now) }
@@ -55,6 +62,6 @@ pub(crate) fn is_result(range: &Range<'_>, key: &KeyRef<'_>) -> bool
     range
         .results
         .as_slice()
-        .binary_search_by(|found| found.key.as_slice().cmp(&key.as_slice()))
+        .binary_search_by(|found| order(&found.key, key))
         .is_ok()
 }

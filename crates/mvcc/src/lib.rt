@@ -4,9 +4,11 @@
 #![tactic(auto)]
 
 mod bounds;
+mod deciding;
 mod ranges;
 mod reads;
 mod version;
 mod walk;
 
+pub use deciding::decide;
 pub use version::version_at;

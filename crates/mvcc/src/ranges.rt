@@ -1,9 +1,9 @@
 //! The range rule, as far as the earlier flags are known.
-ghost use Rattle.std.specs.Prelude.{◌≡◌, ◌≤◌, IsTrue};
+ghost use Rattle.std.specs.Prelude.{◌≡◌, ◌≤◌, true, None, IsTrue, map};
 ghost use Rattle.std.specs.List.{list_all};
 ghost use Rattle.rules.specs.Sure.{Sure};
-ghost use Rattle.rules.specs.Assignment.{state_under};
-ghost use Rattle.rules.specs.Ranges.{range_holds};
+ghost use Rattle.rules.specs.Assignment.{state_under, version_under};
+ghost use Rattle.rules.specs.Ranges.{is_compared, range_holds};
 ghost use Rattle.rules.specs.ReadWriteSets.{has_results_in_form};
 ghost use Rattle.key_chains.specs.Known.{Known, valid_in};
 ghost use Rattle.key_chains.specs.Decided.{MatchDecision};

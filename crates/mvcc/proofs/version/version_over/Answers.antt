@@ -1,7 +1,7 @@
 use Rattle.std.proofs.Common.{refl, sym, ◌∙◌}
 use Rattle.rules.specs.State.{version_in}
 use Rattle.mvcc.specs.declared.walk.Finding.TheVariants.{Open, Settled}
-use Rattle.mvcc.proofs.Deciding.{earlier, depends, sure_version}
+use Rattle.mvcc.proofs.SureVersions.{earlier, depends, sure_version}
 use Rattle.mvcc.proofs.version.version_over.Goals as goal
 
 pub walk-requires-clause-earlier : goal.walk-requires-clause-earlier
