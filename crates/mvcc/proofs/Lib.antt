@@ -9,5 +9,6 @@ pub mod Answering
 pub mod Results
 pub mod RangeLaw
 pub mod RangeCovers
+pub mod RowsStop
 pub mod Ordering
 pub mod FirstFault

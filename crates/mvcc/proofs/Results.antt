@@ -36,11 +36,11 @@ given_where q (x ∷ xs) = ap (λ (b : Bool). is_some (cond b (Some x.version) (
     by true rest = refl
     by false rest = rest
 
-first_T : (a b : Bool) → T (a && b) → T a
+pub first_T : (a b : Bool) → T (a && b) → T a
 first_T true b p = tt
 first_T false b p = p
 
-second_T : (a b : Bool) → T (a && b) → T b
+pub second_T : (a b : Bool) → T (a && b) → T b
 second_T true b p = p
 second_T false b p = absurd p
 

@@ -1,5 +1,5 @@
 -- The parts of a check of a range: over its results, and over keys that may have a row. No public contract cites it.
-use Rattle.std.specs.Prelude.{ℕ, List, Bool, not, ◌||◌, ◌&&◌, Some, is_none}
+use Rattle.std.specs.Prelude.{◌≡◌, ℕ, List, [], ◌∷◌, Bool, false, not, ◌||◌, ◌&&◌, Some, is_none}
 use Rattle.std.specs.List.{list_any, list_all}
 use Rattle.std.specs.Option.{option_eq}
 use Rattle.std.specs.Str.{bytes_eq}
@@ -23,3 +23,8 @@ is_listed s namespace r q = not (is_compared r q) || is_result r q || is_none (v
 -- over the results, the keys of rows before the block, and those that it writes
 abbrev pub is_as_found : State → List ℕ → Range → List (List ℕ) → List (List ℕ) → Bool
 is_as_found s namespace r before written = list_all (is_found s namespace r) r.results && (list_all (is_listed s namespace r) before && list_all (is_listed s namespace r) written)
+
+-- where one of these keys isn't compared, none behind it is
+abbrev pub StopCompared : Range → List (List ℕ) → Type 0
+StopCompared r [] = Unit {0}
+StopCompared r (q ∷ qs) = (is_compared r q ≡ false → list_any (is_compared r) qs ≡ false) × StopCompared r qs

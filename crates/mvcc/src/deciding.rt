@@ -80,10 +80,12 @@ fn sets_verdict<B: Board>(
 ///
 /// `Sure` where that is the same whatever the unknown flags before i will be. `Blocked(h)` where it isn't known yet: h is
 /// before i, writes a key that i looks at, and its flag is unknown. Where all before i are known at the call, the answer
-/// is `Sure`. Namespaces go in order, and in each the reads before the ranges. A read costs a walk over the operations
-/// on its key before i, and a look-up of its row where they leave the version open. A range costs the same for each
-/// result, and for each row in its bounds and each key in them that the block writes a search among the results, which
-/// is logarithmic.
+/// is `Sure`.
+///
+/// Namespaces go in order, and in each the reads before the ranges. A read costs a walk over the operations on its key
+/// before i, and a look-up of its row where they leave the version open. A range costs the same and a search for the
+/// key for each result. For each row before the block in the compared part, and each key in its bounds that the block
+/// writes, it costs a search among the results, and a walk where the key is none.
 pub fn decide<B: Board>(job: &Job<'_>, i: u32, board: &mut B) -> Decision<ReadVerdict>
     requires place { i < length job.now.candidates }
     requires board { B.count board.old ≡ length job.now.candidates }

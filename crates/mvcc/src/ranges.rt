@@ -85,7 +85,7 @@ fn are_found<B: Board>(
     Decision::Sure(true)
 }
 
-/// Whether a key that is compared and no result is absent.
+/// Whether a key of the compared part is a result or absent.
 fn is_listed<B: Board>(
     job: &Job<'_>,
     i: u32,
@@ -95,15 +95,13 @@ fn is_listed<B: Board>(
     board: &mut B,
 ) -> Decision<bool>
     requires in_form { IsTrue (has_results_in_form range.now) }
+    requires compared { is_compared range.now key.now ≡ true }
     requires board { i ≤ B.count board.old }
     ensures moves { B.moves board.old board.new }
     ensures decision { MatchDecision result
         (λ v. Sure (λ called n. checks.is_listed (state_under job.now called n) namespace.now range.now key.now) (valid_in (B.known board.new)) i v)
         (λ h. WaitsFor job.now (B.known board.new) i (range_at namespace.now range.now) h) }
 {
-    if !is_compared(range, key) {
-        return Decision::Sure(true);
-    }
     if is_result(range, key) {
         return Decision::Sure(true);
     }
@@ -113,7 +111,8 @@ fn is_listed<B: Board>(
     }
 }
 
-/// The same of the keys of rows.
+/// Whether each key of rows in the range's bounds that is compared is a result or absent. Stops at the first that isn't
+/// compared, since none behind it is.
 fn are_rows_listed<B: Board>(
     job: &Job<'_>,
     i: u32,
@@ -123,6 +122,7 @@ fn are_rows_listed<B: Board>(
     board: &mut B,
 ) -> Decision<bool>
     requires in_form { IsTrue (has_results_in_form range.now) }
+    requires stop { checks.StopCompared range.now (map (λ e. e.0.1) rows) }
     requires board { i ≤ B.count board.old }
     ensures moves { B.moves board.old board.new }
     ensures decision { MatchDecision result
@@ -130,7 +130,11 @@ fn are_rows_listed<B: Board>(
         (λ h. WaitsFor job.now (B.known board.new) i (range_at namespace.now range.now) h) }
 {
     for row in rows {
-        match is_listed(job, i, namespace, range, &row.key(), board) {
+        let key = row.key();
+        if !is_compared(range, &key) {
+            return Decision::Sure(true);
+        }
+        match is_listed(job, i, namespace, range, &key, board) {
             Decision::Sure(true) => {}
             Decision::Sure(false) => return Decision::Sure(false),
             Decision::Blocked(h) => return Decision::Blocked(h),
@@ -139,7 +143,7 @@ fn are_rows_listed<B: Board>(
     Decision::Sure(true)
 }
 
-/// The same of keys that the block writes.
+/// The same of keys that the block writes, in any order.
 fn are_keys_listed<B: Board>(
     job: &Job<'_>,
     i: u32,
@@ -156,7 +160,11 @@ fn are_keys_listed<B: Board>(
         (λ h. WaitsFor job.now (B.known board.new) i (range_at namespace.now range.now) h) }
 {
     for key in keys {
-        match is_listed(job, i, namespace, range, &key.key(), board) {
+        let key = key.key();
+        if !is_compared(range, &key) {
+            continue;
+        }
+        match is_listed(job, i, namespace, range, &key, board) {
             Decision::Sure(true) => {}
             Decision::Sure(false) => return Decision::Sure(false),
             Decision::Blocked(h) => return Decision::Blocked(h),
@@ -176,6 +184,7 @@ fn range_over<B: Board>(
     board: &mut B,
 ) -> Decision<bool>
     requires in_form { IsTrue (has_results_in_form range.now) }
+    requires stop { checks.StopCompared range.now (map (λ e. e.0.1) rows) }
     requires board { i ≤ B.count board.old }
     ensures moves { B.moves board.old board.new }
     ensures decision { MatchDecision result

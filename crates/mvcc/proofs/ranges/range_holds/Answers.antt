@@ -1,7 +1,11 @@
 use Rattle.key_chains.specs.Known.{valid_in}
 use Rattle.mvcc.specs.Waiting.{WaitsFor, range_at}
 use Rattle.mvcc.proofs.RangeCovers.{decided_range}
+use Rattle.mvcc.proofs.RowsStop.{rows_stop}
 use Rattle.mvcc.proofs.ranges.range_holds.Goals as goal
+
+pub range_over-requires-clause-stop : goal.range_over-requires-clause-stop
+range_over-requires-clause-stop g c = rows_stop c.args.namespace.now c.args.range.now c.args.job.now.state c.rows_between-rows.result c.rows_between-rows.ensures
 
 pub returns-clause-decision : goal.returns-clause-decision
 returns-clause-decision g c =
