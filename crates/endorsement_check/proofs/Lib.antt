@@ -1,0 +1,2 @@
+pub mod ByWriters
+pub mod WrittenKeys

@@ -1,2 +1,11 @@
-//! The endorsement rule, as far as the earlier endorsements are known.
+//! The endorsement check of one candidate, from what is known of the earlier ones' endorsements.
+//!
+//! No call takes memory, and none waits: where an endorsement that it needs is unknown, it says whose.
 #![tactic(auto)]
+
+mod deciding;
+mod policies;
+mod writers;
+mod writes;
+
+pub use deciding::decide;

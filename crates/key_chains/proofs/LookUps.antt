@@ -1,5 +1,5 @@
 -- What the chains of a whole block answer.
-use Rattle.std.proofs.Common.{◌≡◌, ◌⊎◌, inl, inr, ℕ, zero, suc, ◌+◌, ◌<◌, ◌≤◌, leb, true, false, List, [], ◌∷◌, ◌++◌, length, get_or, map, All, Option, Some, None, refl, sym, ap, subst, ◌∙◌, arith, length-append}
+use Rattle.std.proofs.Common.{◌≡◌, ◌⊎◌, inl, inr, ℕ, zero, suc, ◌+◌, ◌-◌, ◌<◌, ◌≤◌, leb, true, false, List, [], ◌∷◌, ◌++◌, length, get_or, map, All, Option, Some, None, refl, sym, ap, subst, ◌∙◌, arith, length-append}
 use Rattle.std.specs.Prelude.{slice_get}
 use Rattle.std.proofs.Math.ListN.{get_or-append, get_or-eq_default}
 use Rattle.std.proofs.Math.Seq.{get_or-append_seam}
@@ -48,6 +48,13 @@ module _ {X : Type 0} (give : ℕ → List X) where
       by (inl h) later = omega (arith, later h.1 below, length-gathered n)
       by (inr h) later = let same : n ≡ i = omega (arith, h.1, lt) in subst (λ (m : ℕ). length (gathered give i) + r < length (gathered give (suc m))) (sym same) (omega (arith, below, length-gathered i))
 
+  pub fits : (n i : ℕ) → i < n → length (give i) ≤ length (gathered give n)
+  fits n i lt = by (leb_tells 1 (length (give i)))
+    where
+      by : ((leb 1 (length (give i)) ≡ true) × (1 ≤ length (give i))) ⊎ ((leb 1 (length (give i)) ≡ false) × (length (give i) < 1)) → length (give i) ≤ length (gathered give n)
+      by (inl h) = let last = below_end n i (length (give i) - 1) lt (omega (arith, h.1)) in omega (arith, last, h.1)
+      by (inr h) = omega (arith, h.1)
+
   pub gathered_at : (n i r : ℕ) (d : X) → i < n → r < length (give i) → get_or (gathered give n) (length (gathered give i) + r) d ≡ get_or (give i) r d
   gathered_at zero i r d lt below = absurd (omega arith)
   gathered_at (suc n) i r d lt below = ap (λ (l : List X). get_or l (length (gathered give i) + r) d) (gathered-more give n) ∙ by (leb_tells (suc i) n) (gathered_at n i r d)
@@ -94,6 +101,11 @@ module _ (cs : List Candidate) (n i r : ℕ) (c : Chains) (b : IsBuilt cs n n 0 
 
   pub first_key : (d : ℕ) → get_or c.first_written.items i d ≡ length (gathered (keys_written cs) i)
   first_key d = ap (λ (l : List ℕ). get_or l i d) b.first_written ∙ start_at (keys_written cs) n i d lt
+
+  pub reads_fit : length (read_by (candidate_in cs i)) ≤ length c.reads.items
+  reads_fit =
+      let h : length c.reads.items ≡ length (gathered (lists_read cs) n) = sym (length-map c.reads.items (chain_in c.operations.0)) ∙ ap length b.reads.lead in
+      omega (arith, h, fits (lists_read cs) n i lt, length-map (read_by (candidate_in cs i)) (λ k. operations cs k i))
 
   module _ (below : r < length (read_by (candidate_in cs i))) where
     own : r < length (lists_read cs i)

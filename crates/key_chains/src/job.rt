@@ -1,4 +1,4 @@
-ghost use Rattle.std.specs.Prelude.{◌≡◌, ◌≢◌, ◌<◌, ◌≤◌, ◌+◌, ℕ, [], Some, length, map, IfOk, IsTrue, MatchOption, slice_get, slice_index, slice_index_or};
+ghost use Rattle.std.specs.Prelude.{◌≡◌, ◌≢◌, ◌<◌, ◌≤◌, ◌+◌, ◌^◌, ℕ, [], Some, length, map, IfOk, IsTrue, MatchOption, slice_get, slice_index, slice_index_or};
 ghost use Rattle.std.specs.Option.{option_copied};
 ghost use Rattle.std.specs.FinMap.{get};
 ghost use Rattle.block.specs.Limits.{max_txs};
@@ -97,10 +97,11 @@ impl<'a> Job<'a> {
         self.candidates.as_slice().len() as u32
     }
 
-    /// The transaction of a candidate that is open.
+    /// The transaction of a candidate that is open. Its reads can be counted.
     pub fn open_tx(&self, i: u32) -> Option<&OpenTx<'a>>
         requires { i < length self.now.candidates }
-        ensures { MatchOption (option_copied result) (IsFlagged self.now i) (λ o. IsOpened self.now i o) }
+        ensures tx { MatchOption (option_copied result) (IsFlagged self.now i) (λ o. IsOpened self.now i o) }
+        ensures reads { length (read_by (candidate_at self.now i)) < 2 ^ 64 }
     {
         match &self.candidates[i as usize] {
             Candidate::Flagged(_) => None,

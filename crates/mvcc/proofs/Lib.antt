@@ -1,0 +1,14 @@
+pub mod Agreeing
+pub mod ByOperations
+pub mod Walking
+pub mod SureVersions
+pub mod EachTested
+pub mod LookedAt
+pub mod NumberedReads
+pub mod Answering
+pub mod Results
+pub mod RangeLaw
+pub mod RangeCovers
+pub mod RowsStop
+pub mod Ordering
+pub mod FirstFault

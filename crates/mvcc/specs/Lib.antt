@@ -1,0 +1,5 @@
+pub mod Versions
+pub mod Findings
+pub mod ReadPlaces
+pub mod RangeChecks
+pub mod Waiting

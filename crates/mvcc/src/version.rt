@@ -1,0 +1,70 @@
+//! The version of a key before a candidate.
+ghost use Rattle.std.specs.Prelude.{◌≡◌, ◌≤◌, None, length};
+ghost use Rattle.rules.specs.State.{version_in};
+ghost use Rattle.rules.specs.Sure.{Sure};
+ghost use Rattle.rules.specs.Assignment.{version_under};
+ghost use Rattle.rules.specs.Depends.{VersionDepends};
+ghost use Rattle.key_chains.specs.Known.{Known, Grows, valid_in};
+ghost use Rattle.key_chains.specs.Decided.{MatchDecision};
+ghost use Rattle.key_chains.specs.Operations as chains;
+
+use crate::walk::{Finding, noted_over, walk};
+use key_chains::{Board, Decision, Job, Operations, StateKey};
+use transaction::Version;
+
+fn version_before(job: &Job<'_>, key: &StateKey<'_>) -> Option<Version>
+    ensures { result ≡ version_in job.now.state key.now }
+{
+    match job.row(key) {
+        None => None,
+        Some(row) => Some(row.version),
+    }
+}
+
+/// The version of a key over the operations on it before candidate i. The row before the block is looked up only where
+/// they leave that open.
+pub(crate) fn version_over<B: Board>(
+    job: &Job<'_>,
+    i: u32,
+    key: &StateKey<'_>,
+    operations: Operations<'_>,
+    board: &mut B,
+) -> Decision<Option<Version>>
+    requires all { operations ≡ chains.operations job.now.candidates key.now i }
+    requires board { i ≤ B.count board.old }
+    ensures moves { B.moves board.old board.new }
+    ensures decision { MatchDecision result
+        (λ v. Sure (version_under job.now key.now) (valid_in (B.known board.new)) i v)
+        (λ h. VersionDepends job.now key.now i h × ((B.known board.new).flag h ≡ None)) }
+{
+    match walk(job.number(), i, operations, board) {
+        Decision::Sure(Finding::Open(noted)) => {
+            Decision::Sure(noted_over(noted, version_before(job, key)))
+        }
+        Decision::Sure(Finding::Settled(version)) => Decision::Sure(version),
+        Decision::Blocked(h) => Decision::Blocked(h),
+    }
+}
+
+/// The version that a key has once the valid candidates before i are applied in order, or none where it is absent then.
+///
+/// `Sure` where that is the same whatever the unknown flags before i will be. `Blocked(h)` where it isn't known yet: h is
+/// before i, writes the key, and its flag is unknown. The search for the key's operations and, where they leave it open,
+/// for its row before the block is logarithmic; beside that the cost is linear in the operations down to the newest
+/// that counts and writes or deletes the value.
+pub fn version_at<B: Board>(
+    job: &Job<'_>,
+    i: u32,
+    key: &StateKey<'_>,
+    board: &mut B,
+) -> Decision<Option<Version>>
+    requires place { i ≤ length job.now.candidates }
+    requires board { B.count board.old ≡ length job.now.candidates }
+    ensures moves { B.moves board.old board.new }
+    ensures grows { Grows (B.known board.old) (B.known board.new) }
+    ensures decision { MatchDecision result
+        (λ v. Sure (version_under job.now key.now) (valid_in (B.known board.new)) i v)
+        (λ h. VersionDepends job.now key.now i h × ((B.known board.new).flag h ≡ None)) }
+{
+    version_over(job, i, key, job.operations_before(i, key), board)
+}
