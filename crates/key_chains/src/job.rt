@@ -11,8 +11,7 @@ ghost use Rattle.key_chains.specs.Operations.{operations};
 ghost use Rattle.key_chains.specs.PolicyWriters.{policy_writers};
 
 use crate::chains::{Chains, newest_on};
-use crate::links::Chain;
-use crate::operation::Operation;
+use crate::links::{Operations, PolicyWriters};
 use candidates::{Candidate, OpenTx, StateKey};
 use policy::{Definitions, Policy};
 use rules::Row;
@@ -136,7 +135,7 @@ impl<'a> Job<'a> {
     }
 
     /// The operations on a key before candidate i.
-    pub fn operations_before(&self, i: u32, key: &StateKey<'_>) -> Chain<'_, Operation>
+    pub fn operations_before(&self, i: u32, key: &StateKey<'_>) -> Operations<'_>
         ensures { result ≡ operations self.now.candidates key.now i }
     {
         let operations = &self.chains.operations;
@@ -146,7 +145,7 @@ impl<'a> Job<'a> {
 
     /// The operations before candidate i on the key of one of its reads, which are counted through all its namespaces.
     /// Constant time.
-    pub fn operations_on_read(&self, i: u32, read: usize) -> Chain<'_, Operation>
+    pub fn operations_on_read(&self, i: u32, read: usize) -> Operations<'_>
         requires { read < length (read_by (candidate_at self.now i)) }
         ensures { (k : StateKey) → slice_get (read_by (candidate_at self.now i)) read ≡ Some k → result ≡ operations self.now.candidates k i }
     {
@@ -156,7 +155,7 @@ impl<'a> Job<'a> {
     }
 
     /// The candidates before i that write the policy of one of the keys that candidate i writes. Constant time.
-    pub fn policy_writers(&self, i: u32, written: usize) -> Chain<'_, u32>
+    pub fn policy_writers(&self, i: u32, written: usize) -> PolicyWriters<'_>
         requires { written < length (written_by (candidate_at self.now i)) }
         ensures { (k : StateKey) → slice_get (written_by (candidate_at self.now i)) written ≡ Some k → result ≡ policy_writers self.now.candidates k i }
     {

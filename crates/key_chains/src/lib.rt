@@ -13,5 +13,5 @@ pub use board::Board;
 pub use candidates::{Candidate, OpenTx, StateKey, WrittenKey};
 pub use decision::Decision;
 pub use job::Job;
-pub use links::Chain;
+pub use links::{Chain, Operations, PolicyWriters};
 pub use operation::{Kind, Operation};

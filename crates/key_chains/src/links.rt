@@ -33,6 +33,12 @@ pub struct Chain<'a, T: Copy> {
     link: Option<u32>,
 }
 
+/// The operations on a key, the newest first.
+pub type Operations<'a> = Chain<'a, Operation>;
+
+/// The candidates that write the policy of a key, the newest first.
+pub type PolicyWriters<'a> = Chain<'a, u32>;
+
 impl<'a, T: Copy> Model for Chain<'a, T> {
     ghost use Rattle.std.specs.Prelude.{List};
     ghost use Rattle.key_chains.specs.Linked.{chain_in, IsLink};
