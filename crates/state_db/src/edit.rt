@@ -95,14 +95,9 @@ impl Edit {
     pub fn order(&self, wanted: &Wanted<'_>) -> Ordering
         ensures { result ≡ key_cmp self.now.0 wanted.now }
     {
-        match wanted.order_of_head(&self.head) {
-            Ordering::Equal => {
-                let namespace = self.change.namespace();
-                let key = self.change.key();
-                wanted.order_of(namespace.as_slice(), key.as_slice())
-            }
-            other => other,
-        }
+        let namespace = self.change.namespace();
+        let key = self.change.key();
+        wanted.order_of(namespace.as_slice(), key.as_slice())
     }
 }
 
