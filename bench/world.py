@@ -3,10 +3,12 @@
 
 Run as `bench/world.py` from anywhere, on a machine that has the kit: it builds a program over the repository's crates
 in a scratch folder. Each transaction puts a row of 100 bytes at one of 10,000 keys of 32 bytes. It prints the least of
-five runs of three blocks at each height (of which one may meet a list or map that grows), once with blocks of no
-transactions between the two heights, and fails where the later ones take half as much again; and once with blocks of
-10 between them. These leave a history of 100,000 entries and as many ids behind, so that the rows that are replaced lie
-apart in more memory than a cache holds: that time is told, and nothing is promised of it.
+five runs of three blocks at each height (of which one may meet a list or map that grows): once with blocks of no
+transactions between the two heights, and once with blocks of 10 between them, which leave a history of 100,000 entries
+and as many ids behind. It fails where the later ones take half as much again. The machine is to be quiet.
+
+So that the blocks between are all that differs, both heights have the same number of rows, put in an order that has
+nothing to do with their keys; the timed blocks are made before the world is, and looked at before they are applied.
 """
 
 import pathlib
@@ -90,20 +92,38 @@ fn id_of(block: u64, place: u32) -> [u8; 64] {
     id
 }
 
-// Puts every `step`th key of 10,000, from one that the block's number gives.
-fn delta_of(alloc: Global, block: u64, count: u32, step: u64) -> anyhow::Result<Delta> {
+// Every `step`th key of 10,000: in the order of the keys, or in one that has nothing to do with it.
+#[derive(Clone, Copy)]
+struct Keys {
+    first: u64,
+    step: u64,
+    sorted: bool,
+}
+
+impl Keys {
+    fn number(self, place: u32) -> u64 {
+        let number = self.first.wrapping_add(self.step.wrapping_mul(place as u64));
+        if self.sorted {
+            number
+        } else {
+            number.wrapping_mul(4801) % 10_000
+        }
+    }
+}
+
+// Puts the rows of so many keys.
+fn delta_of(alloc: Global, block: u64, count: u32, keys: Keys) -> anyhow::Result<Delta> {
     let mut changes = Items::new(alloc);
     let mut entries = Items::new(alloc);
     let mut uses = Items::new(alloc);
-    let mut number = block % step.max(1);
     for place in 0..count {
+        let number = keys.number(place);
         let version = Version { block, tx: place };
         let id = id_of(block, place);
         changes.push(change(alloc, number, version)?)?;
         entries.push(entry(alloc, number, version, id)?)?;
         let first_use = FirstUse { block, place, flag: Flag::Valid };
         uses.push(NewUse { id, first_use })?;
-        number = number.wrapping_add(step);
     }
     let block = CommittedBlock {
         bytes: Bytes::from_vec(Vec::new(alloc)),
@@ -118,32 +138,86 @@ fn delta_of(alloc: Global, block: u64, count: u32, step: u64) -> anyhow::Result<
     })
 }
 
+// The blocks to be timed. They are made while the heap is new, so that they lie in it alike whatever the height.
+fn to_be_timed(alloc: Global, height: u64, first: u64) -> anyhow::Result<Vec<Delta>> {
+    let mut deltas = Vec::new(alloc);
+    for more in 0..3u64 {
+        let keys = Keys {
+            first: first.wrapping_add(more),
+            step: 10,
+            sorted: true,
+        };
+        deltas.push(delta_of(alloc, height.wrapping_add(more), 1000, keys)?)?;
+    }
+    Ok(deltas)
+}
+
 fn fill(alloc: Global, world: &mut World, height: u64, count: u32) -> anyhow::Result<()> {
     for block in world.height()..height {
-        world.apply(&delta_of(alloc, block, count, 1000)?)?;
+        let keys = Keys {
+            first: block % 1000,
+            step: 1000,
+            sorted: false,
+        };
+        world.apply(&delta_of(alloc, block, count, keys)?)?;
+    }
+    Ok(())
+}
+
+// Looks at what a delta has, as whoever just made it has done.
+fn looked_at(delta: &Delta) -> u64 {
+    let mut sum = 0u64;
+    for change in delta.changes.as_slice() {
+        sum = sum.wrapping_add(change.key().as_slice().len() as u64);
+        if change.row().is_some() {
+            sum = sum.wrapping_add(1);
+        }
+    }
+    for entry in delta.entries.as_slice() {
+        let entry = entry.get();
+        sum = sum.wrapping_add(entry.entry.version.block);
+        if entry.key.as_slice().contains(&0) && entry.namespace.as_slice().contains(&0) {
+            sum = sum.wrapping_add(1);
+        }
+    }
+    for used in delta.uses.as_slice() {
+        if used.id.contains(&0) {
+            sum = sum.wrapping_add(1);
+        }
+    }
+    sum
+}
+
+fn apply_all(rt: &(impl Print + Clock), world: &mut World, deltas: &[Delta]) -> anyhow::Result<()> {
+    for delta in deltas {
+        let seen = looked_at(delta);
+        let start = Instant::now(rt)?;
+        world.apply(delta)?;
+        let micros = start.elapsed(rt)?.as_micros();
+        println!(rt; "{micros} {seen}")?;
     }
     Ok(())
 }
 
 fn measure(rt: &(impl Print + Clock), alloc: Global, count: u32) -> anyhow::Result<()> {
+    // The later ones put other keys, so that what they replace isn't what the earlier ones put.
+    let early = to_be_timed(alloc, FIRST, 0)?;
+    let late = to_be_timed(alloc, LAST, 5)?;
     let mut world = World::new(alloc);
-    world.apply(&delta_of(alloc, 0, 10000, 1)?)?;
+    let all = Keys {
+        first: 0,
+        step: 1,
+        sorted: false,
+    };
+    world.apply(&delta_of(alloc, 0, 10_000, all)?)?;
     fill(alloc, &mut world, FIRST, 10)?;
-    for height in [FIRST, LAST] {
-        fill(alloc, &mut world, height, count)?;
-        for block in height..height + 3 {
-            let delta = delta_of(alloc, block, 1000, 10)?;
-            let start = Instant::now(rt)?;
-            world.apply(&delta)?;
-            let micros = start.elapsed(rt)?.as_micros();
-            println!(rt; "{micros}")?;
-        }
-    }
-    Ok(())
+    apply_all(rt, &mut world, early.as_slice())?;
+    fill(alloc, &mut world, LAST, count)?;
+    apply_all(rt, &mut world, late.as_slice())
 }
 
-// Prints three lines for each height: the microseconds of a block of 1,000. First with blocks of none between the
-// heights, then with blocks of 10.
+// Prints three lines for each height, each begins with the microseconds of a block of 1,000. First with blocks of none
+// between the heights, then with blocks of 10.
 fn main(rt: HostRuntime) -> anyhow::Result<()> {
     let alloc = rt.alloc();
     measure(&rt, alloc, 0)?;
@@ -162,13 +236,16 @@ def main():
             done = subprocess.run([program], cwd=folder, capture_output=True, text=True, check=False)
             if done.returncode != 0:
                 sys.exit(f"the run failed: {done.stdout[:300]}{done.stderr[:300]}")
-            runs.append([int(line) for line in done.stdout.splitlines()])
+            runs.append([int(line.split()[0]) for line in done.stdout.splitlines()])
         times = [min(min(run[i:i + 3]) for run in runs) for i in range(0, 12, 3)]
+        dear = []
         for between, first, last in (("none", *times[:2]), ("10", *times[2:])):
             print(f"blocks of {between} between: {first / 1000:.2f} ms at height {HEIGHTS[0]:,}, "
-                  f"{last / 1000:.2f} ms at height {HEIGHTS[1]:,}")
-        if times[1] > RATIO * times[0]:
-            sys.exit(f"the later block takes {times[1] / times[0]:.2f} times as long")
+                  f"{last / 1000:.2f} ms at height {HEIGHTS[1]:,}, {last / first:.2f} times as long")
+            if last > RATIO * first:
+                dear.append(between)
+        if dear:
+            sys.exit(f"too dear at the later height, with blocks between of: {', '.join(dear)}")
 
 
 if __name__ == "__main__":

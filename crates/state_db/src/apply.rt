@@ -66,10 +66,12 @@ fn make_all(pages: &mut Vec<Page>, spare: &mut Vec<Page>, edits: Vec<Edit>)
     ensures rows { joined pages.new.items ≡ edited (joined pages.old.items) edits.items }
 {
     for edit in edits {
+        let head = edit.head();
         match edit.into_change() {
-            Change::Put(row) => put(pages, spare, Slot::new(row)),
+            Change::Put(row) => put(pages, spare, Slot::with_head(head, row)),
             Change::Remove(namespace, key) => {
-                remove(pages, &Wanted::new(&namespace.lend(), key.as_slice()))
+                let wanted = Wanted::with_head(head, &namespace.lend(), key.as_slice());
+                remove(pages, &wanted);
             }
         }
     }

@@ -138,7 +138,15 @@ impl Batch {
         self.set(change)
     }
 
-    /// Its edits in the order of their keys, each with one more owner of its row.
+    /// Its edits in the order of their keys.
+    pub(crate) fn into_edits(self) -> Vec<Edit>
+        ensures edits { result.items ≡ entries self }
+        ensures sorted { IsSorted result.items }
+    {
+        self.edits
+    }
+
+    /// The same, each with one more owner of its row.
     pub(crate) fn share(&self) -> Result<Vec<Edit>, AllocError>
         ensures edits { IfOk result (λ edits. edits.items ≡ entries self.now) }
         ensures sorted { IfOk result (λ edits. IsSorted edits.items) }

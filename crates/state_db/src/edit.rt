@@ -1,9 +1,12 @@
-ghost use Rattle.std.specs.Prelude.{◌≡◌, IfOk};
+ghost use Rattle.std.specs.Prelude.{◌≡◌, IsTrue, IfOk};
+ghost use Rattle.values.specs.Name.{is_name};
 ghost use Rattle.rules.specs.State.{key_cmp};
 ghost use Rattle.rules.specs.Delta.{change_of};
+ghost use Rattle.state_db.specs.Head.{head_of};
 ghost use Rattle.state_db.specs.Need.{added};
 ghost use Rattle.state_db.specs.Search.{is_below};
 
+use crate::head::{Head, head_of};
 use crate::search::Ordered;
 use crate::wanted::Wanted;
 use rules::Change;
@@ -11,9 +14,11 @@ use std::alloc::{AllocError, Global};
 use std::cmp::Ordering;
 use std::marker::Model;
 
-/// What becomes of a key in a batch. A contract sees the key with its row, or none where it is removed.
+/// What becomes of a key in a batch, beside it the head of the key. A contract sees the key with its row, or none where
+/// it is removed.
 #[derive(Drop)]
 pub(crate) struct Edit {
+    head: Head,
     change: Change,
 }
 
@@ -27,15 +32,30 @@ impl Model for Edit {
     ghost coded = { change_code };
 
     ghost use Rattle.rules.specs.Delta.{change_of};
+    ghost use Rattle.std.specs.Prelude.{◌≡◌, IsTrue};
+    ghost use Rattle.values.specs.Name.{is_name};
+    ghost use Rattle.state_db.specs.Head.{head_of};
 
     ghost view = { λ e. change_of e.change };
+
+    ghost invariant = { λ e. (e.head ≡ head_of (change_of e.change).0) × IsTrue (is_name (change_of e.change).0.0) };
 }
 
 impl Edit {
     pub fn new(change: Change) -> Edit
         ensures { result ≡ change_of change }
     {
-        Edit { change }
+        let namespace = change.namespace();
+        let key = change.key();
+        let head = head_of(namespace.as_slice(), key.as_slice());
+        Edit { head, change }
+    }
+
+    pub fn head(&self) -> Head
+        ensures head { result ≡ head_of self.now.0 }
+        ensures named { IsTrue (is_name self.now.0.0) }
+    {
+        self.head
     }
 
     pub fn into_change(self) -> Change
@@ -59,6 +79,7 @@ impl Edit {
         ensures { IfOk result (λ shared. shared ≡ self.now) }
     {
         Ok(Edit {
+            head: self.head,
             change: self.change.share(alloc)?,
         })
     }
@@ -67,7 +88,7 @@ impl Edit {
         ensures { result ≡ self.now.0 }
     {
         let key = self.change.key();
-        Wanted::new(&self.change.namespace(), key.as_slice())
+        Wanted::with_head(self.head, &self.change.namespace(), key.as_slice())
     }
 
     /// How its key stands to another.

@@ -1,10 +1,11 @@
-ghost use Rattle.std.specs.Prelude.{◌≡◌};
+ghost use Rattle.std.specs.Prelude.{◌≡◌, IsTrue};
 ghost use Rattle.std.specs.Option.{option_copied};
+ghost use Rattle.values.specs.Name.{is_name};
 ghost use Rattle.rules.specs.State.{key_cmp};
 ghost use Rattle.state_db.specs.Head.{head_of};
 ghost use Rattle.state_db.specs.Search.{is_below, if_it};
 
-use crate::head::{Head, head_of};
+use crate::head::Head;
 use crate::search::Ordered;
 use crate::wanted::Wanted;
 use rules::{KeyedRow, Row};
@@ -39,12 +40,12 @@ impl Model for Slot {
 }
 
 impl Slot {
-    pub fn new(row: Shared<KeyedRow>) -> Slot
+    /// A row, where the head of its key is known.
+    pub fn with_head(head: Head, row: Shared<KeyedRow>) -> Slot
+        requires head { head ≡ head_of row.0 }
+        requires named { IsTrue (is_name row.0.0) }
         ensures { result ≡ row }
     {
-        let namespace = row.get().namespace();
-        let key = row.get().key();
-        let head = head_of(namespace.as_slice(), key.as_slice());
         Slot { head, row }
     }
 
@@ -65,7 +66,7 @@ impl Slot {
     {
         let row = self.row.get();
         let key = row.key();
-        Wanted::new(&row.namespace(), key.as_slice())
+        Wanted::with_head(self.head, &row.namespace(), key.as_slice())
     }
 
     /// How its key, which has this head, stands to another. Looks at the row only where the heads don't tell.

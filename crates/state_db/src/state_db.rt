@@ -2,11 +2,14 @@ ghost use Rattle.std.specs.Prelude.{◌≡◌, ◌≤◌, [], sum, length, IfSom
 ghost use Rattle.std.specs.Option.{option_copied};
 ghost use Rattle.std.specs.FinMap.{get, empty, entries};
 ghost use Rattle.rules.specs.Ranges.{is_within, rows_where};
+ghost use Rattle.rules.specs.State.{with_changes};
 ghost use Rattle.state_db.specs.Batch.{changed};
+ghost use Rattle.state_db.specs.Search.{IsSorted};
 
 use crate::apply::{edit_pages, first_pages};
 use crate::batch::Batch;
 use crate::directory::row_of;
+use crate::edit::Edit;
 use crate::page::Page;
 use crate::rows::{Rows, rows_from};
 use crate::wanted::Wanted;
@@ -84,7 +87,23 @@ impl StateDb {
         ensures ok { OnOk result (self.new.state ≡ changed self.old.state batch.now) }
         ensures err { OnErr result (self.new ≡ self.old) }
     {
-        let edits = batch.share()?;
+        self.make(batch.share()?)
+    }
+
+    /// The same with a batch that is given away, whose rows need no further owner: memory is taken for pages alone.
+    pub fn apply_owned(&mut self, batch: Batch) -> Result<(), AllocError>
+        ensures ok { OnOk result (self.new.state ≡ changed self.old.state batch) }
+        ensures err { OnErr result (self.new ≡ self.old) }
+    {
+        self.make(batch.into_edits())
+    }
+
+    /// Makes edits in the order of their keys, or none.
+    fn make(&mut self, edits: Vec<Edit>) -> Result<(), AllocError>
+        requires { IsSorted edits.items }
+        ensures ok { OnOk result (self.new.state ≡ with_changes self.old.state edits.items) }
+        ensures err { OnErr result (self.new ≡ self.old) }
+    {
         if self.pages.is_empty() {
             self.pages = first_pages(self.alloc, edits)?;
             return Ok(());

@@ -36,10 +36,18 @@ impl<'a> Wanted<'a> {
     pub fn new(namespace: &NameRef<'a>, key: &'a [u8]) -> Wanted<'a>
         ensures { result ≡ (namespace.now, key.now) }
     {
-        let namespace = namespace.as_slice();
+        let head = head_of(namespace.as_slice(), key);
+        Wanted::with_head(head, namespace, key)
+    }
+
+    /// The same, where the head is known.
+    pub fn with_head(head: Head, namespace: &NameRef<'a>, key: &'a [u8]) -> Wanted<'a>
+        requires { head ≡ head_of (namespace.now, key.now) }
+        ensures { result ≡ (namespace.now, key.now) }
+    {
         Wanted {
-            head: head_of(namespace, key),
-            namespace,
+            head,
+            namespace: namespace.as_slice(),
             key,
         }
     }

@@ -136,7 +136,7 @@ impl World {
         self.history.reserve(entries.len())?;
         self.ids.reserve(delta.uses.len())?;
         self.blocks.reserve(1)?;
-        self.state.apply(&batch)?;
+        self.state.apply_owned(batch)?;
         // from here on nothing does
         add_entries(&mut self.history, entries);
         add_uses(&mut self.ids, delta.uses.as_slice());

@@ -8,18 +8,18 @@ use Rattle.state_db.specs.Edits.{edited}
 use Rattle.state_db.proofs.PageOrder.{no_pages, opened}
 use Rattle.state_db.proofs.Opened.{some_rows}
 use Rattle.state_db.proofs.Maps.{edited_is, on_ok}
-use Rattle.state_db.proofs.state_db.StateDb.apply.Goals as goal
+use Rattle.state_db.proofs.state_db.StateDb.make.Goals as goal
 
 pub returns-then-is_empty-clause-ok : goal.returns-then-is_empty-clause-ok
 returns-then-is_empty-clause-ok c =
     let ps = c.self.inside.pages.items in
-    let cs = c.in_ok-edits.edits.items in
+    let cs = c.args.edits.items in
     let len : vec_len c.self.inside.pages ≡ 0 = (unsigned_Decides (vec_len c.self.inside.pages) 0).0 (sym c.is_empty.ensures ∙ c.if-is_empty.true) in
     let none : length ps ≡ 0 = omega (arith, len) in
     ap (from_sorted {R = key_cmp}) c.in_ok-self-inside.ensures.rows
     ∙ ap (λ (es : RowList). from_sorted {R = key_cmp} (edited es cs)) (sym (no_pages ps none))
     ∙ edited_is (joined ps) cs c.self.invariant.0
-    ∙ (λ i. with_changes (c.self.view_is i).state (c.in_ok-edits.ensures.edits i))
+    ∙ (λ i. with_changes (c.self.view_is i).state cs)
 
 pub edit_pages-requires-clause-open : goal.edit_pages-requires-clause-open
 edit_pages-requires-clause-open c =
@@ -29,10 +29,10 @@ edit_pages-requires-clause-open c =
 pub returns-clause-ok : goal.returns-clause-ok
 returns-clause-ok c =
     let ps = c.self.inside.pages.items in
-    let cs = c.in_ok-edits.edits.items in
+    let cs = c.args.edits.items in
     on_ok c.edit_pages.result
     (λ rows.
     ap (from_sorted {R = key_cmp}) rows
     ∙ edited_is (joined ps) cs c.self.invariant.0
-    ∙ (λ i. with_changes (c.self.view_is i).state (c.in_ok-edits.ensures.edits i)))
+    ∙ (λ i. with_changes (c.self.view_is i).state cs))
     c.edit_pages.ensures.rows
