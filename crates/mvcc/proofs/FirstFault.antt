@@ -1,9 +1,8 @@
 -- The first fault of a candidate's namespaces.
-use Rattle.std.proofs.Common.{◌≡◌, ℕ, ◌<◌, List, ◌∷◌, map, Bool, true, Option, Some, None, refl, ap, subst, ◌∙◌}
-use Rattle.std.specs.Prelude.{IsSome, if◌then◌else◌}
+use Rattle.std.proofs.Common.{◌≡◌, ℕ, List, ◌∷◌, map, Bool, true, None, ap, subst, ◌∙◌}
+use Rattle.std.specs.Prelude.{if◌then◌else◌}
 use Rattle.std.specs.List.{list_all}
 use Rattle.transaction.specs.declared.transaction.NsSet.{NsSet}
-use Rattle.rules.specs.declared.flag.Flag.{Flag}
 use Rattle.rules.specs.declared.read_verdict.ReadVerdict.{ReadVerdict}
 use Rattle.rules.specs.declared.read_verdict.ReadVerdict.TheVariants.{Good, Stale, Phantom}
 use Rattle.rules.specs.Candidate.{Candidate}
@@ -52,17 +51,6 @@ module _ (j : Job) (known : Known) (i : ℕ) (o : OpenTx) (d : Decision ReadVerd
 
   pub decided_reads : (sets : List NsSet) → sets ≡ o.tx.namespaces → IsDecided sets → MatchDecision d (λ v. Sure (reads_under j) (valid_in known) i v) (λ h. ReadsDepend j i h × (known.flag h ≡ None))
   decided_reads sets all decided = by_sets d (subst IsDecided all decided)
-
--- where all earlier flags are known, none is waited for
-pub none_waited_for : (i : ℕ) (old new : Known) (d : Decision ReadVerdict) (looks : ℕ → Type 0) (P : ReadVerdict → Type 0) → Grows old new
-    → MatchDecision d P (λ h. ((h < i) × looks h) × (new.flag h ≡ None))
-    → ((h : ℕ) → h < i → IsSome (old.flag h)) → MatchDecision d (λ _. Unit {0}) (λ _. ⊥)
-none_waited_for i old new (decision.Sure v) looks P grows decided known = tt
-none_waited_for i old new (decision.Blocked h) looks P grows decided known = by (old.flag h) refl (known h decided.0.0)
-  where
-    by : (o : Option Flag) → old.flag h ≡ o → IsSome o → ⊥
-    by None is some = absurd cc
-    by (Some f) is some = let there = grows.flag h f is in let none = decided.1 in absurd cc
 
 -- ---- one namespace
 

@@ -10,5 +10,5 @@ pub mod Results
 pub mod RangeLaw
 pub mod RangeCovers
 pub mod RowsStop
-pub mod Ordering
+pub mod LastResult
 pub mod FirstFault

@@ -1,5 +1,5 @@
 //! The version of a key before a candidate.
-ghost use Rattle.std.specs.Prelude.{◌≡◌, ◌≤◌, None, length};
+ghost use Rattle.std.specs.Prelude.{◌≡◌, ◌<◌, ◌≤◌, ℕ, None, IsSome, length};
 ghost use Rattle.rules.specs.State.{version_in};
 ghost use Rattle.rules.specs.Sure.{Sure};
 ghost use Rattle.rules.specs.Assignment.{version_under};
@@ -49,9 +49,9 @@ pub(crate) fn version_over<B: Board>(
 /// The version that a key has once the valid candidates before i are applied in order, or none where it is absent then.
 ///
 /// `Sure` where that is the same whatever the unknown flags before i will be. `Blocked(h)` where it isn't known yet: h is
-/// before i, writes the key, and its flag is unknown. The search for the key's operations and, where they leave it open,
-/// for its row before the block is logarithmic; beside that the cost is linear in the operations down to the newest
-/// that counts and writes or deletes the value.
+/// before i, writes the key, and its flag is unknown. Where all before i are known at the call, the answer is `Sure`. The
+/// search for the key's operations and, where they leave it open, for its row before the block is logarithmic; beside
+/// that the cost is linear in the operations down to the newest that counts and writes or deletes the value.
 pub fn version_at<B: Board>(
     job: &Job<'_>,
     i: u32,
@@ -65,6 +65,7 @@ pub fn version_at<B: Board>(
     ensures decision { MatchDecision result
         (λ v. Sure (version_under job.now key.now) (valid_in (B.known board.new)) i v)
         (λ h. VersionDepends job.now key.now i h × ((B.known board.new).flag h ≡ None)) }
+    ensures decided { ((h : ℕ) → h < i → IsSome ((B.known board.old).flag h)) → MatchDecision result (λ _. Unit {0}) (λ _. ⊥) }
 {
     version_over(job, i, key, job.operations_before(i, key), board)
 }

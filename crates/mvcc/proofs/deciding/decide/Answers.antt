@@ -1,7 +1,8 @@
 use Rattle.rules.specs.Assignment.{reads_under}
 use Rattle.rules.specs.Sure.{Sure}
 use Rattle.key_chains.specs.Known.{valid_in}
-use Rattle.mvcc.proofs.FirstFault.{decided_reads, none_waited_for}
+use Rattle.mvcc.proofs.Agreeing.{none_waited_for}
+use Rattle.mvcc.proofs.FirstFault.{decided_reads}
 use Rattle.mvcc.proofs.deciding.decide.Goals as goal
 
 pub returns-in-Some-clause-decision : goal.returns-in-Some-clause-decision
