@@ -63,8 +63,8 @@ fn have_lists_in_form(alloc: Global, set: &NsSet<'_>) -> Result<bool, AllocError
     )
 }
 
-/// Whether no namespace repeats, nor a key in one of its lists, and the results of ranges rise within them. What time
-/// and memory it takes is that of [`are_distinct`] for each list, and linear for results.
+/// Whether no namespace repeats, nor a key in one of its lists, and the results of ranges rise within them. It takes what
+/// [`are_distinct`] takes for each list, and one pass over results.
 pub(crate) fn are_lists_in_form(alloc: Global, tx: &Tx<'_>) -> Result<bool, AllocError>
     ensures { IfOk result (λ fine. fine ≡ are_lists_in_form tx.now) }
 {

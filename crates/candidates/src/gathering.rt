@@ -136,8 +136,8 @@ fn gathered<'a>(alloc: Global, tx: &Tx<'a>) -> Result<Option<Vec<WrittenKey<'a>>
 
 /// What it writes, where its read and write sets are in form.
 ///
-/// Each policy is read once. Linear where the transaction has its keys in order, as peers write them, else n log n
-/// comparisons. The memory is that of the result, but that a key of both lists is there twice at first.
+/// Each policy is read once. The keys are sorted: n log n comparisons, n where they are in order already. The memory is
+/// that of the result, but that a key with value and policy is there twice at first.
 pub(crate) fn written_in_form<'a>(
     alloc: Global,
     tx: &Tx<'a>,

@@ -33,9 +33,9 @@ impl<'a> Model for InForm<'a> {
 impl<'a> InForm<'a> {
     /// The transaction, where its sets are in form and its chaincodes defined, else the flag that it gets.
     ///
-    /// Each policy that it writes is read once. Linear in the transaction where its lists are in the order of their
-    /// keys, as peers write them, but for a look-up for each namespace; else n log n comparisons for each list. Memory
-    /// for the keys that it writes and for their policies.
+    /// Each policy that it writes is read once. Each list takes n log n comparisons of keys, n where it is in their order,
+    /// and each namespace with writes a look-up. Memory for the keys that it writes and for their policies, and in passing
+    /// for a reference to each item of a long list out of order.
     pub fn check(
         alloc: Global,
         tx: Tx<'a>,

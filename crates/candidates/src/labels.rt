@@ -134,8 +134,8 @@ fn are_distinct_in_order(mut labels: Vec<&[u8]>) -> bool
     are_rising(labels.as_slice())
 }
 
-/// Whether no two labels are the same. Linear and without memory where they rise, as peers write them, and without
-/// memory where they are few; else n log n, and a list of what the labels refer to.
+/// Whether no two labels are the same. Where they rise one pass tells it, where they are few each is compared with the
+/// others; else n log n comparisons, and memory for a reference to each.
 pub(crate) fn are_distinct<T: Labelled>(alloc: Global, items: &[T]) -> Result<bool, AllocError>
     ensures { IfOk result (λ distinct. distinct ≡ are_distinct (map T.label items.now)) }
 {

@@ -78,8 +78,9 @@ fn take_one<'a, V: Verify>(
 
 /// Takes in the transactions of a block, or of any piece of one, in order.
 ///
-/// In each the cheapest test comes first: its grammar, its channel, its creator's signature, its id, its read and write
-/// sets with the chaincodes that it names, and the signatures of its endorsers, up to the first that fails.
+/// In each one test comes after the other up to the first that fails: its grammar, its channel, its creator's signature,
+/// its id, its read and write sets, the chaincodes that it names. Its endorsers' signatures come last, where all these
+/// hold. Fields are lent from the bytes; memory for lists of them, for the keys that are written, and for signers.
 pub fn take_in<'a, V: Verify>(
     alloc: Global,
     channel: &Channel,
