@@ -10,3 +10,4 @@ pub mod Numbers
 pub mod Building
 pub mod Built
 pub mod Older
+pub mod Cells

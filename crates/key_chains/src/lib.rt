@@ -8,6 +8,7 @@ mod job;
 mod links;
 mod numbering;
 mod operation;
+mod plain_board;
 
 pub use board::Board;
 pub use candidates::{Candidate, OpenTx, StateKey, WrittenKey};
@@ -15,3 +16,4 @@ pub use decision::Decision;
 pub use job::Job;
 pub use links::{Chain, Operations, PolicyWriters};
 pub use operation::{Kind, Operation};
+pub use plain_board::{Cells, PlainBoard};
