@@ -1,5 +1,6 @@
 -- What the calls of a job speak of.
 use Rattle.std.specs.Prelude.{◌≡◌, ℕ, List, [], map, flat_map}
+use Rattle.transaction.specs.declared.identity.Identity.{Identity}
 use Rattle.transaction.specs.declared.transaction.Tx.{Tx}
 use Rattle.rules.specs.declared.flag.Flag.{Flag}
 use Rattle.rules.specs.State.{StateKey}
@@ -11,6 +12,9 @@ use Rattle.candidates.specs.Written.{keys_in_order}
 -- candidate i is this open transaction
 abbrev pub IsOpened : Job → ℕ → OpenTx → Type 0
 IsOpened j i o = candidate_at j i ≡ opened o.tx o.signers
+
+abbrev pub IsOpen : Job → ℕ → Type 0
+IsOpen j i = (tx : Tx) × (signers : List Identity) × (candidate_at j i ≡ opened tx signers)
 
 abbrev pub IsFlagged : Job → ℕ → Type 0
 IsFlagged j i = (flag : Flag) × (candidate_at j i ≡ flagged flag)

@@ -5,7 +5,8 @@ ghost use Rattle.block.specs.Limits.{max_txs};
 ghost use Rattle.rules.specs.State.{StateKey, is_among};
 ghost use Rattle.rules.specs.Ranges.{is_within, rows_where};
 ghost use Rattle.rules.specs.Job.{candidate_at};
-ghost use Rattle.key_chains.specs.Job.{IsOpened, IsFlagged, read_by, written_by};
+ghost use Rattle.key_chains.specs.Job.{IsOpened, IsOpen, IsFlagged, read_by, written_by};
+ghost use Rattle.rules.specs.Candidate.{flagged};
 ghost use Rattle.candidates.specs.Seen.{seen};
 ghost use Rattle.key_chains.specs.Operations.{operations};
 ghost use Rattle.key_chains.specs.PolicyWriters.{policy_writers};
@@ -14,7 +15,7 @@ use crate::chains::{Chains, newest_on};
 use crate::links::{Operations, PolicyWriters};
 use candidates::{Candidate, OpenTx, StateKey};
 use policy::{Definitions, Policy};
-use rules::Row;
+use rules::{Flag, Row};
 use state_db::{Rows, StateDb};
 use std::alloc::{AllocError, Global};
 use std::marker::Model;
@@ -105,6 +106,17 @@ impl<'a> Job<'a> {
         match &self.candidates[i as usize] {
             Candidate::Flagged(_) => None,
             Candidate::Opened(open_tx) => Some(open_tx),
+        }
+    }
+
+    /// The flag of a candidate that is flagged.
+    pub fn flagged(&self, i: u32) -> Option<Flag>
+        requires { i < length self.now.candidates }
+        ensures { MatchOption result (IsOpen self.now i) (λ flag. candidate_at self.now i ≡ flagged flag) }
+    {
+        match &self.candidates[i as usize] {
+            Candidate::Flagged(flag) => Some(*flag),
+            Candidate::Opened(_) => None,
         }
     }
 

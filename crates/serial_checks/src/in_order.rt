@@ -1,0 +1,87 @@
+ghost use Rattle.std.specs.Prelude.{◌≡◌, ◌<◌, suc, length, IfOk};
+ghost use Rattle.rules.specs.Job as rule;
+ghost use Rattle.rules.specs.Fold as fold;
+ghost use Rattle.key_chains.specs.Cells.{known_of};
+ghost use Rattle.serial_checks.specs.Shown.{ShowsBefore};
+
+use key_chains::{Cells, Decision, Job, PlainBoard};
+use rules::{Flag, ReadVerdict};
+use std::alloc::{AllocError, Global};
+
+fn read_flag(verdict: ReadVerdict) -> Flag
+    ensures { result ≡ rule.read_flag verdict }
+{
+    match verdict {
+        ReadVerdict::Good => Flag::Valid,
+        ReadVerdict::Stale => Flag::MvccReadConflict,
+        ReadVerdict::Phantom => Flag::PhantomReadConflict,
+    }
+}
+
+/// Whether candidate i passes the endorsement rule.
+fn endorsed(job: &Job<'_>, i: u32, board: &mut PlainBoard) -> bool
+    requires place { i < length job.now.candidates }
+    requires board { length board.old ≡ length job.now.candidates }
+    requires shown { ShowsBefore job.now i (known_of board.old) }
+    ensures value { result ≡ fold.endorsed job.now i }
+    ensures board { board.new ≡ board.old }
+{
+    let Decision::Sure(endorsed) = endorsement_check::decide(job, i, board) else {
+        unreachable!()
+    };
+    endorsed
+}
+
+/// What the reads of candidate i find.
+fn read_verdict(job: &Job<'_>, i: u32, board: &mut PlainBoard) -> ReadVerdict
+    requires place { i < length job.now.candidates }
+    requires board { length board.old ≡ length job.now.candidates }
+    requires shown { ShowsBefore job.now i (known_of board.old) }
+    ensures value { result ≡ rule.reads job.now i (fold.running job.now i).state }
+    ensures board { board.new ≡ board.old }
+{
+    let Decision::Sure(verdict) = mvcc::decide(job, i, board) else {
+        unreachable!()
+    };
+    verdict
+}
+
+/// The verdicts of candidate i. A flagged one keeps its flag, and one that isn't endorsed has its reads unread.
+fn cells(job: &Job<'_>, i: u32, board: &mut PlainBoard) -> (bool, Flag)
+    requires place { i < length job.now.candidates }
+    requires board { length board.old ≡ length job.now.candidates }
+    requires shown { ShowsBefore job.now i (known_of board.old) }
+    ensures endorsed { result.0 ≡ fold.endorsed job.now i }
+    ensures flag { result.1 ≡ fold.flag job.now i }
+    ensures board { board.new ≡ board.old }
+{
+    let endorsed = endorsed(job, i, board);
+    if let Some(flag) = job.flagged(i) {
+        return (endorsed, flag);
+    }
+    if !endorsed {
+        return (endorsed, Flag::EndorsementPolicyFailure);
+    }
+    (endorsed, read_flag(read_verdict(job, i, board)))
+}
+
+/// The flags of a job's candidates, taken one by one in order. Costs what the two checks of each cost.
+pub fn flags(alloc: Global, job: &Job<'_>) -> Result<Vec<Flag>, AllocError>
+    ensures { IfOk result (λ flags. flags.items ≡ fold.flags job.now) }
+{
+    let count = job.len();
+    let mut board = PlainBoard::new(alloc, count as usize)?;
+    let mut flags = Vec::with_capacity(alloc, count as usize)?;
+    for i in 0..count {
+        let (endorsed, flag) = cells(job, i, &mut board);
+        board.set(
+            i,
+            Cells {
+                endorsed: Some(endorsed),
+                flag: Some(flag),
+            },
+        );
+        flags.push(flag)?;
+    }
+    Ok(flags)
+}
