@@ -1,10 +1,10 @@
 -- One key more that a candidate writes.
-use Rattle.std.proofs.Common.{◌≡◌, ◌≢◌, ◌⊎◌, inl, inr, ℕ, zero, suc, ◌+◌, ◌<◌, Bool, true, false, cond, ◌||◌, List, [], ◌∷◌, ◌++◌, length, get_or, map, take, All, Option, Some, None, refl, sym, ap, subst, ◌∙◌, arith}
-use Rattle.std.specs.Prelude.{option_map, slice_get, slice_index_or, if◌then◌else◌, option_to_list, is_some}
+use Rattle.std.proofs.Common.{◌≡◌, ◌≢◌, ℕ, zero, suc, Bool, true, false, cond, ◌||◌, List, [], ◌∷◌, ◌++◌, get_or, map, take, All, Option, Some, None, refl, sym, ap, subst, ◌∙◌, arith}
+use Rattle.std.specs.Prelude.{option_map, slice_get, option_to_list}
 use Rattle.std.specs.declared.cmp.Ordering.TheVariants.{Less}
-use Rattle.std.specs.List.{AllByRecursion, list_any}
+use Rattle.std.specs.List.{AllByRecursion}
 use Rattle.std.specs.List.Sorted.{IsStrictlySortedBy}
-use Rattle.std.proofs.lemmas.List.{append-nil, append_assoc, map-append}
+use Rattle.std.proofs.lemmas.List.{map-append}
 use Rattle.std.proofs.lemmas.List.Folds.{list_any-append}
 use Rattle.std.proofs.lemmas.List.Elements.{All-append}
 use Rattle.rules.specs.State.{StateKey, key_cmp, is_same_key, is_among}
@@ -12,7 +12,6 @@ use Rattle.rules.specs.Candidate.{Candidate}
 use Rattle.rules.specs.Job.{touched_by}
 use Rattle.rules.proofs.Booleans.{or-true, or-false}
 use Rattle.rules.proofs.Keys.{same_key_is, same_as_itself}
-use Rattle.key_chains.specs.declared.operation.Operation.{Operation}
 use Rattle.key_chains.specs.declared.operation.Kind.{Kind}
 use Rattle.key_chains.specs.Linked.{KeyedLists, chain_in, list_of, IsLink, LinksStay}
 use Rattle.key_chains.specs.Numbers.{number_in}

@@ -1,17 +1,16 @@
 -- The chains of a block before its first candidate.
-use Rattle.std.proofs.Common.{◌≡◌, ◌≢◌, ℕ, zero, suc, ◌<◌, Bool, cond, List, [], ◌∷◌, ◌++◌, length, get_or, map, take, All, Option, Some, None, Vec, Global, refl, sym, ap, subst, ◌∙◌, arith}
+use Rattle.std.proofs.Common.{◌≡◌, ℕ, zero, suc, List, [], ◌++◌, length, get_or, map, Option, Some, None, refl, sym, ap, subst, ◌∙◌, arith}
 use Rattle.std.specs.Prelude.{replicate}
 use Rattle.std.proofs.lemmas.List.{length-replicate}
 use Rattle.rules.specs.State.{StateKey}
 use Rattle.rules.specs.Candidate.{Candidate}
 use Rattle.key_chains.specs.declared.operation.Operation.{Operation}
 use Rattle.key_chains.specs.declared.chains.Chains.{Chains}
-use Rattle.key_chains.specs.declared.chains.Written.{Written}
-use Rattle.key_chains.specs.Linked.{KeyedLists, chain_in, list_of}
+use Rattle.key_chains.specs.Linked.{KeyedLists, chain_in}
 use Rattle.key_chains.specs.Numbers.{number_in}
 use Rattle.key_chains.specs.Operations.{operations}
 use Rattle.key_chains.specs.PolicyWriters.{policy_writers}
-use Rattle.key_chains.specs.Building.{block_keys, list_numbered, list_at, Lead, gathered, starts, lists_read, lists_touched, keys_written}
+use Rattle.key_chains.specs.Building.{block_keys, list_numbered, Lead, gathered, starts, lists_read, lists_touched, keys_written}
 use Rattle.key_chains.specs.Built.{IsBuilt}
 
 no_link : (n m : ℕ) → get_or (replicate {A = Option ℕ} n None) m None ≡ None

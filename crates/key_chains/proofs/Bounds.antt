@@ -1,5 +1,5 @@
 -- Which keys in their order stand before a bound.
-use Rattle.std.proofs.Common.{◌≡◌, ◌⊎◌, inl, inr, ℕ, zero, suc, ◌+◌, ◌-◌, ◌<◌, ◌≤◌, ◌==◌, leb, Bool, true, false, ◌&&◌, ◌||◌, List, [], ◌∷◌, length, get_or, take, drop, refl, sym, ap, subst, ◌∙◌, arith}
+use Rattle.std.proofs.Common.{◌≡◌, ◌⊎◌, inl, inr, ℕ, zero, suc, ◌-◌, ◌<◌, ◌≤◌, ◌==◌, leb, Bool, true, false, ◌||◌, List, [], ◌∷◌, length, get_or, take, drop, refl, sym, ap, ◌∙◌, arith}
 use Rattle.std.specs.Prelude.{IsTrue}
 use Rattle.std.specs.declared.cmp.Ordering.{Ordering}
 use Rattle.std.specs.declared.cmp.Ordering.TheVariants.{Less, Equal, Greater}
@@ -129,6 +129,6 @@ among_between ks k namespace start end low high point same within among parts le
     let bounds = both_true (is_le (bytes_cmp start k.1)) (is_below k.1 end) within in
     let is : get_or ks at.0 k ≡ k = at.2 in
     let lower : point ≤ at.0 = behind_point (λ x. is_lt (key_cmp x (namespace, start))) ks point at.0 k parts (
-        ap (λ (x : StateKey). is_lt (key_cmp x (namespace, start))) is ∙ not_before_start k namespace start same bounds.0) in
+    ap (λ (x : StateKey). is_lt (key_cmp x (namespace, start))) is ∙ not_before_start k namespace start same bounds.0) in
     let upper : at.0 < high = below at.0 k at.1 (ap (λ (x : StateKey). x.0) is ∙ same) (ap (λ (x : StateKey). is_below x.1 end) is ∙ bounds.1) in
     ap (λ (x : StateKey). is_among x (take (high - low) (drop low ks))) (sym is) ∙ among_part ks at.0 low high k (omega (arith, lower, least)) upper at.1

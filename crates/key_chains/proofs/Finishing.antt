@@ -1,7 +1,7 @@
 -- From one candidate to the next.
-use Rattle.std.proofs.Common.{◌≡◌, ◌⊎◌, ℕ, zero, suc, ◌+◌, ◌<◌, Bool, true, false, cond, ◌||◌, List, [], ◌∷◌, ◌++◌, length, get_or, map, take, All, Option, Some, None, Vec, Global, refl, sym, ap, subst, ◌∙◌, arith}
-use Rattle.std.specs.Prelude.{flat_map, option_map, option_to_list, is_some, IsSome, IsTrue}
-use Rattle.std.proofs.lemmas.List.{append-nil, append_assoc, map-append, length-map}
+use Rattle.std.proofs.Common.{◌≡◌, ℕ, suc, Bool, true, false, cond, ◌||◌, List, [], ◌∷◌, ◌++◌, length, map, take, All, Option, Some, None, Vec, Global, refl, sym, ap, subst, ◌∙◌}
+use Rattle.std.specs.Prelude.{flat_map, option_map, option_to_list}
+use Rattle.std.proofs.lemmas.List.{append-nil, map-append, length-map}
 use Rattle.std.proofs.lemmas.List.Folds.{list_any-append}
 use Rattle.std.proofs.lemmas.List.Concat.{flat_map-cons}
 use Rattle.transaction.specs.declared.identity.Identity.{Identity}
@@ -11,10 +11,9 @@ use Rattle.transaction.specs.declared.transaction.Tx.{Tx}
 use Rattle.rules.specs.State.{StateKey, is_same_key, is_among}
 use Rattle.rules.specs.Candidate.{Candidate, flagged, opened}
 use Rattle.rules.specs.Job.{touched_by, operated_by}
-use Rattle.rules.specs.Effect.{value_keys_in, policy_keys_in, write_of, policy_write_of}
+use Rattle.rules.specs.Effect.{value_keys_in, policy_keys_in}
 use Rattle.rules.proofs.Booleans.{neither}
 use Rattle.rules.proofs.Effects.{write_of-unwritten, policy_write_of-unwritten}
-use Rattle.candidates.specs.Written.{keys_in_order}
 use Rattle.candidates.proofs.KeysInOrder.{keys_stay}
 use Rattle.key_chains.specs.declared.operation.Operation.{Operation}
 use Rattle.key_chains.specs.declared.operation.Kind.{Kind}
@@ -24,7 +23,7 @@ use Rattle.key_chains.specs.Linked.{KeyedLists, chain_in, IsLink}
 use Rattle.key_chains.specs.Numbers.{number_in}
 use Rattle.key_chains.specs.Operations.{candidate_in, kind_by, kind_from, operations}
 use Rattle.key_chains.specs.PolicyWriters.{policy_writers}
-use Rattle.key_chains.specs.Job.{read_keys, read_by, written_by}
+use Rattle.key_chains.specs.Job.{read_by}
 use Rattle.key_chains.specs.Building.{list_at, so_far, Lead, gathered, starts, lists_read, lists_touched, keys_written}
 use Rattle.key_chains.specs.Built.{IsBuilt}
 

@@ -1,7 +1,7 @@
 -- A flagged candidate reads and writes nothing.
-use Rattle.std.proofs.Common.{◌≡◌, List, [], refl, sym}
+use Rattle.std.proofs.Common.{◌≡◌, [], refl, sym}
 use Rattle.std.specs.List.Sorted.{IsStrictlySortedBy}
-use Rattle.rules.specs.State.{StateKey, key_cmp}
+use Rattle.rules.specs.State.{key_cmp}
 use Rattle.candidates.specs.Written.{keys_in_order}
 use Rattle.candidates.proofs.KeysInOrder.{only_keys}
 

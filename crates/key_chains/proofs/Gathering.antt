@@ -1,6 +1,6 @@
 -- What each of a list's items gives, one behind the other.
-use Rattle.std.proofs.Common.{◌≡◌, ℕ, zero, suc, ◌+◌, ◌<◌, ◌≤◌, List, [], ◌∷◌, ◌++◌, length, get_or, map, take, Option, Some, refl, sym, ap, ◌∙◌, arith, ◌⊎◌, inl, inr, leb, true, false}
-use Rattle.std.specs.Prelude.{flat_map, slice_get}
+use Rattle.std.proofs.Common.{◌≡◌, ℕ, ◌+◌, ◌<◌, List, [], ◌∷◌, ◌++◌, length, get_or, take, sym, ap, ◌∙◌}
+use Rattle.std.specs.Prelude.{flat_map}
 use Rattle.std.proofs.lemmas.List.{take_more, append-nil, append_assoc}
 use Rattle.std.proofs.lemmas.Grind.{flat_map-append}
 use Rattle.std.proofs.lemmas.List.Concat.{flat_map-cons}
@@ -14,5 +14,5 @@ pub one_more : {X Y : Type 0} (f : X → List Y) (start old new : List Y) (xs : 
 one_more f start old new xs i x lt is so_far step =
     step ∙ ap (λ ys. ys ++ f x) so_far ∙ append_assoc start (flat_map f (take i xs)) (f x)
     ∙ ap (λ ys. start ++ ys) (sym (
-        ap (flat_map f) (take_more xs i x lt) ∙ flat_map-append f (take i xs) (get_or xs i x ∷ [])
-        ∙ ap (λ ys. flat_map f (take i xs) ++ ys) (one_gives f (get_or xs i x) ∙ ap f (sym is))))
+    ap (flat_map f) (take_more xs i x lt) ∙ flat_map-append f (take i xs) (get_or xs i x ∷ [])
+    ∙ ap (λ ys. flat_map f (take i xs) ++ ys) (one_gives f (get_or xs i x) ∙ ap f (sym is))))

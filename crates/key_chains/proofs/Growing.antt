@@ -1,9 +1,9 @@
 -- The chains of a block, one key further.
-use Rattle.std.proofs.Common.{◌≡◌, ◌≢◌, ℕ, suc, ◌<◌, Bool, cond, List, [], ◌∷◌, ◌++◌, length, map, take, Option, Some, None, Vec, Global, refl, sym, ap, subst, ◌∙◌}
-use Rattle.std.specs.Prelude.{slice_get, slice_index_or, is_some, if◌then◌else◌}
+use Rattle.std.proofs.Common.{◌≡◌, ◌≢◌, ℕ, suc, cond, List, [], ◌∷◌, ◌++◌, length, map, take, Option, Some, None, Vec, Global, sym, ap, subst, ◌∙◌}
+use Rattle.std.specs.Prelude.{slice_index_or, is_some}
 use Rattle.std.specs.List.Sorted.{IsStrictlySortedBy}
 use Rattle.std.proofs.lemmas.List.{append_assoc, map-append}
-use Rattle.rules.specs.State.{StateKey, key_cmp, is_same_key, is_among}
+use Rattle.rules.specs.State.{StateKey, key_cmp}
 use Rattle.rules.specs.Candidate.{Candidate}
 use Rattle.candidates.specs.declared.written_key.WrittenKey.{WrittenKey}
 use Rattle.candidates.proofs.KeysInOrder.{keys_rise}
@@ -15,7 +15,7 @@ use Rattle.key_chains.specs.Linked.{KeyedLists, chain_in, list_of, IsLink, Links
 use Rattle.key_chains.specs.Numbers.{number_in}
 use Rattle.key_chains.specs.Operations.{candidate_in, kind_of, operations}
 use Rattle.key_chains.specs.PolicyWriters.{policy_writers}
-use Rattle.key_chains.specs.Building.{list_numbered, list_at, so_far, Lead, gathered, lists_read, lists_touched, keys_written}
+use Rattle.key_chains.specs.Building.{list_numbered, list_at, Lead, gathered, lists_read, lists_touched, keys_written}
 use Rattle.key_chains.specs.Built.{IsBuilt, IsNext}
 use Rattle.key_chains.proofs.Adding.{other_list, so_far_here, so_far_more, lead_more, lead_stays, operations_more, writers_more, take_one, map_one}
 
@@ -58,7 +58,7 @@ module _ (cs : List Candidate) (i p : ℕ) (w : WrittenKey) (old new : Chains) (
   writers_further is_link is_newest written =
       subst (λ (to : List (List ℕ)). Lead old.policy_writers.0 (map (λ x. x.policy_writers) new.written.items) to) (sym lists_further)
       (subst (λ (ls : List (Option ℕ)). Lead old.policy_writers.0 ls ((gathered (lists_touched cs) i ++ take p (lists_touched cs i)) ++ policy_writers cs w.key i ∷ [])) (sym (
-          ap (map (λ x. x.policy_writers)) written ∙ map-append (λ (x : Written). x.policy_writers) old.written.items _))
+      ap (map (λ x. x.policy_writers)) written ∙ map-append (λ (x : Written). x.policy_writers) old.written.items _))
       (lead_more old.policy_writers.0 _ _ link (policy_writers cs w.key i) built.writers is_link (link_leads is_newest)))
 
   pub one_further : IsListNow number (operation ∷ list_of old.operations number) old.operations new.operations

@@ -8,7 +8,7 @@ use Rattle.std.proofs.lemmas.List.Elements.{All-set}
 use Rattle.std.proofs.lemmas.List.{get_or-set_same, get_or-set_other}
 use Rattle.key_chains.specs.declared.links.Entry.{Entry}
 use Rattle.key_chains.specs.Linked.{chain_in, list_of, IsLink, KeyedLists, LinksStay}
-use Rattle.key_chains.specs.Lists.{lists_of, list_by, AreLinkedBack}
+use Rattle.key_chains.specs.Lists.{lists_of}
 use Rattle.key_chains.proofs.Chaining.{lists-push, length-lists}
 
 -- what one push makes of the lists

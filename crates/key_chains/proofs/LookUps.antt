@@ -1,12 +1,11 @@
 -- What the chains of a whole block answer.
-use Rattle.std.proofs.Common.{◌≡◌, ◌⊎◌, inl, inr, ℕ, zero, suc, ◌+◌, ◌-◌, ◌<◌, ◌≤◌, leb, true, false, List, [], ◌∷◌, ◌++◌, length, get_or, map, All, Option, Some, None, refl, sym, ap, subst, ◌∙◌, arith, length-append}
+use Rattle.std.proofs.Common.{◌≡◌, ◌⊎◌, inl, inr, ℕ, zero, suc, ◌+◌, ◌-◌, ◌<◌, ◌≤◌, leb, true, false, List, [], ◌∷◌, ◌++◌, length, get_or, map, Option, Some, None, refl, sym, ap, subst, ◌∙◌, arith, length-append}
 use Rattle.std.specs.Prelude.{slice_get}
 use Rattle.std.proofs.Math.ListN.{get_or-append, get_or-eq_default}
 use Rattle.std.proofs.Math.Seq.{get_or-append_seam}
 use Rattle.std.proofs.lemmas.Bool.Decides.{leb_tells}
 use Rattle.std.proofs.lemmas.List.{append-nil, length-map, get_or-append-add}
 use Rattle.rules.specs.declared.flag.Flag.TheVariants.{BadPayload}
-use Rattle.rules.specs.State.{StateKey}
 use Rattle.rules.specs.Candidate.{Candidate, flagged}
 use Rattle.key_chains.specs.declared.chains.Chains.{Chains}
 use Rattle.key_chains.specs.declared.chains.Written.{Written}
@@ -14,7 +13,7 @@ use Rattle.key_chains.specs.Linked.{chain_in, IsLink}
 use Rattle.key_chains.specs.Operations.{candidate_in, operations}
 use Rattle.key_chains.specs.PolicyWriters.{policy_writers}
 use Rattle.key_chains.specs.Job.{read_by, written_by}
-use Rattle.key_chains.specs.Building.{Lead, gathered, starts, lists_read, lists_touched, keys_written}
+use Rattle.key_chains.specs.Building.{gathered, starts, lists_read, lists_touched, keys_written}
 use Rattle.key_chains.specs.Built.{IsBuilt}
 use Rattle.key_chains.proofs.Finishing.{gathered-more, starts-more}
 

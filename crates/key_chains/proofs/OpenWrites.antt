@@ -1,26 +1,24 @@
 -- What an open transaction writes, one key after the other.
 use Rattle.std.proofs.Common.{◌≡◌, ℕ, zero, suc, ◌<◌, Bool, cond, true, false, ◌||◌, List, [], ◌∷◌, length, get_or, map, All, Option, Some, None, refl, sym, ap, subst, ◌∙◌, arith}
-use Rattle.std.specs.Prelude.{option_map, slice_get, is_some, IsSome, IsTrue}
+use Rattle.std.specs.Prelude.{option_map, slice_get, is_some, IsSome}
 use Rattle.transaction.specs.declared.transaction.Write.{Write}
 use Rattle.transaction.specs.declared.transaction.PolicyWrite.{PolicyWrite}
-use Rattle.transaction.specs.declared.transaction.Tx.{Tx}
 use Rattle.policy.specs.Tree.{Tree}
 use Rattle.rules.specs.State.{StateKey, is_same_key, is_among}
 use Rattle.rules.specs.Candidate.{Candidate, opened}
 use Rattle.rules.specs.Job.{touched_by}
-use Rattle.rules.specs.Effect.{written_keys, policy_keys, write_of, policy_write_of, policy_left}
+use Rattle.rules.specs.Effect.{written_keys, write_of, policy_write_of, policy_left}
 use Rattle.rules.proofs.Keys.{same_as_itself}
 use Rattle.rules.proofs.Booleans.{or-true}
 use Rattle.candidates.specs.declared.open_tx.OpenTx.{OpenTx}
 use Rattle.candidates.specs.declared.written_key.WrittenKey.{WrittenKey}
-use Rattle.candidates.specs.Written.{keys_in_order, value_at, policy_at}
+use Rattle.candidates.specs.Written.{value_at, policy_at}
 use Rattle.candidates.proofs.KeysInOrder.{keys_stay}
-use Rattle.key_chains.specs.declared.operation.Kind.{Kind}
 use Rattle.key_chains.specs.Numbers.{number_in}
 use Rattle.key_chains.specs.Operations.{candidate_in, kind_of, kind_by, kind_from}
 use Rattle.key_chains.specs.Job.{written_by}
 use Rattle.key_chains.specs.Building.{keys_written}
-use Rattle.key_chains.specs.Built.{IsNext, AreNext}
+use Rattle.key_chains.specs.Built.{AreNext}
 use Rattle.key_chains.proofs.WritesInForm.{written_where, touched_where}
 
 pub among_at : (ks : List StateKey) (n : ℕ) (d : StateKey) → n < length ks → is_among (get_or ks n d) ks ≡ true
@@ -81,4 +79,4 @@ module _ (cs : List Candidate) (i : ℕ) (o : OpenTx) (is : candidate_in cs i �
 pub each_numbered : (o : OpenTx) (c : Candidate) (keys : List StateKey) → c ≡ opened o.tx o.signers → ((k : StateKey) → is_among k (written_by c) ≡ true → IsSome (number_in keys k)) → All (λ w. IsSome (number_in keys w.key)) o.written.items
 each_numbered o c keys is numbers n d lt =
     numbers (get_or o.written.items n d).key (
-        ap (λ (x : Candidate). is_among (get_or o.written.items n d).key (written_by x)) is ∙ ap (is_among (get_or o.written.items n d).key) (sym o.writes.keys) ∙ key_at o.written.items n d lt)
+    ap (λ (x : Candidate). is_among (get_or o.written.items n d).key (written_by x)) is ∙ ap (is_among (get_or o.written.items n d).key) (sym o.writes.keys) ∙ key_at o.written.items n d lt)

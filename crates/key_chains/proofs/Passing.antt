@@ -1,18 +1,16 @@
 -- One candidate of a block.
-use Rattle.std.proofs.Common.{◌≡◌, ℕ, suc, List, [], ◌∷◌, ◌++◌, length, map, All, Option, Vec, Global, refl, sym, ap, subst, ◌∙◌}
+use Rattle.std.proofs.Common.{◌≡◌, ℕ, suc, List, [], ◌∷◌, ◌++◌, length, map, All, Option, Vec, Global, sym, ap, subst, ◌∙◌}
 use Rattle.std.specs.Prelude.{flat_map}
 use Rattle.std.proofs.lemmas.List.{append-nil, length-map}
 use Rattle.transaction.specs.declared.transaction.NsSet.{NsSet}
 use Rattle.rules.specs.declared.flag.Flag.{Flag}
-use Rattle.rules.specs.State.{StateKey}
 use Rattle.rules.specs.Candidate.{Candidate, flagged, opened}
 use Rattle.candidates.specs.declared.open_tx.OpenTx.{OpenTx}
-use Rattle.key_chains.specs.declared.operation.Operation.{Operation}
 use Rattle.key_chains.specs.declared.chains.Chains.{Chains}
-use Rattle.key_chains.specs.Linked.{KeyedLists, chain_in, IsLink}
+use Rattle.key_chains.specs.Linked.{chain_in, IsLink}
 use Rattle.key_chains.specs.Operations.{candidate_in, operations}
 use Rattle.key_chains.specs.Job.{read_by, written_by}
-use Rattle.key_chains.specs.Building.{list_at, lists_read, keys_written}
+use Rattle.key_chains.specs.Building.{list_at, keys_written}
 use Rattle.key_chains.specs.Built.{IsBuilt}
 use Rattle.key_chains.proofs.Flagged.{no_keys}
 use Rattle.key_chains.proofs.OpenWrites.{keys_are}
@@ -24,8 +22,8 @@ pub flagged_passes : (cs : List Candidate) (i n m : ℕ) (flag : Flag) (old new 
     → new.keys ≡ old.keys → new.operations ≡ old.operations → new.policy_writers ≡ old.policy_writers → new.written ≡ old.written → new.reads ≡ old.reads → IsBuilt cs (suc i) (suc i) 0 new
 flagged_passes cs i n m flag old new is b count counted first first_written keys ops pols written reads =
     finished cs i new (subst (λ (p : ℕ). IsBuilt cs i (suc i) p new) (sym nothing) (reads_linked cs i n m old new [] b count counted first first_written
-        (ap (λ (v : Vec (Option ℕ) Global). map (chain_in old.operations.0) v.items) reads ∙ sym (append-nil (map (chain_in old.operations.0) old.reads.items))) (sym (ap (λ (c : Candidate). map (λ k. operations cs k i) (read_by c)) is))
-        (λ links. subst (λ (v : Vec (Option ℕ) Global). All (IsLink old.operations.0) v.items) (sym reads) links) keys ops pols written))
+    (ap (λ (v : Vec (Option ℕ) Global). map (chain_in old.operations.0) v.items) reads ∙ sym (append-nil (map (chain_in old.operations.0) old.reads.items))) (sym (ap (λ (c : Candidate). map (λ k. operations cs k i) (read_by c)) is))
+    (λ links. subst (λ (v : Vec (Option ℕ) Global). All (IsLink old.operations.0) v.items) (sym reads) links) keys ops pols written))
   where
     nothing : length (keys_written cs i) ≡ 0
     nothing = ap (λ (c : Candidate). length (written_by c)) is ∙ ap length no_keys

@@ -1,5 +1,5 @@
 -- A key that the block doesn't write has no operations.
-use Rattle.std.proofs.Common.{◌≡◌, ◌⊎◌, inl, inr, ℕ, zero, suc, ◌<◌, ◌≤◌, leb, Bool, true, false, List, [], ◌++◌, length, Option, None, refl, sym, ap, ◌∙◌, arith}
+use Rattle.std.proofs.Common.{◌≡◌, ◌⊎◌, inl, inr, ℕ, zero, suc, ◌<◌, ◌≤◌, leb, Bool, true, false, List, [], ◌++◌, length, Option, refl, sym, ap, ◌∙◌, arith}
 use Rattle.std.specs.Prelude.{flat_map, option_map, option_to_list}
 use Rattle.std.proofs.Math.ListN.{get_or-eq_default}
 use Rattle.std.proofs.lemmas.Bool.Decides.{leb_tells}
@@ -9,7 +9,7 @@ use Rattle.rules.specs.Candidate.{Candidate, flagged}
 use Rattle.rules.specs.Job.{operated_by}
 use Rattle.candidates.proofs.KeysInOrder.{keys_stay}
 use Rattle.key_chains.specs.declared.operation.Kind.{Kind}
-use Rattle.key_chains.specs.Operations.{candidate_in, kind_by, operations}
+use Rattle.key_chains.specs.Operations.{candidate_in, operations}
 use Rattle.key_chains.specs.Job.{written_by}
 use Rattle.key_chains.specs.Building.{block_keys}
 use Rattle.key_chains.proofs.BlockKeys.{written_among}

@@ -1,5 +1,5 @@
 -- What the chains of a block have on the way, behind the candidates before one. No public contract cites this.
-use Rattle.std.specs.Prelude.{◌≡◌, ℕ, ◌<◌, List, length, map, take, Option, Some, slice_get, slice_index_or, ◌++◌}
+use Rattle.std.specs.Prelude.{◌≡◌, ℕ, ◌<◌, List, length, map, take, Some, slice_get, slice_index_or, ◌++◌}
 use Rattle.rules.specs.State.{StateKey, is_among}
 use Rattle.rules.specs.Candidate.{Candidate}
 use Rattle.rules.specs.Job.{touched_by}

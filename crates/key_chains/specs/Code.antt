@@ -1,7 +1,7 @@
 -- Injective codes of candidates and jobs, which the prover asks of a type that contracts see.
 use Rattle.std.specs.Prelude.{◌≡◌, ◌⊎◌, ℕ, List, refl}
 use Rattle.std.proofs.Common.{inl, inr}
-use Rattle.std.specs.Coded.{Coded, codes, coded×, coded⊎, coded_list, coded_ℕ, code_by}
+use Rattle.std.specs.Coded.{Coded, codes, coded×, coded_list, coded_ℕ, code_by}
 use Rattle.transaction.specs.declared.transaction.Tx.{Tx}
 use Rattle.transaction.specs.declared.identity.Identity.{Identity}
 use Rattle.policy.specs.Policies.{Policies, policies_code}

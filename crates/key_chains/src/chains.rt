@@ -116,10 +116,7 @@ fn add_written_keys<'a>(
     }
 }
 
-fn add_keys<'a>(
-    keys: &mut Vec<StateKey<'a>>,
-    written: &[WrittenKey<'a>],
-) -> Result<(), AllocError>
+fn add_keys<'a>(keys: &mut Vec<StateKey<'a>>, written: &[WrittenKey<'a>]) -> Result<(), AllocError>
     ensures { OnOk result (keys.new.items ≡ keys.old.items ++ map (λ w. w.key) written.now) }
 {
     for one in written {
@@ -237,10 +234,7 @@ impl<'a> Chains<'a> {
     }
 
     /// The chains of a block's candidates: a sort of the keys that they write, and one pass.
-    pub fn build(
-        alloc: Global,
-        candidates: &[Candidate<'a>],
-    ) -> Result<Chains<'a>, AllocError>
+    pub fn build(alloc: Global, candidates: &[Candidate<'a>]) -> Result<Chains<'a>, AllocError>
         requires { length candidates.now < 2 ^ 32 }
         ensures { IfOk result (λ c. IsBuilt (map seen candidates.now) (length candidates.now) (length candidates.now) 0 c) }
     {

@@ -162,7 +162,12 @@ impl<'a> Job<'a> {
         ensures { (k : StateKey) → slice_get (read_by (candidate_at self.now i)) read ≡ Some k → result ≡ operations self.now.candidates k i }
     {
         let chains = &self.chains;
-        let link = item_of(chains.reads.as_slice(), chains.first_reads.as_slice(), i, read);
+        let link = item_of(
+            chains.reads.as_slice(),
+            chains.first_reads.as_slice(),
+            i,
+            read,
+        );
         chains.operations.chain(link)
     }
 

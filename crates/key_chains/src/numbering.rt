@@ -57,7 +57,10 @@ fn is_before(key: &StateKey<'_>, namespace: &NameRef<'_>, bound: &[u8]) -> bool
 fn is_through(key: &StateKey<'_>, namespace: &NameRef<'_>) -> bool
     ensures { result ≡ is_le (bytes_cmp key.now.0 namespace.now) }
 {
-    key.namespace().as_slice().cmp(&namespace.as_slice()).is_le()
+    key.namespace()
+        .as_slice()
+        .cmp(&namespace.as_slice())
+        .is_le()
 }
 
 /// How many keys stand before a bound in a namespace. Logarithmic.

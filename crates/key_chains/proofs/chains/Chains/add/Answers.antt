@@ -1,6 +1,5 @@
-use Rattle.std.proofs.Common.{◌≡◌, List, refl, sym, subst, ap, ◌∙◌, length, All}
+use Rattle.std.proofs.Common.{List, refl, sym, subst, ap, ◌∙◌, length, All}
 use Rattle.std.specs.Prelude.{IsSome}
-use Rattle.candidates.specs.declared.candidate.Candidate.{Candidate}
 use Rattle.candidates.specs.declared.written_key.WrittenKey.{WrittenKey}
 use Rattle.candidates.specs.Seen.{seen}
 use Rattle.key_chains.specs.Numbers.{number_in}
@@ -25,6 +24,6 @@ returns-in_ok-add_written-in-Opened c = record {
       let opens = is ∙ ap seen c.in-Opened.is in
       writes_pass cs c.args.i c.in-Opened.open_tx c.add_written.new.self (length c.as_slice-in-Opened-2.result.now) opens (ap length c.as_slice-in-Opened-2.ensures.value)
       (c.in_ok-add_written-in-Opened.ensures.built cs (subst (λ (ws : List WrittenKey). AreNext cs c.args.i ws) (sym c.as_slice-in-Opened-2.ensures.value) (all_next cs c.args.i c.in-Opened.open_tx opens))
-          (reads_pass cs c.args.i (length c.as_slice.result.now) (length c.as_slice-2.result.now) c.in-Opened.open_tx c.args.self.now _ c.as_slice-in-Opened.result.now opens b (ap length c.as_slice.ensures.value) (ap length c.as_slice-2.ensures.value)
-              c.in_ok-push.ensures.items c.in_ok-push-2.ensures.items c.as_slice-in-Opened.ensures c.in_ok-link_reads-in-Opened.ensures.lists c.in_ok-link_reads-in-Opened.ensures.links refl refl refl refl));
+      (reads_pass cs c.args.i (length c.as_slice.result.now) (length c.as_slice-2.result.now) c.in-Opened.open_tx c.args.self.now _ c.as_slice-in-Opened.result.now opens b (ap length c.as_slice.ensures.value) (ap length c.as_slice-2.ensures.value)
+      c.in_ok-push.ensures.items c.in_ok-push-2.ensures.items c.as_slice-in-Opened.ensures c.in_ok-link_reads-in-Opened.ensures.lists c.in_ok-link_reads-in-Opened.ensures.links refl refl refl refl));
 }

@@ -3,7 +3,6 @@ use Rattle.std.proofs.lemmas.List.{length-map}
 use Rattle.candidates.specs.Seen.{seen}
 use Rattle.rules.specs.Candidate.{Candidate}
 use Rattle.rules.specs.Job.{Job}
-use Rattle.key_chains.specs.declared.operation.Operation.{Operation}
 use Rattle.key_chains.specs.Operations.{operations}
 use Rattle.key_chains.specs.Older.{older_than}
 use Rattle.key_chains.proofs.OlderOperations.{older_operations}

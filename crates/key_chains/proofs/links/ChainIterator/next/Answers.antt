@@ -1,4 +1,4 @@
-use Rattle.std.proofs.Common.{sym, ap, ◌∙◌, length, arith, Option, ℕ}
+use Rattle.std.proofs.Common.{sym, ap, ◌∙◌, length, arith}
 use Rattle.key_chains.specs.Linked.{chain_in}
 use Rattle.key_chains.specs.Lists.{lists_of}
 use Rattle.key_chains.proofs.links.ChainIterator.next.Goals as goal

@@ -1,4 +1,4 @@
-use Rattle.std.proofs.Common.{sym, ap, ◌∙◌, List}
+use Rattle.std.proofs.Common.{ap, ◌∙◌}
 use Rattle.key_chains.specs.Lists.{lists_of}
 use Rattle.key_chains.proofs.Chaining.{lists-none}
 use Rattle.key_chains.proofs.links.KeyLists.new.Goals as goal

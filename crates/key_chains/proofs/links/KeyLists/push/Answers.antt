@@ -1,4 +1,4 @@
-use Rattle.std.proofs.Common.{◌≡◌, ◌<◌, List, Option, None, sym, ap, subst, length, get_or, ◌∙◌, arith}
+use Rattle.std.proofs.Common.{◌<◌, Option, None, sym, subst, length, arith}
 use Rattle.std.proofs.lemmas.List.{get_or_read}
 use Rattle.std.specs.Prelude.{ℕ, slice_set, Some}
 use Rattle.key_chains.specs.Linked.{KeyedLists, IsLink}
@@ -13,7 +13,7 @@ made g c =
     let lt : c.args.key < length c.self.inside.newest.items = subst (λ (v : KeyedLists g.row.T.Denot). c.args.key < length v.1) (sym c.self.view_is) c.requires in
     subst (λ (v : KeyedLists g.row.T.Denot). IsPushed c.args.key c.args.item v (lists_of c.push.new.self.items, slice_set c.self.inside.newest.items c.args.key (Some c.in-Ok.number))) c.self.view_is
     (pushed c.self.inside.entries.items c.push.new.self.items c.self.inside.newest.items c.args.key c.args.item c.index-older.result.now c.in-Ok.number c.in_ok-push.ensures.items
-        (get_or_read c.self.inside.newest.items c.args.key c.index-older.result.now lt c.index-older.ensures None) (omega (arith, c.in-Ok.ensures, c.len.ensures)) lt c.self.invariant.1)
+    (get_or_read c.self.inside.newest.items c.args.key c.index-older.result.now lt c.index-older.ensures None) (omega (arith, c.in-Ok.ensures, c.len.ensures)) lt c.self.invariant.1)
 
 pub invariant_of-self-2 : goal.invariant_of-self-2
 invariant_of-self-2 g c =

@@ -1,4 +1,4 @@
-use Rattle.std.proofs.Common.{◌≡◌, ◌≤◌, ℕ, List, sym, subst, arith, ◌∙◌}
+use Rattle.std.proofs.Common.{ℕ, List, sym, subst, arith, ◌∙◌}
 use Rattle.std.specs.Prelude.{IsTrue}
 use Rattle.rules.specs.State.{StateKey, is_among}
 use Rattle.rules.specs.Ranges.{is_within}
