@@ -1,15 +1,26 @@
 -- What the chains of a whole block answer.
+<<<<<<< HEAD
 use Rattle.std.proofs.Common.{◌≡◌, ◌⊎◌, inl, inr, ℕ, zero, suc, ◌+◌, ◌-◌, ◌<◌, ◌≤◌, leb, true, false, List, [], ◌∷◌, ◌++◌, length, get_or, map, Option, Some, None, refl, sym, ap, subst, ◌∙◌, arith, length-append}
 use Rattle.std.specs.Prelude.{slice_get}
+=======
+use Rattle.std.proofs.Common.{◌≡◌, ◌⊎◌, inl, inr, ℕ, zero, suc, ◌+◌, ◌<◌, ◌≤◌, leb, Bool, true, false, cond, List, [], ◌∷◌, ◌++◌, length, get_or, map, All, Option, Some, None, refl, sym, ap, subst, ◌∙◌, arith, length-append}
+use Rattle.std.specs.Prelude.{slice_get, option_map}
+>>>>>>> f6548df26e668d4866d275c92d572d5e7c561e65
 use Rattle.std.proofs.Math.ListN.{get_or-append, get_or-eq_default}
 use Rattle.std.proofs.Math.Seq.{get_or-append_seam}
 use Rattle.std.proofs.lemmas.Bool.Decides.{leb_tells}
 use Rattle.std.proofs.lemmas.List.{append-nil, length-map, get_or-append-add}
 use Rattle.rules.specs.declared.flag.Flag.TheVariants.{BadPayload}
+<<<<<<< HEAD
+=======
+use Rattle.rules.specs.State.{StateKey, is_same_key}
+use Rattle.rules.proofs.Keys.{same_key_is}
+>>>>>>> f6548df26e668d4866d275c92d572d5e7c561e65
 use Rattle.rules.specs.Candidate.{Candidate, flagged}
 use Rattle.key_chains.specs.declared.chains.Chains.{Chains}
 use Rattle.key_chains.specs.declared.chains.Written.{Written}
 use Rattle.key_chains.specs.Linked.{chain_in, IsLink}
+use Rattle.key_chains.specs.Numbers.{number_in}
 use Rattle.key_chains.specs.Operations.{candidate_in, operations}
 use Rattle.key_chains.specs.PolicyWriters.{policy_writers}
 use Rattle.key_chains.specs.Job.{read_by, written_by}
@@ -76,6 +87,11 @@ pub at_key : {A B : Type 0} (f : A → B) (xs : List A) (n : ℕ) (b : B) (a : A
 at_key f [] n b a e = absurd cc
 at_key f (x ∷ xs) zero b a e = let same : x ≡ a = cc in ap f same
 at_key f (x ∷ xs) (suc n) b a e = at_key f xs n b a e
+
+here_is : {A : Type 0} (xs : List A) (n : ℕ) (a : A) → slice_get xs n ≡ Some a → get_or xs n a ≡ a
+here_is [] n a e = absurd cc
+here_is (x ∷ xs) zero a e = cc
+here_is (x ∷ xs) (suc n) a e = here_is xs n a e
 
 -- a candidate that does anything is one of the block's
 pub is_there : {X : Type 0} (cs : List Candidate) (i r : ℕ) (does : Candidate → List X) → length (does (flagged BadPayload)) ≡ 0 → r < length (does (candidate_in cs i)) → i < length cs
@@ -161,3 +177,25 @@ module _ (cs : List Candidate) (n i r : ℕ) (c : Chains) (b : IsBuilt cs n n 0 
       ∙ ap (λ l. get_or l place []) all_writers
       ∙ ap (λ (m : ℕ). get_or (gathered (lists_touched cs) n) (m + r) []) (sym (as_many i))
       ∙ gathered_at (lists_touched cs) n i r [] lt own_key
+
+  pub number_leads : (d : Written) (k : StateKey) → slice_get (written_by (candidate_in cs i)) r ≡ Some k → Some (get_or c.written.items (length (gathered (keys_written cs) i) + r) d).number ≡ number_in c.keys k
+  number_leads d k here =
+      let place : ℕ = length (gathered (keys_written cs) i) + r in
+      sym (mapped (λ (w : Written). Some w.number) c.written.items place d None key_there)
+      ∙ ap (λ l. get_or l place None) (b.numbers ∙ ap (map (number_in c.keys)) (append-nil (gathered (keys_written cs) n)))
+      ∙ mapped (number_in c.keys) (gathered (keys_written cs) n) place k None (below_end (keys_written cs) n i r lt below)
+      ∙ ap (number_in c.keys) (gathered_at (keys_written cs) n i r k lt below ∙ here_is (written_by (candidate_in cs i)) r k here)
+
+-- ---- the place of a key
+
+pub placed : (ks : List StateKey) (k : StateKey) (n : ℕ) → number_in ks k ≡ Some n → slice_get ks n ≡ Some k
+placed [] k n e = absurd cc
+placed (x ∷ ks) k n e = by (placed ks k) (is_same_key k x) refl e
+  where
+    later : ((m : ℕ) → number_in ks k ≡ Some m → slice_get ks m ≡ Some k) → (m : Option ℕ) → number_in ks k ≡ m → option_map suc m ≡ Some n → slice_get (x ∷ ks) n ≡ Some k
+    later rest None is e = absurd cc
+    later rest (Some m) is e = let same : suc m ≡ n = cc in ap (slice_get (x ∷ ks)) (sym same) ∙ rest m is
+
+    by : ((m : ℕ) → number_in ks k ≡ Some m → slice_get ks m ≡ Some k) → (b : Bool) → is_same_key k x ≡ b → cond b (Some 0) (option_map suc (number_in ks k)) ≡ Some n → slice_get (x ∷ ks) n ≡ Some k
+    by rest true same e = let first : 0 ≡ n = cc in ap (slice_get (x ∷ ks)) (sym first) ∙ ap Some (sym (same_key_is k x same))
+    by rest false apart e = later rest (number_in ks k) refl e

@@ -30,3 +30,7 @@ read_by (opened tx signers) = read_keys tx
 -- the keys that it writes, in the keys' order, each once
 abbrev pub written_by : Candidate → List StateKey
 written_by c = keys_in_order (operated_by c)
+
+-- the keys that the block writes, in their order, each once
+abbrev pub keys_of : Job → List StateKey
+keys_of j = keys_in_order (flat_map written_by j.candidates)

@@ -5,7 +5,7 @@ ghost use Rattle.block.specs.Limits.{max_txs};
 ghost use Rattle.rules.specs.State.{StateKey, is_among};
 ghost use Rattle.rules.specs.Ranges.{is_within, rows_where};
 ghost use Rattle.rules.specs.Job.{candidate_at};
-ghost use Rattle.key_chains.specs.Job.{IsOpened, IsOpen, IsFlagged, read_by, written_by};
+ghost use Rattle.key_chains.specs.Job.{IsOpened, IsOpen, IsFlagged, read_by, written_by, keys_of};
 ghost use Rattle.rules.specs.Candidate.{flagged};
 ghost use Rattle.candidates.specs.Seen.{seen};
 ghost use Rattle.key_chains.specs.Operations.{operations};
@@ -196,5 +196,27 @@ impl<'a> Job<'a> {
         ensures { (k : StateKey) (i : ℕ) → k.0 ≡ namespace.now → IsTrue (is_within start.now end.now k.1) → operations self.now.candidates k i ≢ [] → IsTrue (is_among k result.now) }
     {
         self.chains.keys.between(namespace, start, end)
+    }
+
+    /// The keys that the block writes, in their order.
+    pub fn keys(&self) -> &[StateKey<'a>]
+        ensures { result.now ≡ keys_of self.now }
+    {
+        self.chains.keys.as_slice()
+    }
+
+    /// The place, among the keys that the block writes, of one of the keys that candidate i writes. Constant time.
+    pub fn key_number_of(&self, i: u32, written: usize) -> u32
+        requires { written < length (written_by (candidate_at self.now i)) }
+        ensures { (k : StateKey) → slice_get (written_by (candidate_at self.now i)) written ≡ Some k → slice_get (keys_of self.now) result ≡ Some k }
+    {
+        let chains = &self.chains;
+        let written = item_of(
+            chains.written.as_slice(),
+            chains.first_written.as_slice(),
+            i,
+            written,
+        );
+        written.number
     }
 }

@@ -1,0 +1,6 @@
+mod FinalChanges
+mod FlagLists
+mod NextStates
+mod Pieces
+mod Places
+mod WrittenKeys

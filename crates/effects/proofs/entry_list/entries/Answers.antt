@@ -1,0 +1,15 @@
+use Rattle.std.proofs.Common.{sym, ap, map, ◌∙◌, arith}
+use Rattle.rules.specs.Delta.{entries_in}
+use Rattle.rules.specs.declared.flag.Flag.TheVariants.{Valid}
+use Rattle.effects.proofs.FlagLists.{as_many, flag_at}
+use Rattle.effects.proofs.NextStates.{entries-first}
+use Rattle.effects.proofs.entry_list.entries.Goals as goal
+
+pub loop-i-init : goal.loop-i-init
+loop-i-init c = ap entries_in c.new-entries.ensures.items ∙ sym (entries-first c.args.job.now)
+
+pub bounds-flags-i : goal.bounds-flags-i
+bounds-flags-i c = omega (arith, as_many c.args.job.now c.args.flags.now c.requires, c.loop-i-test.true, c.len-i-end.ensures.value, c.loop-i.auto.i-end)
+
+pub take-requires-clause-flag : goal.take-requires-clause-flag
+take-requires-clause-flag c = flag_at c.args.job.now c.args.flags.now c.requires c.loop-i.i Valid (omega (arith, c.loop-i-test.true, c.len-i-end.ensures.value, c.loop-i.auto.i-end))

@@ -1,0 +1,23 @@
+use Rattle.std.proofs.Common.{◌≡◌, ◌<◌, ℕ, Option, Some, None, length, get_or, sym, ap, subst, ◌∙◌, arith}
+use Rattle.std.specs.Prelude.{unwrap_or, slice_set}
+use Rattle.std.specs.FinMap.{get}
+use Rattle.std.proofs.lemmas.Option.{slice_get_within}
+use Rattle.std.proofs.lemmas.List.{get_or_read}
+use Rattle.rules.specs.declared.row.Row.{Row}
+use Rattle.rules.specs.State.{State, set_at}
+use Rattle.key_chains.specs.Job.{keys_of}
+use Rattle.effects.specs.Rows.{ShowRows}
+use Rattle.effects.specs.WrittenRow.{row_written}
+use Rattle.effects.proofs.Places.{shows_one_more}
+use Rattle.effects.proofs.written_rows.apply_write.Goals as goal
+
+pub returns-clause-rows : goal.returns-clause-rows
+returns-clause-rows c s shows =
+    let below : c.args.number < length c.args.rows.now.items = omega (arith, slice_get_within (keys_of c.args.job.now) c.args.number c.args.written.now.key c.requires.place, c.requires.count) in
+    let read = get_or_read c.args.rows.now.items c.args.number c.index.result.now below c.index.ensures None in
+    let row : c.in_ok-row.row ≡ row_written c.args.version c.args.written.now (get s c.args.written.now.key) =
+    c.in_ok-row.ensures
+    ∙ ap (row_written c.args.version c.args.written.now) (c.row_now-now.ensures ∙ ap (unwrap_or c.index.result.now) c.row.ensures
+    ∙ ap (λ x. unwrap_or x (get c.args.job.now.state c.args.written.now.key)) read ∙ shows c.args.number c.args.written.now.key c.requires.place) in
+    subst (λ (r : Option Row). ShowRows c.args.job.now (slice_set c.args.rows.now.items c.args.number (Some c.in_ok-row.row)) (set_at s c.args.written.now.key r)) row
+    (shows_one_more c.args.job.now c.args.rows.now.items s c.args.number c.args.written.now.key c.in_ok-row.row c.requires.rising c.requires.place below shows)

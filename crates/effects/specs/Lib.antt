@@ -1,0 +1,2 @@
+pub mod WrittenRow
+pub mod Rows
