@@ -1,11 +1,6 @@
 -- What a job's look-ups find in its chains.
-<<<<<<< HEAD
 use Rattle.std.proofs.Common.{◌≡◌, ℕ, ◌+◌, ◌<◌, ◌≤◌, List, [], Option, Some, None, length, map, get_or, refl, sym, ap, subst, ◌∙◌, arith}
-use Rattle.std.specs.Prelude.{slice_get}
-=======
-use Rattle.std.proofs.Common.{◌≡◌, ℕ, ◌+◌, ◌<◌, List, [], Option, Some, None, length, map, get_or, refl, sym, ap, subst, ◌∙◌, arith}
 use Rattle.std.specs.Prelude.{slice_get, flat_map}
->>>>>>> f6548df26e668d4866d275c92d572d5e7c561e65
 use Rattle.std.proofs.lemmas.List.{length-map}
 use Rattle.candidates.specs.declared.candidate.Candidate.{Candidate}
 use Rattle.candidates.specs.Seen.{seen}
@@ -23,11 +18,7 @@ use Rattle.key_chains.specs.Job.{read_by, written_by, keys_of}
 use Rattle.key_chains.specs.Building.{gathered, lists_read, keys_written}
 use Rattle.key_chains.specs.Built.{IsBuilt}
 use Rattle.key_chains.proofs.Flagged.{no_keys}
-<<<<<<< HEAD
-use Rattle.key_chains.proofs.LookUps.{is_there, reads_fit, first_read, first_key, first_reads_there, first_written_there, read_there, read_link, read_leads, key_there, writers_link, writers_lead, at_key}
-=======
-use Rattle.key_chains.proofs.LookUps.{is_there, first_read, first_key, first_reads_there, first_written_there, read_there, read_link, read_leads, key_there, writers_link, writers_lead, number_leads, placed, at_key}
->>>>>>> f6548df26e668d4866d275c92d572d5e7c561e65
+use Rattle.key_chains.proofs.LookUps.{is_there, reads_fit, first_read, first_key, first_reads_there, first_written_there, read_there, read_link, read_leads, key_there, writers_link, writers_lead, number_leads, placed, at_key}
 
 -- the job is of these candidates and chains
 pub record IsJobOf (j : Job) (items : List Candidate) (chains : Chains) : Type 0 where
@@ -98,16 +89,6 @@ module _ (j : Job) (items : List Candidate) (chains : Chains) (of : IsJobOf j it
         ∙ at_key (λ x. policy_writers cs x i) (written_by (candidate_in cs i)) r [] k (ap (λ (l : List rule.Candidate). slice_get (written_by (candidate_in l i)) r) (sym of.candidates) ∙ here)
         ∙ ap (λ (l : List rule.Candidate). policy_writers l k i) (sym of.candidates)
 
-<<<<<<< HEAD
--- the reads of a candidate are among all that the chains have
-pub reads_are_few : (j : Job) (items : List Candidate) (chains : Chains) → IsJobOf j items chains → (i n : ℕ) → i < length j.candidates → length chains.reads.items ≤ n → length (read_by (candidate_at j i)) ≤ n
-reads_are_few j items chains of i n lt few =
-    let same = ap length of.candidates in
-    let here : i < length items = omega (arith, lt, same, length-map items seen) in
-    let fit = reads_fit (map seen items) (length items) i 0 chains of.built here in
-    let own = ap (λ (l : List rule.Candidate). length (read_by (candidate_in l i))) of.candidates in
-    omega (arith, few, fit, own)
-=======
     pub keys_are : chains.keys ≡ keys_of j
     keys_are = of.built.keys ∙ ap (λ (l : List rule.Candidate). keys_in_order (flat_map written_by l)) (sym of.candidates)
 
@@ -117,4 +98,12 @@ reads_are_few j items chains of i n lt few =
         ∙ placed chains.keys k w.number (
             sym (number_leads cs (length items) i r chains of.built there_too own_key w k (ap (λ (l : List rule.Candidate). slice_get (written_by (candidate_in l i)) r) (sym of.candidates) ∙ here))
             ∙ ap (λ (x : Written). Some x.number) (sym (at_written w is)))
->>>>>>> f6548df26e668d4866d275c92d572d5e7c561e65
+
+-- the reads of a candidate are among all that the chains have
+pub reads_are_few : (j : Job) (items : List Candidate) (chains : Chains) → IsJobOf j items chains → (i n : ℕ) → i < length j.candidates → length chains.reads.items ≤ n → length (read_by (candidate_at j i)) ≤ n
+reads_are_few j items chains of i n lt few =
+    let same = ap length of.candidates in
+    let here : i < length items = omega (arith, lt, same, length-map items seen) in
+    let fit = reads_fit (map seen items) (length items) i 0 chains of.built here in
+    let own = ap (λ (l : List rule.Candidate). length (read_by (candidate_in l i))) of.candidates in
+    omega (arith, few, fit, own)

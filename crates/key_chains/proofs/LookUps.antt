@@ -1,21 +1,13 @@
 -- What the chains of a whole block answer.
-<<<<<<< HEAD
-use Rattle.std.proofs.Common.{◌≡◌, ◌⊎◌, inl, inr, ℕ, zero, suc, ◌+◌, ◌-◌, ◌<◌, ◌≤◌, leb, true, false, List, [], ◌∷◌, ◌++◌, length, get_or, map, Option, Some, None, refl, sym, ap, subst, ◌∙◌, arith, length-append}
-use Rattle.std.specs.Prelude.{slice_get}
-=======
-use Rattle.std.proofs.Common.{◌≡◌, ◌⊎◌, inl, inr, ℕ, zero, suc, ◌+◌, ◌<◌, ◌≤◌, leb, Bool, true, false, cond, List, [], ◌∷◌, ◌++◌, length, get_or, map, All, Option, Some, None, refl, sym, ap, subst, ◌∙◌, arith, length-append}
+use Rattle.std.proofs.Common.{◌≡◌, ◌⊎◌, inl, inr, ℕ, zero, suc, ◌+◌, ◌-◌, ◌<◌, ◌≤◌, leb, Bool, true, false, cond, List, [], ◌∷◌, ◌++◌, length, get_or, map, Option, Some, None, refl, sym, ap, subst, ◌∙◌, arith, length-append}
 use Rattle.std.specs.Prelude.{slice_get, option_map}
->>>>>>> f6548df26e668d4866d275c92d572d5e7c561e65
 use Rattle.std.proofs.Math.ListN.{get_or-append, get_or-eq_default}
 use Rattle.std.proofs.Math.Seq.{get_or-append_seam}
 use Rattle.std.proofs.lemmas.Bool.Decides.{leb_tells}
 use Rattle.std.proofs.lemmas.List.{append-nil, length-map, get_or-append-add}
 use Rattle.rules.specs.declared.flag.Flag.TheVariants.{BadPayload}
-<<<<<<< HEAD
-=======
 use Rattle.rules.specs.State.{StateKey, is_same_key}
 use Rattle.rules.proofs.Keys.{same_key_is}
->>>>>>> f6548df26e668d4866d275c92d572d5e7c561e65
 use Rattle.rules.specs.Candidate.{Candidate, flagged}
 use Rattle.key_chains.specs.declared.chains.Chains.{Chains}
 use Rattle.key_chains.specs.declared.chains.Written.{Written}
