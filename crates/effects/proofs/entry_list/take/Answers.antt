@@ -11,12 +11,12 @@ returns-then-not-is_valid c before =
 
 pub returns-in-None : goal.returns-in-None
 returns-in-None c before =
-    before ∙ entries-flagged c.args.job.now c.args.i (ap is_valid (sym c.requires.flag) ∙ sym c.is_valid.ensures ∙ c.if-not-is_valid.false) c.in-None.ensures
+    before ∙ entries-flagged c.args.job.now c.args.i (ap is_valid (sym c.requires.flag) ∙ sym c.is_valid.ensures ∙ c.if-not-is_valid.false) c.in-None.ensures.tx
 
 pub returns-in-Some : goal.returns-in-Some
 returns-in-Some c =
     IfOk-weaker c.add_entries.result _ _
     (λ _ more before.
     more ∙ (λ m. before m ++ entries_of (record { block = c.number.ensures m; tx = c.args.i }) c.in-Some.open_tx.now.tx)
-    ∙ entries-opened c.args.job.now c.args.i c.in-Some.open_tx.now (ap is_valid (sym c.requires.flag) ∙ sym c.is_valid.ensures ∙ c.if-not-is_valid.false) c.in-Some.ensures)
+    ∙ entries-opened c.args.job.now c.args.i c.in-Some.open_tx.now (ap is_valid (sym c.requires.flag) ∙ sym c.is_valid.ensures ∙ c.if-not-is_valid.false) c.in-Some.ensures.tx)
     c.add_entries.ensures
