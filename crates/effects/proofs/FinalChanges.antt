@@ -8,7 +8,7 @@ use Rattle.std.specs.declared.cmp.Ordering.TheVariants.{Less}
 use Rattle.std.proofs.lemmas.List.Concat.{flat_map-cons}
 use Rattle.std.proofs.lemmas.List.Folds.{list_any-append}
 use Rattle.rules.specs.declared.row.Row.{Row}
-use Rattle.rules.specs.State.{StateKey, State, ChangeOf, key_cmp, is_same_key, is_among, with_changes}
+use Rattle.rules.specs.State.{StateKey, State, key_cmp, is_same_key, is_among, with_changes}
 use Rattle.rules.specs.Candidate.{Candidate, flagged}
 use Rattle.rules.specs.declared.flag.Flag.TheVariants.{BadPayload}
 use Rattle.rules.specs.Job.{Job, candidate_at, operated_by}

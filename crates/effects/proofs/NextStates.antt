@@ -1,21 +1,19 @@
 -- The rows that a state has once the next candidate is taken.
-use Rattle.std.proofs.Common.{◌≡◌, ℕ, suc, ◌+◌, Bool, true, false, cond, List, [], ◌++◌, map, Option, Some, None, refl, sym, ap, subst, ◌∙◌, arith}
-use Rattle.std.specs.Prelude.{if◌then◌else◌, slice_get}
+use Rattle.std.proofs.Common.{◌≡◌, ℕ, suc, ◌+◌, Bool, true, false, cond, List, [], ◌++◌, Option, refl, sym, ap, ◌∙◌, arith}
+use Rattle.std.specs.Prelude.{if◌then◌else◌}
 use Rattle.std.specs.FinMap.{get}
 use Rattle.std.proofs.lemmas.List.{append-nil}
 use Rattle.transaction.specs.declared.transaction.Tx.{Tx}
-use Rattle.transaction.specs.declared.transaction.Version.{Version}
 use Rattle.rules.specs.declared.row.Row.{Row}
-use Rattle.rules.specs.declared.history.HistoryEntry.{HistoryEntry}
 use Rattle.rules.specs.Flags.{is_valid}
 use Rattle.rules.specs.State.{StateKey, State, is_among}
 use Rattle.rules.specs.Effect.{written_keys, effect_at}
-use Rattle.rules.specs.Candidate.{Candidate, flagged, opened}
+use Rattle.rules.specs.Candidate.{Candidate, opened}
 use Rattle.rules.specs.Job.{Job, candidate_at, version_of, state_by, state_after, entries_by}
 use Rattle.rules.specs.Fold.{running, flag, entries_to}
 use Rattle.rules.proofs.Changes.{with_changes-none}
 use Rattle.rules.proofs.Effects.{effect_at-unwritten}
-use Rattle.rules.proofs.PerKey.{row_by, get-state_by}
+use Rattle.rules.proofs.PerKey.{get-state_by}
 use Rattle.candidates.specs.declared.open_tx.OpenTx.{OpenTx}
 use Rattle.candidates.specs.declared.written_key.WrittenKey.{WrittenKey}
 use Rattle.candidates.specs.Written.{keys_in_order, AreWritesOf}

@@ -9,7 +9,7 @@ use Rattle.transaction.specs.declared.transaction.Write.{Write}
 use Rattle.transaction.specs.declared.transaction.PolicyWrite.{PolicyWrite}
 use Rattle.transaction.specs.declared.transaction.Tx.{Tx}
 use Rattle.rules.specs.declared.row.Row.{Row}
-use Rattle.rules.specs.State.{StateKey, State, is_same_key, is_among, set_at}
+use Rattle.rules.specs.State.{StateKey, State, is_same_key, is_among}
 use Rattle.rules.specs.Effect.{write_of, policy_write_of, policy_left, row_after, effect_at}
 use Rattle.rules.proofs.Changes.{get-set_at}
 use Rattle.rules.proofs.Keys.{same_key_is}

@@ -10,7 +10,6 @@ use Rattle.rules.specs.Job.{Job, candidate_at}
 use Rattle.key_chains.specs.declared.chains.Chains.{Chains}
 use Rattle.key_chains.specs.declared.chains.Written.{Written}
 use Rattle.key_chains.specs.Linked.{chain_in, IsLink}
-use Rattle.key_chains.specs.Numbers.{number_in}
 use Rattle.candidates.specs.Written.{keys_in_order}
 use Rattle.key_chains.specs.Operations.{candidate_in, operations}
 use Rattle.key_chains.specs.PolicyWriters.{policy_writers}
@@ -96,8 +95,8 @@ module _ (j : Job) (items : List Candidate) (chains : Chains) (of : IsJobOf j it
     key_is_placed w is k here =
         ap (λ (ks : List StateKey). slice_get ks w.number) (sym keys_are)
         ∙ placed chains.keys k w.number (
-            sym (number_leads cs (length items) i r chains of.built there_too own_key w k (ap (λ (l : List rule.Candidate). slice_get (written_by (candidate_in l i)) r) (sym of.candidates) ∙ here))
-            ∙ ap (λ (x : Written). Some x.number) (sym (at_written w is)))
+        sym (number_leads cs (length items) i r chains of.built there_too own_key w k (ap (λ (l : List rule.Candidate). slice_get (written_by (candidate_in l i)) r) (sym of.candidates) ∙ here))
+        ∙ ap (λ (x : Written). Some x.number) (sym (at_written w is)))
 
 -- the reads of a candidate are among all that the chains have
 pub reads_are_few : (j : Job) (items : List Candidate) (chains : Chains) → IsJobOf j items chains → (i n : ℕ) → i < length j.candidates → length chains.reads.items ≤ n → length (read_by (candidate_at j i)) ≤ n

@@ -1,4 +1,4 @@
-use Rattle.std.proofs.Common.{sym, ap, map, ◌∙◌, arith}
+use Rattle.std.proofs.Common.{sym, ap, ◌∙◌, arith}
 use Rattle.rules.specs.Delta.{entries_in}
 use Rattle.rules.specs.declared.flag.Flag.TheVariants.{Valid}
 use Rattle.effects.proofs.FlagLists.{as_many, flag_at}

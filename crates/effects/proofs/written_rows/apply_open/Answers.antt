@@ -1,4 +1,4 @@
-use Rattle.std.proofs.Common.{◌≡◌, ℕ, List, take, length, refl, sym, ap, ◌∙◌, arith}
+use Rattle.std.proofs.Common.{List, take, refl, sym, ap, ◌∙◌}
 use Rattle.std.specs.FinMap.{get}
 use Rattle.std.proofs.lemmas.List.{take_all}
 use Rattle.transaction.specs.declared.transaction.Version.{Version}

@@ -1,10 +1,10 @@
-use Rattle.std.proofs.Common.{◌≡◌, ◌<◌, ℕ, Option, Some, None, length, get_or, sym, ap, subst, ◌∙◌, arith}
+use Rattle.std.proofs.Common.{◌≡◌, ◌<◌, Option, Some, None, length, ap, subst, ◌∙◌, arith}
 use Rattle.std.specs.Prelude.{unwrap_or, slice_set}
 use Rattle.std.specs.FinMap.{get}
 use Rattle.std.proofs.lemmas.Option.{slice_get_within}
 use Rattle.std.proofs.lemmas.List.{get_or_read}
 use Rattle.rules.specs.declared.row.Row.{Row}
-use Rattle.rules.specs.State.{State, set_at}
+use Rattle.rules.specs.State.{set_at}
 use Rattle.key_chains.specs.Job.{keys_of}
 use Rattle.effects.specs.Rows.{ShowRows}
 use Rattle.effects.specs.WrittenRow.{row_written}
