@@ -19,4 +19,4 @@ returns-in-Some-true-clause-decision g c = let laws = g.met.B.Board in let befor
     before.invariant.left called (λ h b lt known. agrees h b lt ((laws.grows _ _ asked.moves).endorsed h b known))
     ∙ ap (list_any called) c.in-Some.ensures.steps
     ∙ ap (λ (b : Bool). b || list_any called c.next.new.self)
-        (agrees c.in-Some.h true (All-head (λ h. h < c.args.i) c.in-Some.h c.next.new.self (All-same (λ h. h < c.args.i) _ _ (sym c.in-Some.ensures.steps) before.invariant.earlier)) (sym asked.value ∙ (c.in-Some-true.is ∙ ap (λ (b : Bool). Some b) c.in-Some-true.field-0-test)))
+    (agrees c.in-Some.h true (All-head (λ h. h < c.args.i) c.in-Some.h c.next.new.self (All-same (λ h. h < c.args.i) _ _ (sym c.in-Some.ensures.steps) before.invariant.earlier)) (sym asked.value ∙ (c.in-Some-true.is ∙ ap (λ (b : Bool). Some b) c.in-Some-true.field-0-test)))
