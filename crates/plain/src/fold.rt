@@ -42,16 +42,6 @@ pub(crate) struct Running<'a> {
     flags: Vec<Flag>,
 }
 
-fn read_flag(verdict: ReadVerdict) -> Flag
-    ensures { result ≡ job.read_flag verdict }
-{
-    match verdict {
-        ReadVerdict::Good => Flag::Valid,
-        ReadVerdict::Stale => Flag::MvccReadConflict,
-        ReadVerdict::Phantom => Flag::PhantomReadConflict,
-    }
-}
-
 impl<'a> Running<'a> {
     fn new(alloc: Global) -> Running<'a>
         ensures touched { result.touched.items ≡ [] }
@@ -117,7 +107,7 @@ impl<'a> Running<'a> {
             world,
             changes: self.changes.as_slice(),
         };
-        let flag = read_flag(read_verdict(state, &open_tx.tx));
+        let flag = read_verdict(state, &open_tx.tx).flag();
         if flag.is_valid() {
             self.apply(alloc, world, version, open_tx)?;
         }

@@ -8,16 +8,6 @@ use key_chains::{Cells, Decision, Job, PlainBoard};
 use rules::{Flag, ReadVerdict};
 use std::alloc::{AllocError, Global};
 
-fn read_flag(verdict: ReadVerdict) -> Flag
-    ensures { result ≡ rule.read_flag verdict }
-{
-    match verdict {
-        ReadVerdict::Good => Flag::Valid,
-        ReadVerdict::Stale => Flag::MvccReadConflict,
-        ReadVerdict::Phantom => Flag::PhantomReadConflict,
-    }
-}
-
 /// Whether candidate i passes the endorsement rule.
 fn endorsed(job: &Job<'_>, i: u32, board: &mut PlainBoard) -> bool
     requires place { i < length job.now.candidates }
@@ -62,7 +52,7 @@ fn cells(job: &Job<'_>, i: u32, board: &mut PlainBoard) -> (bool, Flag)
     if !endorsed {
         return (endorsed, Flag::EndorsementPolicyFailure);
     }
-    (endorsed, read_flag(read_verdict(job, i, board)))
+    (endorsed, read_verdict(job, i, board).flag())
 }
 
 /// The flags of a job's candidates, taken one by one in order. Costs what the two checks of each cost.
