@@ -1,8 +1,9 @@
-ghost use Rattle.std.specs.Prelude.{◌≡◌, map, IfOk, OnOk, OnErr};
+ghost use Rattle.std.specs.Prelude.{◌≡◌, [], map, IfOk, OnOk, OnErr};
 ghost use Rattle.std.specs.Option.{option_copied};
 ghost use Rattle.rules.specs.Delta.{applied};
 ghost use Rattle.rules.specs.World.{empty_world, height_of, last_header_hash};
 ghost use Rattle.rules.specs.Answers.{row_answer, range_answer, history_answer, first_use_answer, block_answer};
+ghost use Rattle.txid_index.specs.Marks.{marks};
 
 use crate::deltas::{add_entries, add_uses, batch_of, share_entries};
 use crate::range::{RangeAnswer, up_to};
@@ -112,6 +113,14 @@ impl World {
         ensures { result ≡ first_use_answer self.now id.now }
     {
         self.ids.first_use(id)
+    }
+
+    /// For each place of a block whether its id was used before: in a block of this ledger, or at an earlier place. One
+    /// pass, constant time and memory for a place.
+    pub fn mark(&self, alloc: Global, ids: &[Option<TxId>]) -> Result<Vec<bool>, AllocError>
+        ensures { IfOk result (λ used. used.items ≡ marks self.now.first_uses [] ids.now) }
+    {
+        self.ids.mark(alloc, ids)
     }
 
     /// The value writes and deletes of a key, lent newest first. Constant time, and so is each step but for
