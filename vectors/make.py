@@ -16,7 +16,7 @@ import sample
 import signatures
 
 CRATES = pathlib.Path(__file__).resolve().parent.parent / "crates"
-CHAIN = CRATES / "plain_tests/src/vectors"
+CHAIN = CRATES / "ledger_tests/src/vectors"
 HEADERS = CRATES / "bytes_tests/src/header_hashes"
 SAMPLE = CRATES / "fabcommit"
 SIGNATURES = CRATES / "command_line_tests/src/signatures"

@@ -1,2 +1,4 @@
+pub mod Changed
 pub mod Contents
+pub mod NextDelta
 pub mod Submissions

@@ -1,18 +1,22 @@
-ghost use Rattle.std.specs.Prelude.{◌≡◌, IfOk, OnErr};
+ghost use Rattle.std.specs.Prelude.{◌≡◌, IfOk, OnErr, MatchResult};
 ghost use Rattle.rules.specs.World.{empty_world};
+ghost use Rattle.rules.specs.Linked.{IsRefused};
 ghost use Rattle.rules.specs.Step.{Step};
 ghost use Rattle.rules.specs.Chain.{Chain};
+ghost use Rattle.commit.specs.NextDelta.{IsNextDelta};
 ghost use Rattle.commit.specs.Submissions.{submissions};
 
+use crate::next_delta::delta_of_linked;
+use block_steps::{check_linked, data_hash, decoded};
 use channel::Channel;
-use plain::World;
 use policy_eval::Verify;
-use rules::{Accepted, Refused};
+use rules::{Accepted, Delta, Refused};
 use std::alloc::{AllocError, Global};
 use std::marker::Model;
 use values::{Bytes, Items};
+use world::World;
 
-/// The ledger of one channel, which takes blocks one by one. A contract sees its channel and its
+/// The ledger of one channel, which takes blocks one by one, on one thread. A contract sees its channel and its
 /// world.
 #[derive(Drop)]
 pub struct Ledger {
@@ -54,13 +58,48 @@ impl Ledger {
         &self.world
     }
 
-    /// Takes the bytes of the next block: accepts them, or refuses them and changes nothing. Costs what
-    /// `plain::submit` says.
+    /// What the block of these bytes would change, or why it would be refused. Changes nothing itself.
+    pub fn delta<V: Verify>(&self, bytes: &[u8], verifier: &V) -> Result<Delta, Refused>
+        ensures { MatchResult result (IsNextDelta self.now.channel (V.accepts verifier.now) self.now.world bytes.now) (IsRefused self.now.world bytes.now) }
+    {
+        let block = decoded(self.alloc, bytes)?;
+        let data_hash = data_hash(block.txs.as_slice());
+        check_linked(
+            self.world.height(),
+            self.world.header_hash(),
+            &block,
+            data_hash,
+        )?;
+        Ok(delta_of_linked(
+            self.alloc,
+            &self.channel,
+            &self.world,
+            bytes,
+            &block,
+            verifier,
+        )?)
+    }
+
+    /// Takes the bytes of the next block: accepts them, or refuses them and changes nothing.
+    ///
+    /// Linear in the block, with a logarithm of its keys and of the rows of the state: its bytes are hashed, the
+    /// signatures of its creators and endorsers verified, the keys that it writes sorted, each that it reads or writes
+    /// looked up. A read costs besides a step for each earlier transaction of the block that operates on its key, up to
+    /// the first valid one that decides; a range the rows and written keys in its bounds. Memory for the block and what it
+    /// changes, and for what it adds to the ledger.
     pub fn submit_one<V: Verify>(&mut self, bytes: &[u8], verifier: &V) -> Result<Accepted, Refused>
         ensures step { Step self.old.channel (V.accepts verifier.now) self.old.world bytes.now result self.new.world }
         ensures channel { self.new.channel ≡ self.old.channel }
     {
-        plain::submit(self.alloc, &self.channel, &mut self.world, bytes, verifier)
+        let delta = self.delta(bytes, verifier)?;
+        let block = delta.block.get();
+        let accepted = Accepted {
+            number: self.world.height(),
+            header_hash: block.header_hash,
+            flags: block.flags.copy(self.alloc)?,
+        };
+        self.world.apply(&delta)?;
+        Ok(accepted)
     }
 
     /// Takes the bytes of blocks one after the other, each as `submit_one` does, and answers to all.

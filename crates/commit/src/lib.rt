@@ -2,8 +2,9 @@
 #![tactic(auto)]
 
 mod ledger;
+mod next_delta;
 
 pub use channel::{Channel, ChannelFault};
 pub use ledger::Ledger;
-pub use plain::World;
-pub use rules::{Accepted, CommittedBlock, Flag, Refused};
+pub use rules::{Accepted, CommittedBlock, Delta, Flag, Refused};
+pub use world::World;

@@ -2,12 +2,13 @@
 
 use crate::failed::Failed;
 use channel::{Channel, ChannelFault};
-use plain::{World, submit};
+use commit::Ledger;
 use policy_eval::Verify;
 use rules::{Flag, Refused, Row};
 use std::alloc::{AllocError, Global};
 use transaction::{Identity, Version};
 use values::{Key, Name, is_key, is_name};
+use world::World;
 
 pub const CHANNEL: &str = "channel ch
 chaincode cc OR('Org1.peer','Org2.peer')
@@ -56,7 +57,7 @@ pub fn row_at<'a>(
 ) -> Result<Option<&'a Row>, Failed> {
     let namespace = name(alloc, namespace)?;
     let at = key(alloc, at)?;
-    Ok(world.row(&namespace, &at))
+    Ok(world.row(&namespace.lend(), &at.lend()))
 }
 
 pub fn policy_text(alloc: Global, row: &Row) -> Result<String, AllocError> {
@@ -74,23 +75,21 @@ fn numbers(alloc: Global, flags: &[Flag]) -> Result<Vec<u8>, AllocError> {
     Ok(numbers)
 }
 
-/// A channel with its world.
+/// A ledger of that channel.
 #[derive(Drop)]
 pub struct Peer {
-    channel: Channel,
-    world: World,
+    ledger: Ledger,
 }
 
 impl Peer {
     pub fn open(alloc: Global) -> Result<Peer, ChannelFault> {
         Ok(Peer {
-            channel: Channel::read(alloc, CHANNEL)?,
-            world: World::new(alloc),
+            ledger: Ledger::open(alloc, Channel::read(alloc, CHANNEL)?),
         })
     }
 
     pub fn world(&self) -> &World {
-        &self.world
+        self.ledger.view()
     }
 
     /// Takes the next block, and answers the numbers of its flags.
@@ -100,12 +99,12 @@ impl Peer {
         bytes: &[u8],
         verifier: &V,
     ) -> Result<Vec<u8>, Refused> {
-        let accepted = submit(alloc, &self.channel, &mut self.world, bytes, verifier)?;
+        let accepted = self.ledger.submit_one(bytes, verifier)?;
         Ok(numbers(alloc, accepted.flags.as_slice())?)
     }
 
-    pub fn refusal_of(&mut self, alloc: Global, bytes: &[u8]) -> Option<Refused> {
-        submit(alloc, &self.channel, &mut self.world, bytes, &SaysOk).err()
+    pub fn refusal_of(&mut self, bytes: &[u8]) -> Option<Refused> {
+        self.ledger.submit_one(bytes, &SaysOk).err()
     }
 
     /// Takes the next block, and tells whether its flags have these numbers.
@@ -122,7 +121,7 @@ impl Peer {
         version: Version,
         policy: &str,
     ) -> Result<bool, Failed> {
-        match row_at(alloc, &self.world, namespace, at)? {
+        match row_at(alloc, self.world(), namespace, at)? {
             None => Ok(false),
             Some(row) => Ok(row.version == version && policy_text(alloc, row)?.as_str() == policy),
         }

@@ -5,9 +5,9 @@ use crate::fixture::{key, name, policy_text, row_at};
 use crate::vectors::rows::rows;
 use crate::vectors::uses::uses;
 use crate::vectors::{Left, read_use};
-use plain::World;
 use rules::{HistoryEntry, Row};
 use std::alloc::{AllocError, Global};
+use world::World;
 
 pub fn show_row(alloc: Global, shown: &mut Vec<u8>, row: Option<&Row>) -> Result<(), AllocError> {
     let Some(row) = row else {
@@ -47,8 +47,7 @@ pub fn show_history(
 ) -> Result<(), Failed> {
     let namespace = name(alloc, left.namespace)?;
     let at = key(alloc, left.key)?;
-    let entries = world.history(alloc, &namespace, &at)?;
-    for entry in &entries {
+    for entry in world.history(&namespace.lend(), &at.lend()) {
         show_entry(shown, entry)?;
     }
     Ok(())

@@ -8,9 +8,9 @@ use crate::vectors::later_blocks::later_blocks;
 use crate::vectors::rows::rows;
 use crate::vectors::uses::uses;
 use crate::vectors::{Committed, Left, LeftRow, Used, read_use};
-use plain::World;
 use rules::{CommittedBlock, FirstUse};
 use std::alloc::{AllocError, Global};
+use world::World;
 
 fn take_all(alloc: Global, peer: &mut Peer, blocks: &[Committed]) -> Result<(), Failed> {
     for block in blocks {

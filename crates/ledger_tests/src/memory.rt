@@ -23,7 +23,7 @@ fn refused_memory_changes_nothing(rt: HostRuntime) -> Result<(), Failed> {
     let [first, block] = *three_transactions();
     let mut peer = after(alloc, &[first], &[0])?;
     let before = shown(alloc, peer.world())?;
-    if let Some(refused) = peer.refusal_of(alloc, block) {
+    if let Some(refused) = peer.refusal_of(block) {
         assert!(rt; is_as_wanted(alloc, &peer, refused, &before)?);
         assert!(rt; peer.is_taken(alloc, block, &[0, 0, 0])?);
     }

@@ -1,5 +1,5 @@
-//! Tests of the serial committer and of the ledger over it. Its blocks were made by scripts or are put together here,
-//! and their answers come from a committer in Python or were worked out by hand.
+//! Tests of the ledger. Its blocks were made by scripts or are put together here, and their answers come from a committer
+//! in Python, were worked out by hand, or are those of the plain committer.
 #![tactic(auto)]
 
 #[cfg(test)]

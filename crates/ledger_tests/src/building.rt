@@ -4,11 +4,11 @@ use crate::failed::Failed;
 use crate::fixture::Peer;
 use block::{Block, Header, Previous, encode_block};
 use header_hash::{DataHasher, tx_id};
-use plain::World;
 use policy_eval::Verify;
 use std::alloc::{AllocError, Global};
 use transaction::EncodeFault;
 use values::{Bytes, Hash, Items};
+use world::World;
 
 // Spelled identities: organization, role, label.
 pub const CREATOR: &[u8] = b"\x04Org1\x01\x02c0";

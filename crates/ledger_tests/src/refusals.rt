@@ -27,7 +27,7 @@ fn is_refused(
     bytes: &[u8],
     want: Refused,
 ) -> Result<bool, Failed> {
-    let answer = peer.refusal_of(alloc, bytes);
+    let answer = peer.refusal_of(bytes);
     Ok(answer == Some(want) && shown(alloc, peer.world())?.as_slice() == before)
 }
 

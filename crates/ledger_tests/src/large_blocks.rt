@@ -62,6 +62,6 @@ fn a_transaction_that_is_too_long(rt: HostRuntime) -> Result<(), Failed> {
     let mut peer = Peer::open(alloc)?;
     let bytes = too_long(alloc)?;
     let want = Refused::Malformed(BlockFault::TxTooLong);
-    assert!(rt; peer.refusal_of(alloc, &bytes) == Some(want));
+    assert!(rt; peer.refusal_of(&bytes) == Some(want));
     Ok(())
 }
