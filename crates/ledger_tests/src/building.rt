@@ -18,7 +18,7 @@ pub const P0: &[u8] = b"\x04Org1\x02\x02p0";
 pub const Q0: &[u8] = b"\x04Org2\x02\x02q0";
 
 // What `SaysOk` accepts, behind its length.
-const OK: &[u8] = b"\0\x02ok";
+pub const OK: &[u8] = b"\0\x02ok";
 
 // The body of a transaction of this chaincode, with these namespaces behind their count.
 pub fn body(
@@ -74,7 +74,7 @@ fn header_of(world: &World, txs: &[Bytes]) -> Header {
 }
 
 // The bytes of the next block, of these transactions.
-fn next_block(alloc: Global, world: &World, txs: &[Bytes]) -> Result<Bytes, EncodeFault> {
+pub fn next_block(alloc: Global, world: &World, txs: &[Bytes]) -> Result<Bytes, EncodeFault> {
     let header = header_of(world, txs);
     let mut lent = Items::new(alloc);
     for tx in txs {

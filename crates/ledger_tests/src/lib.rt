@@ -3,6 +3,8 @@
 #![tactic(auto)]
 
 #[cfg(test)]
+mod alike;
+#[cfg(test)]
 mod building;
 #[cfg(test)]
 mod chain;
@@ -22,6 +24,8 @@ mod long_block;
 mod memory;
 #[cfg(test)]
 mod policy_writes;
+#[cfg(test)]
+mod random_txs;
 #[cfg(test)]
 mod reading;
 #[cfg(test)]
