@@ -1,6 +1,5 @@
 mod FinalChanges
 mod FlagLists
 mod NextStates
-mod Pieces
 mod Places
 mod WrittenKeys

@@ -8,24 +8,16 @@ ghost use Rattle.rules.specs.Delta.{change_of, changes_in};
 ghost use Rattle.effects.specs.Rows.{change_at, changes_at};
 
 use crate::written_rows::{WrittenRow, written_rows};
+use block_steps::change_to;
 use candidates::{StateKey, keys_have_one_order};
 use key_chains::Job;
-use rules::{Change, Flag, KeyedRow, Row};
+use rules::{Change, Flag, Row};
 use std::alloc::{AllocError, Global};
-use values::Shared;
 
-/// The change of a key to a row, or to none.
-fn change_to(alloc: Global, key: &StateKey<'_>, row: Option<Row>) -> Result<Change, AllocError>
+fn key_change(alloc: Global, key: &StateKey<'_>, row: Option<Row>) -> Result<Change, AllocError>
     ensures { IfOk result (λ c. change_of c ≡ (key.now, row)) }
 {
-    let (namespace, key) = (key.namespace(), key.key());
-    match row {
-        None => Ok(Change::Remove(namespace.copy(alloc)?, key.copy(alloc)?)),
-        Some(row) => {
-            let row = KeyedRow::new(alloc, &namespace, &key, row)?;
-            Ok(Change::Put(Shared::new(alloc, row)?))
-        }
-    }
+    change_to(alloc, &key.namespace(), &key.key(), row)
 }
 
 fn add_change(
@@ -37,7 +29,7 @@ fn add_change(
     ensures { OnOk result (changes_in changes.new.items ≡ changes_in changes.old.items ++ change_at key.now written) }
 {
     if let Some(row) = written {
-        changes.push(change_to(alloc, key, row)?)?;
+        changes.push(key_change(alloc, key, row)?)?;
     }
     Ok(())
 }

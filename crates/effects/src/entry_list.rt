@@ -1,75 +1,16 @@
 //! The history entries of a block.
-ghost use Rattle.std.specs.Prelude.{◌≡◌, ◌<◌, ◌+◌, ◌++◌, length, map, IfOk, OnOk};
+ghost use Rattle.std.specs.Prelude.{◌≡◌, ◌<◌, ◌+◌, length, IfOk, OnOk};
 ghost use Rattle.rules.specs.Delta.{entries_in};
-ghost use Rattle.rules.specs.History as history;
 ghost use Rattle.rules.specs.Job.{version_of};
 ghost use Rattle.rules.specs.Fold as fold;
 ghost use Rattle.rules.specs.Fold.{entries_to};
 
+use block_steps::entries_of;
 use key_chains::Job;
-use rules::{Flag, HistoryEntry, NewEntry};
+use rules::{Flag, NewEntry};
 use std::alloc::{AllocError, Global};
-use transaction::{NsSet, Tx, Version, Write};
-use values::{Bytes, NameRef, Shared, Slice};
-
-fn copy_value(alloc: Global, value: &Option<Slice<'_>>) -> Result<Option<Shared<Bytes>>, AllocError>
-    ensures { IfOk result (λ copied. copied ≡ value.now) }
-{
-    match value {
-        None => Ok(None),
-        Some(value) => Ok(Some(Shared::new(alloc, value.copy(alloc)?)?)),
-    }
-}
-
-fn entry_of(
-    alloc: Global,
-    version: Version,
-    tx: &Tx<'_>,
-    namespace: &NameRef<'_>,
-    write: &Write<'_>,
-) -> Result<Shared<NewEntry>, AllocError>
-    ensures { IfOk result (λ e. e ≡ record { namespace = namespace.now; key = write.now.key; entry = record { version = version; id = tx.now.id; value = write.now.value } }) }
-{
-    let entry = NewEntry {
-        namespace: namespace.copy(alloc)?,
-        key: write.key.copy(alloc)?,
-        entry: HistoryEntry {
-            version,
-            id: tx.id,
-            value: copy_value(alloc, &write.value)?,
-        },
-    };
-    Shared::new(alloc, entry)
-}
-
-fn add_entries_in(
-    alloc: Global,
-    entries: &mut Vec<Shared<NewEntry>>,
-    version: Version,
-    tx: &Tx<'_>,
-    set: &NsSet<'_>,
-) -> Result<(), AllocError>
-    ensures { OnOk result (entries_in entries.new.items ≡ entries_in entries.old.items ++ map (λ w. ((set.now.name, w.key), record { version = version; id = tx.now.id; value = w.value })) set.now.writes) }
-{
-    for write in set.writes.as_slice() {
-        entries.push(entry_of(alloc, version, tx, &set.name, write)?)?;
-    }
-    Ok(())
-}
-
-fn add_entries(
-    alloc: Global,
-    entries: &mut Vec<Shared<NewEntry>>,
-    version: Version,
-    tx: &Tx<'_>,
-) -> Result<(), AllocError>
-    ensures { OnOk result (entries_in entries.new.items ≡ entries_in entries.old.items ++ history.entries_of version tx.now) }
-{
-    for set in tx.namespaces.as_slice() {
-        add_entries_in(alloc, entries, version, tx, set)?;
-    }
-    Ok(())
-}
+use transaction::Version;
+use values::Shared;
 
 /// Takes candidate i, whose flag this is.
 fn take(
@@ -93,7 +34,7 @@ fn take(
                 block: job.number(),
                 tx: i,
             };
-            add_entries(alloc, entries, version, &open_tx.tx)
+            entries_of(alloc, entries, version, &open_tx.tx)
         }
     }
 }

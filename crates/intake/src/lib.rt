@@ -2,11 +2,8 @@
 //! then, with the ids that are used, what each is.
 #![tactic(auto)]
 
-mod linking;
-mod origin;
 mod placing;
 mod taking;
 
-pub use linking::{check_linked, data_hash, decoded};
 pub use placing::{candidates_of, ids_of};
 pub use taking::{Taken, take_in};

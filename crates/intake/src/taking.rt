@@ -8,7 +8,7 @@ ghost use Rattle.candidates.specs.Seen.{seen};
 ghost use Rattle.candidates.specs.SetsFault.{sets_fault};
 ghost use Rattle.intake.specs.Place.{taken_of, shown};
 
-use crate::origin::{decoded_tx, origin_fault};
+use block_steps::{decoded_tx, origin_fault};
 use candidates::{Candidate, InForm};
 use channel::Channel;
 use policy::Definitions;

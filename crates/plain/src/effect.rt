@@ -1,22 +1,22 @@
-//! What a valid transaction makes of the state and of the history.
-ghost use Rattle.std.specs.Prelude.{◌≡◌, ◌++◌, map, find, Some, None, IfOk, OnOk};
+//! What a valid transaction makes of the state.
+ghost use Rattle.std.specs.Prelude.{◌≡◌, find, Some, None, IfOk};
 ghost use Rattle.std.specs.Option.{option_copied};
 ghost use Rattle.std.specs.FinMap.{get};
 ghost use Rattle.std.specs.Str.{bytes_eq};
-ghost use Rattle.rules.specs.Delta.{change_of, changes_in, entries_in};
+ghost use Rattle.rules.specs.Delta.{change_of, changes_in};
 ghost use Rattle.rules.specs.Effect as effect;
-ghost use Rattle.rules.specs.History as history;
 ghost use Rattle.plain.specs.Keys.{key_of};
 ghost use Rattle.plain.specs.StateNow.{state_now};
 
 use crate::candidate::OpenTx;
 use crate::state::StateNow;
 use crate::state_key::StateKey;
+use block_steps::{change_to, policy_kept, share_row, with_policy};
 use policy::{Policy, PolicyFault};
-use rules::{Change, HistoryEntry, KeyedRow, NewEntry, Row};
+use rules::{Change, Row};
 use std::alloc::{AllocError, Global};
 use transaction::{NsSet, PolicyWrite, Tx, Version, Write};
-use values::{Bytes, KeyRef, NameRef, Shared, Slice};
+use values::{KeyRef, NameRef, Shared};
 
 fn set_of<'a>(tx: &'a Tx<'a>, namespace: &NameRef<'_>) -> Option<&'a NsSet<'a>>
     ensures { option_copied result ≡ effect.set_of tx.now namespace.now }
@@ -60,15 +60,6 @@ fn policy_write_of<'a>(tx: &'a Tx<'a>, key: &StateKey<'_>) -> Option<&'a PolicyW
     }
 }
 
-fn share_policy(policy: &Option<Shared<Policy>>) -> Result<Option<Shared<Policy>>, AllocError>
-    ensures { IfOk result (λ shared. shared ≡ policy.now) }
-{
-    match policy {
-        None => Ok(None),
-        Some(policy) => Ok(Some(policy.share()?)),
-    }
-}
-
 fn policy_left(alloc: Global, write: &PolicyWrite<'_>) -> Result<Option<Shared<Policy>>, AllocError>
     ensures { IfOk result (λ policy. policy ≡ effect.policy_left write.now) }
 {
@@ -89,10 +80,9 @@ fn policy_after(
 ) -> Result<Option<Shared<Policy>>, AllocError>
     ensures { IfOk result (λ policy. policy ≡ effect.policy_after (option_copied write.entry) (option_copied row.entry)) }
 {
-    match (write, row) {
-        (Some(write), _) => policy_left(alloc, write),
-        (None, Some(row)) => share_policy(&row.policy),
-        (None, None) => Ok(None),
+    match write {
+        None => policy_kept(row),
+        Some(write) => policy_left(alloc, write),
     }
 }
 
@@ -123,27 +113,7 @@ fn policy_written(
 ) -> Result<Option<Row>, AllocError>
     ensures { IfOk result (λ after. after ≡ effect.row_after version None (Some policy_write.now) (option_copied row.entry)) }
 {
-    match row {
-        None => Ok(None),
-        Some(row) => Ok(Some(Row {
-            value: row.value.share()?,
-            version,
-            policy: policy_left(alloc, policy_write)?,
-        })),
-    }
-}
-
-fn share_row(row: Option<&Row>) -> Result<Option<Row>, AllocError>
-    ensures { IfOk result (λ shared. shared ≡ option_copied row.entry) }
-{
-    match row {
-        None => Ok(None),
-        Some(row) => Ok(Some(Row {
-            value: row.value.share()?,
-            version: row.version,
-            policy: share_policy(&row.policy)?,
-        })),
-    }
+    with_policy(version, policy_left(alloc, policy_write)?, row)
 }
 
 /// What the transaction makes of a key's row.
@@ -164,19 +134,6 @@ fn effect_at(
     }
 }
 
-/// The change of a key to a row, or to none.
-fn change_to(alloc: Global, key: &StateKey<'_>, row: Option<Row>) -> Result<Change, AllocError>
-    ensures { IfOk result (λ c. change_of c ≡ (key_of key.now, row)) }
-{
-    match row {
-        None => Ok(Change::Remove(key.namespace.copy(alloc)?, key.key.copy(alloc)?)),
-        Some(row) => {
-            let row = KeyedRow::new(alloc, &key.namespace, &key.key, row)?;
-            Ok(Change::Put(Shared::new(alloc, row)?))
-        }
-    }
-}
-
 fn change_at(
     alloc: Global,
     version: Version,
@@ -186,11 +143,8 @@ fn change_at(
 ) -> Result<Change, AllocError>
     ensures { IfOk result (λ c. change_of c ≡ (key_of key.now, effect.effect_at version tx.now (key_of key.now) (get (state_now state.entry) (key_of key.now)))) }
 {
-    change_to(
-        alloc,
-        key,
-        effect_at(alloc, version, tx, key, state.row(key))?,
-    )
+    let row = effect_at(alloc, version, tx, key, state.row(key))?;
+    change_to(alloc, &key.namespace, &key.key, row)
 }
 
 /// The changes of the state by a valid transaction.
@@ -207,64 +161,4 @@ pub(crate) fn changes_of(
         changes.push(change_at(alloc, version, &open_tx.tx, state, key)?)?;
     }
     Ok(changes)
-}
-
-fn copy_value(alloc: Global, value: &Option<Slice<'_>>) -> Result<Option<Shared<Bytes>>, AllocError>
-    ensures { IfOk result (λ copied. copied ≡ value.now) }
-{
-    match value {
-        None => Ok(None),
-        Some(value) => Ok(Some(Shared::new(alloc, value.copy(alloc)?)?)),
-    }
-}
-
-fn entry_of(
-    alloc: Global,
-    version: Version,
-    tx: &Tx<'_>,
-    namespace: &NameRef<'_>,
-    write: &Write<'_>,
-) -> Result<Shared<NewEntry>, AllocError>
-    ensures { IfOk result (λ e. e ≡ record { namespace = namespace.now; key = write.now.key; entry = record { version = version; id = tx.now.id; value = write.now.value } }) }
-{
-    let entry = NewEntry {
-        namespace: namespace.copy(alloc)?,
-        key: write.key.copy(alloc)?,
-        entry: HistoryEntry {
-            version,
-            id: tx.id,
-            value: copy_value(alloc, &write.value)?,
-        },
-    };
-    Shared::new(alloc, entry)
-}
-
-fn add_entries(
-    alloc: Global,
-    entries: &mut Vec<Shared<NewEntry>>,
-    version: Version,
-    tx: &Tx<'_>,
-    set: &NsSet<'_>,
-) -> Result<(), AllocError>
-    ensures { OnOk result (entries_in entries.new.items ≡ entries_in entries.old.items ++ map (λ w. ((set.now.name, w.key), record { version = version; id = tx.now.id; value = w.value })) set.now.writes) }
-{
-    for write in set.writes.as_slice() {
-        entries.push(entry_of(alloc, version, tx, &set.name, write)?)?;
-    }
-    Ok(())
-}
-
-/// The history entries of a valid transaction, in its order, behind those that are there.
-pub(crate) fn entries_of(
-    alloc: Global,
-    entries: &mut Vec<Shared<NewEntry>>,
-    version: Version,
-    tx: &Tx<'_>,
-) -> Result<(), AllocError>
-    ensures { OnOk result (entries_in entries.new.items ≡ entries_in entries.old.items ++ history.entries_of version tx.now) }
-{
-    for set in tx.namespaces.as_slice() {
-        add_entries(alloc, entries, version, tx, set)?;
-    }
-    Ok(())
 }

@@ -13,12 +13,13 @@ ghost use Rattle.plain.specs.Seen.{seen, job_over};
 ghost use Rattle.plain.specs.Taking.{state_in, next_flag, IsRunning, IsTaken, IsFolded};
 
 use crate::candidate::{Candidate, OpenTx};
-use crate::effect::{changes_of, entries_of};
+use crate::effect::changes_of;
 use crate::endorsement::is_endorsed;
 use crate::reads::read_verdict;
 use crate::state::StateNow;
 use crate::state_key::{StateKey, add_policy_keys};
 use crate::world::World;
+use block_steps::entries_of;
 use policy::Definitions;
 use rules::{Change, Flag, NewEntry, ReadVerdict};
 use std::alloc::{AllocError, Global};

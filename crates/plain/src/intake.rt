@@ -6,9 +6,7 @@ ghost use Rattle.transaction.specs.Decoded.{tx_of};
 ghost use Rattle.std.specs.List.{list_any};
 ghost use Rattle.std.specs.Str.{bytes_eq};
 ghost use Rattle.policy_eval.specs.Signers.{signers_of};
-ghost use Rattle.transaction.specs.Grammar.{identity_bytes, signed_bytes};
 ghost use Rattle.transaction.specs.Spelled.{IsSpelled};
-ghost use Rattle.header_hash.specs.Hashes.{tx_id_of};
 ghost use Rattle.rules.specs.Candidate as candidate;
 ghost use Rattle.plain.specs.Keys.{keys_of};
 ghost use Rattle.plain.specs.Seen.{seen};
@@ -17,58 +15,14 @@ use crate::candidate::{Candidate, OpenTx};
 use crate::sets::is_in_form;
 use crate::state_key::{StateKey, written_keys};
 use crate::world::World;
+use block_steps::{decoded_tx, origin_fault};
 use channel::Channel;
-use header_hash::tx_id;
 use policy::Definitions;
 use policy_eval::{Verify, signers};
 use rules::Flag;
 use std::alloc::{AllocError, Global};
-use transaction::{SpelledTx, Tx, TxFault, TxId, decode_tx};
+use transaction::{Tx, TxId};
 use values::{NameRef, Slice};
-
-/// The transaction that the bytes spell, or none.
-fn decoded_tx(alloc: Global, bytes: &[u8]) -> Result<Option<SpelledTx<'_>>, AllocError>
-    ensures { IfOk result (λ tx. tx ≡ tx_of bytes.now) }
-{
-    match decode_tx(alloc, bytes) {
-        Ok(tx) => Ok(Some(tx)),
-        Err(TxFault::Form) => Ok(None),
-        Err(TxFault::Memory) => Err(AllocError),
-    }
-}
-
-/// Whether its id is that of its nonce and creator.
-fn has_own_id(tx: &SpelledTx<'_>) -> bool
-    ensures { result ≡ bytes_eq tx.now.id (tx_id_of tx.now.nonce (identity_bytes tx.now.creator)) }
-{
-    tx.tx().id == tx_id(tx.tx().nonce.as_slice(), tx.creator_bytes())
-}
-
-fn is_signed<V: Verify>(verifier: &V, tx: &SpelledTx<'_>) -> bool
-    ensures { result ≡ V.accepts verifier.now tx.now.creator (signed_bytes tx.now) tx.now.signature }
-{
-    verifier.verify(
-        &tx.tx().creator,
-        tx.creator_message(),
-        tx.tx().signature.as_slice(),
-    )
-}
-
-/// A fault in where the transaction comes from.
-fn origin_fault<V: Verify>(channel: &Channel, verifier: &V, tx: &SpelledTx<'_>) -> Option<Flag>
-    ensures { result ≡ candidate.origin_fault channel.now (V.accepts verifier.now) tx.now }
-{
-    if !tx.tx().channel.is_same(&channel.name().lend()) {
-        return Some(Flag::TargetChainNotFound);
-    }
-    if !is_signed(verifier, tx) {
-        return Some(Flag::BadCreatorSignature);
-    }
-    if !has_own_id(tx) {
-        return Some(Flag::BadProposalTxId);
-    }
-    None
-}
 
 fn is_defined(definitions: &Definitions, namespace: &NameRef<'_>) -> bool
     ensures { result ≡ candidate.is_defined definitions.now namespace.now }

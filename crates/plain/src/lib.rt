@@ -7,7 +7,6 @@ mod effect;
 mod endorsement;
 mod fold;
 mod intake;
-mod linking;
 mod ranges;
 mod reads;
 mod sets;

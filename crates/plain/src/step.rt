@@ -1,50 +1,31 @@
-ghost use Rattle.std.specs.Prelude.{◌≡◌, ◌<◌, ◌≤◌, ◌^◌, length, map, IfOk};
+ghost use Rattle.std.specs.Prelude.{◌≡◌, ◌≤◌, length, map, IfOk, MatchResult};
 ghost use Rattle.block.specs.Limits.{max_txs};
 ghost use Rattle.rules.specs.Candidate.{used_id};
 ghost use Rattle.rules.specs.Commit.{txs_of, job_of, uses_from};
 ghost use Rattle.rules.specs.Delta.{uses_in};
-ghost use Rattle.rules.specs.Fold as fold;
-ghost use Rattle.rules.specs.Job.{Job};
+ghost use Rattle.rules.specs.Linked.{IsLinked, IsUnlinked};
 ghost use Rattle.rules.specs.Step.{Step};
 ghost use Rattle.rules.specs.World.{height_of};
 ghost use Rattle.plain.specs.Taking.{IsFolded};
 
 use crate::fold::{Folded, fold};
 use crate::intake::take_in;
-use crate::linking::{check_linked, decoded};
 use crate::world::World;
 use block::Block;
+use block_steps::{check_linked, data_hash, decoded, kept, uses_of};
 use channel::Channel;
 use header_hash::header_hash;
 use policy_eval::Verify;
-use rules::{Accepted, CommittedBlock, Delta, FirstUse, Flag, NewUse, Refused};
+use rules::{Accepted, Delta, NewUse, Refused};
 use std::alloc::{AllocError, Global};
-use transaction::TxId;
-use values::{Bytes, Hash, Items, Shared};
+use values::Items;
 
-/// Where the ids of a block's places are used, each with the place's flag.
-fn uses_of(
-    alloc: Global,
-    block: u64,
-    ids: &[Option<TxId>],
-    flags: &[Flag],
-) -> Result<Vec<NewUse>, AllocError>
-    requires same { length ids.now ≡ length flags.now }
-    requires few { length ids.now < 2 ^ 32 }
-    ensures { IfOk result (λ uses. (j : Job) → j.number ≡ block → flags.now ≡ fold.flags j → uses_in uses.items ≡ uses_from j 0 ids.now) }
+/// Whether the block is the next one of the world; else the first reason why it isn't.
+fn check_next(world: &World, block: &Block<'_>) -> Result<(), Refused>
+    ensures { MatchResult result (λ _. IsLinked world.now block.now) (IsUnlinked world.now block.now) }
 {
-    let mut uses = Vec::new(alloc);
-    for (place, id) in ids.iter().enumerate() {
-        if let Some(id) = id {
-            let first_use = FirstUse {
-                block,
-                place: place as u32,
-                flag: flags[place],
-            };
-            uses.push(NewUse { id: *id, first_use })?;
-        }
-    }
-    Ok(uses)
+    let data_hash = data_hash(block.txs.as_slice());
+    check_linked(world.height(), world.header_hash(), block, data_hash)
 }
 
 /// What the transactions of the next block give, and where their ids are used.
@@ -76,25 +57,6 @@ fn taken<V: Verify>(
     Ok((folded, uses))
 }
 
-/// The block as it is kept.
-fn kept(
-    alloc: Global,
-    bytes: &[u8],
-    header_hash: Hash,
-    flags: Items<Flag>,
-) -> Result<Shared<CommittedBlock>, AllocError>
-    ensures { IfOk result (λ kept. kept ≡ record { bytes = bytes.now; header_hash = header_hash; flags = flags }) }
-{
-    Shared::new(
-        alloc,
-        CommittedBlock {
-            bytes: Bytes::from_slice(alloc, bytes)?,
-            header_hash,
-            flags,
-        },
-    )
-}
-
 /// Takes the bytes of the next block of a channel: accepts them, or refuses them and changes nothing.
 ///
 /// Slow, with no cleverness at all. Each look-up of a row goes through all changes that the world ever made, so that a
@@ -111,7 +73,7 @@ pub fn submit<V: Verify>(
     ensures { Step channel.now (V.accepts verifier.now) world.old bytes.now result world.new }
 {
     let block = decoded(alloc, bytes)?;
-    check_linked(world, &block)?;
+    check_next(world, &block)?;
     let number = block.header.number;
     let header_hash = header_hash(&block.header);
     let (folded, uses) = taken(alloc, channel, verifier, world, &block)?;

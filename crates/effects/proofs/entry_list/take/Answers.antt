@@ -15,8 +15,8 @@ returns-in-None c before =
 
 pub returns-in-Some : goal.returns-in-Some
 returns-in-Some c =
-    IfOk-weaker c.add_entries.result _ _
+    IfOk-weaker c.entries_of.result _ _
     (λ _ more before.
     more ∙ (λ m. before m ++ entries_of (record { block = c.number.ensures m; tx = c.args.i }) c.in-Some.open_tx.now.tx)
     ∙ entries-opened c.args.job.now c.args.i c.in-Some.open_tx.now (ap is_valid (sym c.requires.flag) ∙ sym c.is_valid.ensures ∙ c.if-not-is_valid.false) c.in-Some.ensures.tx)
-    c.add_entries.ensures
+    c.entries_of.ensures

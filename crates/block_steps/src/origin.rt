@@ -14,7 +14,7 @@ use std::alloc::{AllocError, Global};
 use transaction::{SpelledTx, TxFault, decode_tx};
 
 /// The transaction that the bytes spell, or none.
-pub(crate) fn decoded_tx(alloc: Global, bytes: &[u8]) -> Result<Option<SpelledTx<'_>>, AllocError>
+pub fn decoded_tx(alloc: Global, bytes: &[u8]) -> Result<Option<SpelledTx<'_>>, AllocError>
     ensures { IfOk result (λ tx. tx ≡ tx_of bytes.now) }
 {
     match decode_tx(alloc, bytes) {
@@ -44,11 +44,7 @@ fn has_own_id(tx: &SpelledTx<'_>) -> bool
 
 /// The first fault in where it comes from: its channel, its creator's signature, its id. The verifier is called where
 /// the channel is this one, the id is hashed where it accepts.
-pub(crate) fn origin_fault<V: Verify>(
-    channel: &Channel,
-    verifier: &V,
-    tx: &SpelledTx<'_>,
-) -> Option<Flag>
+pub fn origin_fault<V: Verify>(channel: &Channel, verifier: &V, tx: &SpelledTx<'_>) -> Option<Flag>
     ensures { result ≡ candidate.origin_fault channel.now (V.accepts verifier.now) tx.now }
 {
     if !tx.tx().channel.is_same(&channel.name().lend()) {

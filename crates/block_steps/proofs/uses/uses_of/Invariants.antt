@@ -3,7 +3,7 @@ use Rattle.rules.specs.Commit.{uses_from}
 use Rattle.rules.specs.Delta.{uses_in}
 use Rattle.rules.specs.Fold.{flags}
 use Rattle.rules.specs.Job.{Job}
-use Rattle.plain.proofs.step.uses_of.Given as goal
+use Rattle.block_steps.proofs.uses.uses_of.Given as goal
 
 abbrev pub invariant-loop-place : goal.invariant-loop-place
 invariant-loop-place l =

@@ -1,7 +1,7 @@
 use Rattle.std.proofs.Common.{refl}
-use Rattle.plain.proofs.Uses.{no_use_more, use_more}
-use Rattle.plain.proofs.step.uses_of.Goals as goal
-use Rattle.plain.proofs.step.uses_of.Goals.{in-Some+in_ok-push, in_default}
+use Rattle.block_steps.proofs.UseLists.{no_use_more, use_more}
+use Rattle.block_steps.proofs.uses.uses_of.Goals as goal
+use Rattle.block_steps.proofs.uses.uses_of.Goals.{in-Some+in_ok-push, in_default}
 
 pub loop-place-preserved : goal.loop-place-preserved
 loop-place-preserved c = λ j number are.

@@ -1,6 +1,6 @@
 use Rattle.std.proofs.Common.{◌≡◌, ◌++◌, take, map}
 use Rattle.rules.specs.Delta.{entries_in}
-use Rattle.effects.proofs.entry_list.add_entries_in.Given as goal
+use Rattle.block_steps.proofs.entries.add_entries.Given as goal
 
 abbrev pub invariant-loop-write : goal.invariant-loop-write
 invariant-loop-write l =

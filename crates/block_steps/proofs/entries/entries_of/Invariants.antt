@@ -1,7 +1,7 @@
 use Rattle.std.proofs.Common.{◌≡◌, ◌++◌, take, map}
 use Rattle.std.specs.Prelude.{flat_map}
 use Rattle.rules.specs.Delta.{entries_in}
-use Rattle.plain.proofs.effect.entries_of.Given as goal
+use Rattle.block_steps.proofs.entries.entries_of.Given as goal
 
 abbrev pub invariant-loop-set : goal.invariant-loop-set
 invariant-loop-set l =
