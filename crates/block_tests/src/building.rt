@@ -1,0 +1,193 @@
+//! From a case to the job that the checks are asked about.
+use crate::cases::{BLOCK, DEFINITIONS, JobCase, KEYS, LETTERS, NAMESPACES, RowCase, Rule, TxCase};
+use crate::failed::Failed;
+use crate::spelling::{spelled, text_of};
+use block::MAX_TXS;
+use key_chains::{Candidate, Job};
+use policy::{Definitions, Policy};
+use policy_eval::{Verify, signers};
+use rules::{Flag, Row};
+use state_db::{Batch, StateDb};
+use std::alloc::{AllocError, Global};
+use transaction::{Identity, decode_tx};
+use values::{Bytes, Key, Name, Shared, is_key, is_name};
+
+// Accepts every signature.
+struct Trusting;
+
+impl Verify for Trusting {
+    ghost use Rattle.std.specs.Prelude.{true};
+
+    ghost accepts = { λ _ _ _ _. true };
+
+    fn verify(&self, _identity: &Identity<'_>, _message: &[u8], _signature: &[u8]) -> bool {
+        true
+    }
+}
+
+pub fn name(alloc: Global, namespace: usize) -> Result<Name, Failed> {
+    let bytes = if namespace == 0 { b"cc" } else { b"dd" };
+    if !is_name(bytes) {
+        return Err(Failed::Missing("a name"));
+    }
+    Ok(Name::from_slice(alloc, bytes)?)
+}
+
+pub fn key(alloc: Global, letter: u8) -> Result<Key, Failed> {
+    let bytes = [letter];
+    if !is_key(&bytes) {
+        return Err(Failed::Missing("a key"));
+    }
+    Ok(Key::from_slice(alloc, &bytes)?)
+}
+
+fn policy_of(alloc: Global, rule: Rule) -> Result<Policy, Failed> {
+    Ok(Policy::parse_bytes(alloc, text_of(rule))?)
+}
+
+fn shared_policy(alloc: Global, rule: Option<Rule>) -> Result<Option<Shared<Policy>>, Failed> {
+    match rule {
+        None => Ok(None),
+        Some(rule) => Ok(Some(Shared::new(alloc, policy_of(alloc, rule)?)?)),
+    }
+}
+
+fn row_of(alloc: Global, row: RowCase) -> Result<Row, Failed> {
+    Ok(Row {
+        value: Shared::new(alloc, Bytes::from_slice(alloc, b"before")?)?,
+        version: row.version,
+        policy: shared_policy(alloc, row.policy)?,
+    })
+}
+
+fn put_row(
+    alloc: Global,
+    batch: &mut Batch,
+    namespace: usize,
+    letter: u8,
+    row: RowCase,
+) -> Result<(), Failed> {
+    let row = row_of(alloc, row)?;
+    Ok(batch.put(name(alloc, namespace)?, key(alloc, letter)?, row)?)
+}
+
+fn put_rows(
+    alloc: Global,
+    batch: &mut Batch,
+    namespace: usize,
+    rows: &[Option<RowCase>; KEYS],
+) -> Result<(), Failed> {
+    for k in 0..KEYS {
+        if let Some(row) = rows[k] {
+            put_row(alloc, batch, namespace, LETTERS[k], row)?;
+        }
+    }
+    Ok(())
+}
+
+fn batch_of(alloc: Global, case: &JobCase) -> Result<Batch, Failed> {
+    let mut batch = Batch::new(alloc);
+    for n in 0..NAMESPACES {
+        put_rows(alloc, &mut batch, n, &case.rows[n])?;
+    }
+    Ok(batch)
+}
+
+// The state before the block.
+fn state_of(alloc: Global, case: &JobCase) -> Result<StateDb, Failed> {
+    let mut state = StateDb::new(alloc);
+    let batch = batch_of(alloc, case)?;
+    state.apply(&batch)?;
+    Ok(state)
+}
+
+fn define(
+    alloc: Global,
+    definitions: &mut Definitions,
+    namespace: usize,
+    rule: Rule,
+) -> Result<(), Failed> {
+    let name = name(alloc, namespace)?;
+    Ok(definitions.set(&name, policy_of(alloc, rule)?)?)
+}
+
+fn definitions(alloc: Global) -> Result<Definitions, Failed> {
+    let mut definitions = Definitions::new(alloc);
+    for n in 0..NAMESPACES {
+        define(alloc, &mut definitions, n, DEFINITIONS[n])?;
+    }
+    Ok(definitions)
+}
+
+fn bytes_of(alloc: Global, case: &JobCase) -> Result<Vec<Bytes>, AllocError> {
+    let mut all = Vec::new(alloc);
+    for tx in case.txs.iter().take(case.count) {
+        all.push(spelled(alloc, tx)?)?;
+    }
+    Ok(all)
+}
+
+fn opened<'a>(
+    alloc: Global,
+    definitions: &Definitions,
+    bytes: &'a [u8],
+) -> Result<Candidate<'a>, Failed> {
+    let tx = decode_tx(alloc, bytes)?.into_tx();
+    let signers = signers(alloc, &tx, &Trusting)?;
+    Ok(Candidate::open(alloc, tx, signers, definitions)?)
+}
+
+// An open one is to be opened.
+fn candidate_of<'a>(
+    alloc: Global,
+    definitions: &Definitions,
+    tx: &TxCase,
+    bytes: &'a [u8],
+) -> Result<Candidate<'a>, Failed> {
+    if !tx.is_open {
+        return Ok(Candidate::Flagged(Flag::BadPayload));
+    }
+    match opened(alloc, definitions, bytes)? {
+        Candidate::Flagged(_) => Err(Failed::Missing("an open transaction")),
+        opened => Ok(opened),
+    }
+}
+
+fn candidates_of<'a>(
+    alloc: Global,
+    definitions: &Definitions,
+    case: &JobCase,
+    bytes: &'a [Bytes],
+) -> Result<Vec<Candidate<'a>>, Failed> {
+    let mut candidates = Vec::new(alloc);
+    for (tx, bytes) in case.txs.iter().zip(bytes) {
+        candidates.push(candidate_of(alloc, definitions, tx, bytes.as_slice())?)?;
+    }
+    Ok(candidates)
+}
+
+/// What a job lends from.
+#[derive(Drop)]
+pub struct Ground {
+    state: StateDb,
+    definitions: Definitions,
+    bytes: Vec<Bytes>,
+}
+
+impl Ground {
+    pub fn of(alloc: Global, case: &JobCase) -> Result<Ground, Failed> {
+        Ok(Ground {
+            state: state_of(alloc, case)?,
+            definitions: definitions(alloc)?,
+            bytes: bytes_of(alloc, case)?,
+        })
+    }
+
+    pub fn job(&self, alloc: Global, case: &JobCase) -> Result<Job<'_>, Failed> {
+        let candidates = candidates_of(alloc, &self.definitions, case, &self.bytes)?;
+        if candidates.as_slice().len() > MAX_TXS {
+            return Err(Failed::Missing("a job"));
+        }
+        Ok(Job::build(alloc, BLOCK, &self.state, &self.definitions, candidates)?)
+    }
+}

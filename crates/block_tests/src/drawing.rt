@@ -1,0 +1,215 @@
+//! Jobs and boards at random, always the same ones.
+
+use crate::cases::{
+    BLOCK, FLAGGED, JobCase, KEYS, KeyPlace, KeyUse, LETTERS, NAMESPACES, NOTHING, NewValue, Query,
+    RowCase, Rule, SetCase, Signed, TXS, TxCase, UNUSED_SET,
+};
+use crate::sure::KnownCase;
+use rules::Flag;
+use transaction::Version;
+
+/// Keys of a namespace that transactions use; the others have rows at most.
+const USED_KEYS: usize = 3;
+
+/// A linear congruence.
+#[derive(Drop)]
+pub struct Random {
+    state: u64,
+}
+
+impl Random {
+    pub fn new() -> Random {
+        Random { state: 20261123 }
+    }
+
+    fn next(&mut self) -> u64 {
+        self.state = self
+            .state
+            .wrapping_mul(6364136223846793005)
+            .wrapping_add(1442695040888963407);
+        self.state >> 33
+    }
+
+    // Yes once in so many times.
+    fn once_in(&mut self, times: u64) -> bool {
+        self.next() % times.max(1) == 0
+    }
+
+    fn rule(&mut self) -> Rule {
+        match self.next() % 4 {
+            0 => Rule::First,
+            1 => Rule::Second,
+            2 => Rule::Both,
+            _ => Rule::Either,
+        }
+    }
+
+    fn row(&mut self) -> Option<RowCase> {
+        if self.once_in(3) {
+            return None;
+        }
+        let version = Version {
+            block: 0,
+            tx: (self.next() % 2) as u32,
+        };
+        let policy = if self.once_in(2) {
+            Some(self.rule())
+        } else {
+            None
+        };
+        Some(RowCase { version, policy })
+    }
+
+    // Mostly that of the row; else absent, or one of the block.
+    fn version(&mut self, row: Option<RowCase>) -> Option<Version> {
+        match self.next() % 6 {
+            0 => None,
+            1 | 2 => Some(Version {
+                block: BLOCK,
+                tx: (self.next() % 6) as u32,
+            }),
+            _ => match row {
+                None => None,
+                Some(row) => Some(row.version),
+            },
+        }
+    }
+
+    fn value(&mut self) -> Option<NewValue> {
+        match self.next() % 8 {
+            0 | 1 => Some(NewValue::Put),
+            2 => Some(NewValue::Delete),
+            _ => None,
+        }
+    }
+
+    fn policy(&mut self) -> Option<Option<Rule>> {
+        match self.next() % 10 {
+            0 => Some(None),
+            1 => Some(Some(self.rule())),
+            _ => None,
+        }
+    }
+
+    fn key_use(&mut self, row: Option<RowCase>) -> KeyUse {
+        KeyUse {
+            read: if self.once_in(4) {
+                Some(self.version(row))
+            } else {
+                None
+            },
+            value: self.value(),
+            policy: self.policy(),
+        }
+    }
+
+    // A bound at a key, between two, or none.
+    fn bound(&mut self) -> Option<u8> {
+        match self.next() % 8 {
+            0 | 1 => None,
+            2 => Some(b'a'),
+            3 => Some(b'b'),
+            4 => Some(b'd'),
+            5 => Some(b'e'),
+            6 => Some(b'f'),
+            _ => Some(b'k'),
+        }
+    }
+
+    // A range whose results lie in it.
+    fn query(&mut self, rows: &[Option<RowCase>; KEYS]) -> Query {
+        let mut query = Query {
+            start: self.bound(),
+            end: self.bound(),
+            exhausted: self.once_in(2),
+            results: [None; KEYS],
+        };
+        for k in 0..KEYS {
+            if query.is_in_bounds(LETTERS[k]) && !self.once_in(12) {
+                query.results[k] = self.result(rows[k]);
+            }
+        }
+        query
+    }
+
+    fn result(&mut self, row: Option<RowCase>) -> Option<Version> {
+        if self.once_in(6) {
+            return self.version(row);
+        }
+        match row {
+            None => None,
+            Some(row) => Some(row.version),
+        }
+    }
+
+    fn set(&mut self, rows: &[Option<RowCase>; KEYS]) -> SetCase {
+        let mut set = UNUSED_SET;
+        for k in 0..USED_KEYS {
+            set.uses[k] = self.key_use(rows[k]);
+        }
+        if self.once_in(3) {
+            set.query = Some(self.query(rows));
+        }
+        set
+    }
+
+    fn tx(&mut self, rows: &[[Option<RowCase>; KEYS]; NAMESPACES]) -> TxCase {
+        let mut tx = FLAGGED;
+        tx.is_open = !self.once_in(8);
+        tx.signed = Signed {
+            first: !self.once_in(4),
+            second: !self.once_in(4),
+        };
+        for n in 0..NAMESPACES {
+            tx.sets[n] = self.set(&rows[n]);
+        }
+        tx
+    }
+
+    pub fn job(&mut self) -> JobCase {
+        let mut case = NOTHING;
+        for n in 0..NAMESPACES {
+            for k in 0..KEYS {
+                case.rows[n][k] = self.row();
+            }
+        }
+        case.count = 1 + (self.next() % 6) as usize;
+        for i in 0..TXS {
+            if i < case.count {
+                case.txs[i] = self.tx(&case.rows);
+            }
+        }
+        case
+    }
+
+    fn flag(&mut self) -> Flag {
+        match self.next() % 6 {
+            0 => Flag::EndorsementPolicyFailure,
+            1 => Flag::MvccReadConflict,
+            2 => Flag::PhantomReadConflict,
+            _ => Flag::Valid,
+        }
+    }
+
+    /// What is known: all, much or little.
+    pub fn known(&mut self) -> KnownCase {
+        let unknown = 4 * (self.next() % 4);
+        let mut known = KnownCase {
+            endorsed: [None; TXS],
+            flags: [None; TXS],
+        };
+        for h in 0..TXS {
+            if self.next() % 16 >= unknown {
+                known.endorsed[h] = Some(!self.once_in(3));
+            }
+            if self.next() % 16 >= unknown {
+                known.flags[h] = Some(self.flag());
+            }
+        }
+        known
+    }
+
+    pub fn place(&mut self) -> KeyPlace {
+        KeyPlace::new((self.next() % 2) as usize, (self.next() % 3) as usize)
+    }
+}
