@@ -14,6 +14,8 @@ pub const KEYS: [&[u8]; 5] = [b"a", b"ab", b"b", b"c", b"\xff"];
 // The last has no definition.
 pub const NAMESPACES: [&[u8]; 4] = [b"cc", b"dd", b"both", b"zz"];
 
+const PEERS: [&[u8]; 2] = [P0, Q0];
+
 const BAD: &[u8] = b"\0\x02no";
 
 const POLICIES: [&[u8]; 4] = [
@@ -217,17 +219,16 @@ fn namespaces(alloc: Global, random: &mut Random, world: &World) -> Result<Vec<u
     Ok(bytes)
 }
 
-// By no peer, by one, by both, or by one whose signature is bad.
+// By no peer, by one or by both; seldom with a bad signature.
 fn put_endorsements(bytes: &mut Vec<u8>, random: &mut Random) -> Result<(), AllocError> {
-    let endorsers: &[&[u8]] = match random.below(8) {
-        0 => &[],
-        1 => &[Q0],
-        2 => &[P0],
-        _ => &[P0, Q0],
+    let (first, count) = match random.below(8) {
+        0 => (0, 0),
+        1 => (1, 1),
+        2 => (0, 1),
+        _ => (0, 2),
     };
-    let [.., count] = endorsers.len().to_be_bytes();
     bytes.push(count)?;
-    for endorser in endorsers {
+    for endorser in PEERS.iter().skip(first).take(count as usize) {
         bytes.extend_from_slice(endorser)?;
         bytes.extend_from_slice(if random.one_of(16) { BAD } else { OK })?;
     }
