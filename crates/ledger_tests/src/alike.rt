@@ -13,7 +13,7 @@ use channel::Channel;
 use commit::Ledger;
 use header_hash::tx_id;
 use random_numbers::Random;
-use rules::{Accepted, CommittedBlock, HistoryEntry, Refused, Row};
+use rules::{Accepted, CommittedBlock, Flag, HistoryEntry, Refused, Row};
 use std::alloc::Global;
 use transaction::TxId;
 use values::{Bytes, Shared};
@@ -85,6 +85,14 @@ fn is_same_block(one: Option<&CommittedBlock>, other: Option<&CommittedBlock>) -
     }
 }
 
+fn count(given: &mut [u32; 26], flags: &[Flag]) {
+    for flag in flags {
+        if let Some(times) = given.get_mut(flag.number() as usize) {
+            *times = times.saturating_add(1);
+        }
+    }
+}
+
 impl Pair {
     fn open(alloc: Global) -> Result<Pair, Failed> {
         Ok(Pair {
@@ -95,21 +103,13 @@ impl Pair {
         })
     }
 
-    fn note(&mut self, answer: &Result<Accepted, Refused>) {
-        if let Ok(accepted) = answer {
-            for flag in accepted.flags.as_slice() {
-                if let Some(count) = self.given.get_mut(flag.number() as usize) {
-                    *count = count.saturating_add(1);
-                }
-            }
-        }
-    }
-
     // Hands the bytes to both, and tells whether they answer alike.
     fn take(&mut self, alloc: Global, bytes: &[u8]) -> bool {
         let slow = plain::submit(alloc, &self.channel, &mut self.plain, bytes, &SaysOk);
         let fast = self.ledger.submit_one(bytes, &SaysOk);
-        self.note(&fast);
+        if let Ok(accepted) = &fast {
+            count(&mut self.given, accepted.flags.as_slice());
+        }
         is_same_answer(&fast, &slow)
     }
 
