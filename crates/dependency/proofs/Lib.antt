@@ -1,0 +1,3 @@
+mod Stepping
+mod Reaching
+mod Beginning

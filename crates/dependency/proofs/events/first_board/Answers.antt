@@ -1,0 +1,15 @@
+use Rattle.std.proofs.Common.{◌<◌, length, arith}
+use Rattle.dependency.proofs.Beginning.{begun-flagged, begun-open, begun-all}
+use Rattle.dependency.proofs.events.first_board.Goals as goal
+use Rattle.dependency.proofs.events.first_board.Goals.{in-Some, in_default}
+
+pub loop-i-preserved : goal.loop-i-preserved
+loop-i-preserved c =
+    let lt : c.loop-i.i < length c.args.job.now.candidates = omega (arith, c.len-count.ensures.value) in
+    elim c.match-flagged.branch [
+      | in-Some w ↦ begun-flagged c.args.job.now c.loop-i.i w.in-Some.flag c.loop-i.board w.set.new.self c.match-flagged.board c.loop-i.invariant lt w.in-Some.ensures w.set.ensures w.board-is
+      | in_default w ↦ begun-open c.args.job.now c.loop-i.i c.loop-i.board c.match-flagged.board w.in_default.ensures.0 w.in_default.ensures.1 c.loop-i.invariant w.in_default.ensures.2 w.board-is
+    ]
+
+pub returns : goal.returns
+returns c = begun-all c.args.job.now c.loop-i.i c.loop-i.board c.loop-i.invariant (omega (arith, c.len-count.ensures.value))

@@ -1,0 +1,49 @@
+ghost use Rattle.std.specs.Prelude.{◌≡◌, length, map, IfOk};
+ghost use Rattle.rules.specs.Machine.{first_board, Run, ShowsFold};
+ghost use Rattle.dependency.specs.Rows.{first_cells};
+
+use crate::checking::check;
+use crate::event_board::EventBoard;
+use key_chains::{Cells, Job, PlainBoard};
+use rules::Event;
+use std::alloc::{AllocError, Global};
+
+/// What is known before any check: the flagged candidates' cells.
+fn first_board(alloc: Global, job: &Job<'_>) -> Result<PlainBoard, AllocError>
+    ensures { IfOk result (λ b. b ≡ map first_cells job.now.candidates) }
+{
+    let count = job.len();
+    let mut board = PlainBoard::new(alloc, count as usize)?;
+    for i in 0..count {
+        if let Some(flag) = job.flagged(i) {
+            board.set(
+                i,
+                Cells {
+                    endorsed: Some(false),
+                    flag: Some(flag),
+                },
+            );
+        }
+    }
+    Ok(board)
+}
+
+/// What these checks of a job's candidates find, in this order. The flagged candidates' cells are known at first.
+///
+/// An endorsement check makes its cell known where a verdict is sure. So does a read check, once the endorsement's is
+/// known; where that is no, the flag is `EndorsementPolicyFailure`. A check that comes too early or twice, or whose
+/// number is out of range, changes nothing. Whatever the checks and their order, each known cell is the verdict of the
+/// candidates taken one by one. Costs what each check costs.
+pub fn run_events(alloc: Global, job: &Job<'_>, events: &[Event]) -> Result<EventBoard, AllocError>
+    ensures run { IfOk result (λ b. Run job.now (first_board job.now) events.now b) }
+    ensures fold { IfOk result (λ b. ShowsFold job.now b) }
+{
+    let mut board = first_board(alloc, job)?;
+    for event in events {
+        check(job, *event, &mut board);
+    }
+    Ok(EventBoard {
+        cells: board,
+        count: job.len(),
+    })
+}

@@ -1,0 +1,9 @@
+//! The verdicts of one block, found by whatever checks are asked for, in whatever order.
+#![tactic(auto)]
+
+mod checking;
+mod event_board;
+mod events;
+
+pub use event_board::{EventBoard, NOT_VALIDATED};
+pub use events::run_events;
