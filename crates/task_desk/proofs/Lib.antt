@@ -1,0 +1,9 @@
+mod Worked
+mod StatusAt
+mod Keeping
+mod Readiness
+mod OneBit
+mod Members
+mod Linking
+mod Counting
+mod Parking

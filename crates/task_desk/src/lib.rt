@@ -1,0 +1,15 @@
+//! The tasks of one block and where each of them is: ready, out, parked on another one, or done.
+//!
+//! Task 2i is the endorsement check of transaction i, and task 2i + 1 its read check.
+#![tactic(auto)]
+
+mod bit_set;
+mod desk;
+mod laws;
+mod status;
+mod statuses;
+mod wait_lists;
+
+pub use desk::Desk;
+pub use laws::{calls_keep_a_desk, some_task_is_ready};
+pub use status::Status;
