@@ -12,7 +12,7 @@ use Rattle.task_desk.proofs.StatusAt.{at_set, at_other, at_woken, inside}
 
 -- ---- a new desk
 
-ready_or_done : (n t : ℕ) → (status_at (replicate n Ready) t ≡ Ready) ⊎ (status_at (replicate n Ready) t ≡ Done)
+pub ready_or_done : (n t : ℕ) → (status_at (replicate n Ready) t ≡ Ready) ⊎ (status_at (replicate n Ready) t ≡ Done)
 ready_or_done n t = by (leb_tells n t)
   where
     by : ((leb n t ≡ true) × (n ≤ t)) ⊎ ((leb n t ≡ false) × (t < n)) → (status_at (replicate n Ready) t ≡ Ready) ⊎ (status_at (replicate n Ready) t ≡ Done)

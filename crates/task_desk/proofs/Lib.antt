@@ -4,6 +4,7 @@ mod Keeping
 mod Readiness
 mod OneBit
 mod Members
+mod Grouping
 mod Linking
 mod Counting
 mod Parking

@@ -95,7 +95,7 @@ pub no-lists : (next : List ℕ) (n : ℕ) → map (list_of next) (replicate n (
 no-lists next zero = refl
 no-lists next (suc n) = ap (λ ls. [] ∷ ls) (no-lists next n)
 
-empty_at : (n g : ℕ) → list_at (replicate n []) g ≡ []
+pub empty_at : (n g : ℕ) → list_at (replicate n []) g ≡ []
 empty_at n g = by (leb_tells n g)
   where
     by : ((leb n g ≡ true) × (n ≤ g)) ⊎ ((leb n g ≡ false) × (g < n)) → list_at (replicate n []) g ≡ []

@@ -1,6 +1,6 @@
 -- The numbers in a set of words.
-use Rattle.std.proofs.Common.{◌≡◌, ◌≢◌, ◌⊎◌, inl, inr, ℕ, ◌+◌, ◌*◌, ◌/◌, ◌%◌, ◌<◌, ◌≤◌, eqb, leb, Bool, true, false, cond, List, length, set, get_or, refl, sym, ap, ◌∙◌, arith}
-use Rattle.std.specs.Prelude.{◌==◌, slice_index, slice_index_or, replicate}
+use Rattle.std.proofs.Common.{◌≡◌, ◌≢◌, ◌⊎◌, inl, inr, ℕ, ◌+◌, ◌*◌, ◌/◌, ◌%◌, ◌<◌, ◌≤◌, eqb, leb, Bool, true, false, cond, Option, Some, None, List, length, set, get_or, refl, sym, ap, ◌∙◌, arith}
+use Rattle.std.specs.Prelude.{◌==◌, slice_index, slice_index_or, replicate, MatchOption}
 use Rattle.std.specs.Int.{bit_at}
 use Rattle.std.proofs.Math.ListN.{get_or-eq_default}
 use Rattle.std.proofs.lemmas.Bool.Decides.{eqb_tells, leb_tells}
@@ -8,6 +8,7 @@ use Rattle.std.proofs.lemmas.Nat.Bits.{bit_at-zero}
 use Rattle.std.proofs.lemmas.List.{get_or-set_same, get_or-set_other, length-set, length-replicate, get_or-replicate, same_lists}
 use Rattle.std.proofs.lemmas.List.FromFn.{get_or-map-range_with_len, length-map-range_with_len}
 use Rattle.task_desk.specs.Bits.{is_set, members, HasWords, IsLeast, IsEmpty}
+use Rattle.task_desk.specs.Groups.{NoneIn, IsFirstIn}
 
 pub members-length : (words : List ℕ) (count : ℕ) → length (members words count) ≡ count
 members-length words count = length-map-range_with_len (is_set words) 0 count
@@ -153,3 +154,33 @@ first_set words i bit small one zeros below = (
         let less : j % 64 < bit = omega (arith, le, lt, here) in
         ap (λ (n : ℕ). bit_at (slice_index words n) (j % 64) == 1) here ∙ ap (λ (x : ℕ). x == 1) (zeros (j % 64) less)
     by j lt (inr d) = below j d.1
+
+-- ---- the least of one word
+
+pub none_in_word : (words : List ℕ) (i : ℕ) → slice_index words i ≡ 0 → (k : ℕ) → k / 64 ≡ i → is_set words k ≡ false
+none_in_word words i zero_there k place = zero_word words k (ap (slice_index words) place ∙ zero_there)
+
+pub first_in_word : (words : List ℕ) (i bit : ℕ) → bit < 64 → bit_at (slice_index words i) bit ≡ 1 → ((b : ℕ) → b < bit → bit_at (slice_index words i) b ≡ 0)
+    → ((64 * i + bit) / 64 ≡ i) × (is_set words (64 * i + bit) ≡ true) × ((j : ℕ) → j < 64 * i + bit → j / 64 ≡ i → is_set words j ≡ false)
+first_in_word words i bit small one zeros = (
+  quotient,
+  ap (λ (n : ℕ). bit_at (slice_index words n) ((64 * i + bit) % 64) == 1) quotient ∙ ap (λ (n : ℕ). bit_at (slice_index words i) n == 1) rest ∙ ap (λ (x : ℕ). x == 1) one,
+  λ j lt here. ap (λ (n : ℕ). bit_at (slice_index words n) (j % 64) == 1) here ∙ ap (λ (x : ℕ). x == 1) (zeros (j % 64) (omega (arith, lt, here))),
+)
+  where
+    quotient : (64 * i + bit) / 64 ≡ i
+    quotient = omega arith
+
+    rest : (64 * i + bit) % 64 ≡ bit
+    rest = omega arith
+
+-- the same of the members
+pub word-members : (words : List ℕ) (count i : ℕ) (o : Option ℕ) → HasWords words count
+    → MatchOption o ((k : ℕ) → k / 64 ≡ i → is_set words k ≡ false) (λ k. (k / 64 ≡ i) × (is_set words k ≡ true) × ((j : ℕ) → j < k → j / 64 ≡ i → is_set words j ≡ false))
+    → MatchOption o (NoneIn (members words count) i) (λ k. IsFirstIn (members words count) i k)
+word-members words count i None has none = λ k place. members-at words count k has ∙ none k place
+word-members words count i (Some k) has first = record {
+  place = first.0;
+  member = members-at words count k has ∙ first.1;
+  least = λ j lt place. members-at words count j has ∙ first.2 j lt place;
+}

@@ -1,17 +1,18 @@
 -- The wait lists keep to the statuses, whatever call is made.
 use Rattle.std.proofs.Common.{◌≡◌, ◌≢◌, ◌⊎◌, inl, inr, ℕ, suc, ◌+◌, ◌<◌, ◌≤◌, eqb, Bool, true, false, cond, ◌||◌, List, [], ◌∷◌, length, map, set, refl, sym, ap, subst, ◌∙◌, arith}
-use Rattle.std.specs.Prelude.{count_by}
+use Rattle.std.specs.Prelude.{count_by, replicate}
 use Rattle.std.proofs.lemmas.Bool.Decides.{eqb_tells}
-use Rattle.std.proofs.lemmas.List.{length-set, length-map, get_or_default, same_lists}
+use Rattle.std.proofs.lemmas.List.{length-set, length-map, length-replicate, get_or_default, same_lists}
 use Rattle.std.proofs.lemmas.List.Sums.{count_by-le-length}
 use Rattle.task_desk.specs.declared.status.Status.{Status}
 use Rattle.task_desk.specs.declared.status.Status.TheVariants.{Ready, Handed, Out, Parked, Done}
-use Rattle.task_desk.specs.Status.{is_ready, is_out, is_parked_on, status_at}
+use Rattle.task_desk.specs.Status.{is_ready, is_unhanded, is_out, is_parked_on, status_at}
 use Rattle.task_desk.specs.Desk.{woken, with_done}
 use Rattle.task_desk.specs.Waiting.{has, list_at, with_ready, AreWaiting}
 use Rattle.task_desk.specs.Links.{AreBelow}
 use Rattle.task_desk.proofs.StatusAt.{at_set, at_other, at_woken, inside}
-use Rattle.task_desk.proofs.Linking.{same_test, list_at-set, list_at-other}
+use Rattle.task_desk.proofs.Keeping.{ready_or_done}
+use Rattle.task_desk.proofs.Linking.{same_test, list_at-set, list_at-other, empty_at}
 use Rattle.task_desk.proofs.Counting.{count-set, count-map}
 
 abbrev pub IsFree : Status → Type 0
@@ -23,6 +24,13 @@ ready-free Handed is h = refl
 ready-free Out is h = refl
 ready-free (Parked g) is h = absurd cc
 ready-free Done is h = refl
+
+pub unhanded-ready : (s : Status) → is_unhanded s ≡ true → is_ready s ≡ true
+unhanded-ready Ready is = refl
+unhanded-ready Handed is = refl
+unhanded-ready Out is = absurd cc
+unhanded-ready (Parked g) is = absurd cc
+unhanded-ready Done is = absurd cc
 
 pub out-free : (s : Status) → is_out s ≡ true → IsFree s
 out-free Ready is h = refl
@@ -206,6 +214,9 @@ list-fits tasks lists h waiting = let once = waiting.once h in let small = waiti
 pub ready-waiting : (tasks : List Status) (lists : List (List ℕ)) (t : ℕ) (v : Status) → AreWaiting tasks lists → is_ready (status_at tasks t) ≡ true → IsFree v → AreWaiting (set tasks t v) lists
 ready-waiting tasks lists t v waiting ready free = waiting-set tasks lists t v waiting (inside is_ready tasks t refl ready) (ready-free (status_at tasks t) ready) free
 
+pub unhanded-waiting : (tasks : List Status) (lists : List (List ℕ)) (t : ℕ) (v : Status) → AreWaiting tasks lists → is_unhanded (status_at tasks t) ≡ true → IsFree v → AreWaiting (set tasks t v) lists
+unhanded-waiting tasks lists t v waiting unhanded free = waiting-set tasks lists t v waiting (inside is_unhanded tasks t refl unhanded) (ready-free (status_at tasks t) (unhanded-ready (status_at tasks t) unhanded)) free
+
 -- one that is out is ready again, or done
 pub out-waiting : (tasks : List Status) (lists : List (List ℕ)) (t : ℕ) (v : Status) → AreWaiting tasks lists → is_out (status_at tasks t) ≡ true → IsFree v → AreWaiting (set tasks t v) lists
 out-waiting tasks lists t v waiting out free = waiting-set tasks lists t v waiting (inside is_out tasks t refl out) (out-free (status_at tasks t) out) free
@@ -222,3 +233,20 @@ pub done-waiting : (tasks : List Status) (lists : List (List ℕ)) (t : ℕ) →
 done-waiting tasks lists t waiting out =
     waiting-woken (set tasks t Done) lists t (out-waiting tasks lists t Done waiting out (λ h. refl))
     (let lt = inside is_out tasks t refl out in let count = waiting.count in omega (arith, count, lt))
+
+-- ---- a new desk
+
+pub new-waiting : (n : ℕ) (tasks : List Status) (lists : List (List ℕ)) → n ≤ 8192 → tasks ≡ replicate n Ready → lists ≡ replicate n [] → AreWaiting tasks lists
+new-waiting n tasks lists small is_tasks is_lists = record {
+  small = omega (arith, long);
+  count = ap (λ (ls : List (List ℕ)). length ls) is_lists ∙ length-replicate {A = List ℕ} n [] ∙ sym long;
+  parked = λ h t. ap (λ (ls : List (List ℕ)). has (list_at ls h) t) is_lists ∙ ap (λ (ts : List ℕ). has ts t) (empty_at n h) ∙ sym (ap (λ (ts : List Status). is_parked_on h (status_at ts t)) is_tasks ∙ free h t (ready_or_done n t));
+  once = λ h. let none : length (list_at lists h) ≡ 0 = ap (λ (ls : List (List ℕ)). length (list_at ls h)) is_lists ∙ ap (λ (ts : List ℕ). length ts) (empty_at n h) in omega (arith, none);
+}
+  where
+    long : length tasks ≡ n
+    long = ap (λ (ts : List Status). length ts) is_tasks ∙ length-replicate n Ready
+
+    free : (h t : ℕ) → (status_at (replicate n Ready) t ≡ Ready) ⊎ (status_at (replicate n Ready) t ≡ Done) → is_parked_on h (status_at (replicate n Ready) t) ≡ false
+    free h t (inl e) = ap (is_parked_on h) e
+    free h t (inr e) = ap (is_parked_on h) e

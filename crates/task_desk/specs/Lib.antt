@@ -1,6 +1,7 @@
 pub mod Status
 pub mod Desk
 pub mod Bits
+pub mod Groups
 pub mod Counted
 pub mod Waiting
 pub mod Links

@@ -1,7 +1,8 @@
 //! A set of numbers below a count, in words of 64 bits.
-ghost use Rattle.std.specs.Prelude.{◌≡◌, ℕ, ◌==◌, if◌then◌else◌, ◌<◌, ◌≤◌, ◌+◌, ◌*◌, ◌^◌, true, false, length, replicate, slice_set, IfOk, MatchOption};
+ghost use Rattle.std.specs.Prelude.{◌≡◌, ℕ, ◌==◌, if◌then◌else◌, ◌<◌, ◌≤◌, ◌+◌, ◌*◌, ◌/◌, ◌^◌, true, false, length, replicate, slice_set, IfOk, MatchOption};
 ghost use Rattle.std.specs.Int.{bit_at};
 ghost use Rattle.task_desk.specs.Bits.{is_set, IsLeast, IsEmpty};
+ghost use Rattle.task_desk.specs.Groups.{NoneIn, IsFirstIn};
 
 use std::alloc::{AllocError, Global};
 use std::marker::Model;
@@ -40,6 +41,20 @@ fn with_bit(word: u64, bit: u32, member: bool) -> u64
     } else {
         word & !(1 << bit)
     }
+}
+
+/// The least bit that is set of one word.
+fn first_in_word(words: &[u64], i: u32) -> Option<u32>
+    requires word { i < length words.now }
+    requires few { length words.now ≤ 128 }
+    ensures { MatchOption result ((k : ℕ) → k / 64 ≡ i → is_set words.now k ≡ false)
+        (λ k. (k / 64 ≡ i) × (is_set words.now k ≡ true) × ((j : ℕ) → j < k → j / 64 ≡ i → is_set words.now j ≡ false)) }
+{
+    let word = words[i as usize];
+    if word == 0 {
+        return None;
+    }
+    Some(64 * i + word.trailing_zeros())
 }
 
 /// The least bit that is set.
@@ -85,6 +100,14 @@ impl BitSet {
     {
         let word = &mut self.words[(k / 64) as usize];
         *word = with_bit(*word, k % 64, member);
+    }
+
+    /// The least number in the set of those from 64 * group on, before the next such group.
+    pub fn first_of(&self, group: u32) -> Option<u32>
+        requires { 64 * group < length self.now }
+        ensures { MatchOption result (NoneIn self.now group) (λ k. IsFirstIn self.now group k) }
+    {
+        first_in_word(self.words.as_slice(), group)
     }
 
     /// The least number in the set. Passes over a word for each 64 numbers.

@@ -56,7 +56,7 @@ impl Desk {
         })
     }
 
-    /// Takes some ready task out; none where none is ready. While a task isn't done and none is out, one is ready.
+    /// Takes some ready task out; none where none is ready. While a task isn't done and none is out, one is ready. Constant.
     pub fn take(&mut self) -> Option<u32>
         ensures taken { MatchOption result (NoneReady self.old × (self.new ≡ self.old))
             (λ t. (is_ready (status_at self.old t) ≡ true) × (self.new ≡ with_out self.old t)) }
@@ -103,6 +103,7 @@ impl Desk {
     }
 
     /// Hands the least ready task that wasn't handed since it became ready, which stays ready; none where there is none.
+    /// Constant.
     pub fn hand(&mut self) -> Option<u32>
         ensures { MatchOption result (NoneUnhanded self.old × (self.new ≡ self.old))
             (λ t. IsNext self.old t × (self.new ≡ with_handed self.old t)) }

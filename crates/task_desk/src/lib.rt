@@ -8,6 +8,7 @@ mod desk;
 mod laws;
 mod status;
 mod statuses;
+mod task_set;
 mod wait_lists;
 
 pub use desk::Desk;

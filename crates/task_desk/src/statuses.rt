@@ -5,8 +5,8 @@ ghost use Rattle.task_desk.specs.declared.status.Status.TheVariants.{Ready};
 ghost use Rattle.task_desk.specs.Status.{is_ready, is_out, is_done, status_at};
 ghost use Rattle.task_desk.specs.Desk.{NoneReady, NoneUnhanded, IsNext};
 
-use crate::bit_set::BitSet;
 use crate::status::Status;
+use crate::task_set::TaskSet;
 use std::alloc::{AllocError, Global};
 use std::marker::Model;
 
@@ -14,8 +14,8 @@ use std::marker::Model;
 #[derive(Drop)]
 pub(crate) struct Statuses {
     list: Vec<Status>,
-    ready: BitSet,
-    unhanded: BitSet,
+    ready: TaskSet,
+    unhanded: TaskSet,
     out: u32,
     undone: u32,
 }
@@ -54,8 +54,8 @@ impl Statuses {
         ensures { IfOk result (λ s. s ≡ replicate count Ready) }
     {
         let list = all_ready(alloc, count as usize)?;
-        let ready = BitSet::full(alloc, count)?;
-        let unhanded = BitSet::full(alloc, count)?;
+        let ready = TaskSet::full(alloc, count)?;
+        let unhanded = TaskSet::full(alloc, count)?;
         Ok(Statuses {
             list,
             ready,
