@@ -2,6 +2,7 @@ mod Worked
 mod StatusAt
 mod Keeping
 mod Readiness
+mod Reaching
 mod OneBit
 mod Members
 mod Grouping

@@ -1,5 +1,6 @@
 pub mod Status
 pub mod Desk
+pub mod Reached
 pub mod Bits
 pub mod Groups
 pub mod Counted

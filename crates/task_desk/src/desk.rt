@@ -56,7 +56,8 @@ impl Desk {
         })
     }
 
-    /// Takes some ready task out; none where none is ready. While a task isn't done and none is out, one is ready. Constant.
+    /// Takes some ready task out; none where none is ready. While a task isn't done and none is out, one is ready.
+    /// Constant.
     pub fn take(&mut self) -> Option<u32>
         ensures taken { MatchOption result (NoneReady self.old × (self.new ≡ self.old))
             (λ t. (is_ready (status_at self.old t) ≡ true) × (self.new ≡ with_out self.old t)) }

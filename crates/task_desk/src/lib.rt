@@ -12,5 +12,5 @@ mod task_set;
 mod wait_lists;
 
 pub use desk::Desk;
-pub use laws::{calls_keep_a_desk, some_task_is_ready};
+pub use laws::{calls_keep_a_desk, no_call_strands_a_task, some_task_is_ready};
 pub use status::Status;
