@@ -26,7 +26,11 @@ impl Verify for Trusting {
 }
 
 pub fn name(alloc: Global, namespace: usize) -> Result<Name, Failed> {
-    let bytes = if namespace == 0 { b"cc" } else { b"dd" };
+    let bytes = match namespace {
+        0 => b"cc",
+        1 => b"dd",
+        _ => b"ee",
+    };
     if !is_name(bytes) {
         return Err(Failed::Missing("a name"));
     }

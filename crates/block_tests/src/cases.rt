@@ -4,7 +4,7 @@ ghost use Rattle.std.specs.Prelude.{◌<◌};
 
 use transaction::Version;
 
-pub const NAMESPACES: usize = 2;
+pub const NAMESPACES: usize = 3;
 
 /// Keys of a namespace.
 pub const KEYS: usize = 6;
@@ -32,7 +32,7 @@ impl KeyPlace {
     }
 
     pub fn namespace(self) -> usize
-        ensures { result < 2 }
+        ensures { result < 3 }
     {
         self.namespace % NAMESPACES
     }
@@ -54,7 +54,7 @@ pub enum Rule {
 }
 
 /// The policy of the chaincode of each namespace. The first one is the named chaincode.
-pub const DEFINITIONS: [Rule; NAMESPACES] = [Rule::Either, Rule::Second];
+pub const DEFINITIONS: [Rule; NAMESPACES] = [Rule::Either, Rule::Second, Rule::First];
 
 /// Which of two peers has signed.
 #[derive(Clone, Copy)]

@@ -209,7 +209,8 @@ impl Random {
         known
     }
 
+    /// One of the keys that transactions use.
     pub fn place(&mut self) -> KeyPlace {
-        KeyPlace::new((self.next() % 2) as usize, (self.next() % 3) as usize)
+        KeyPlace::new((self.next() % 3) as usize, (self.next() % 3) as usize)
     }
 }

@@ -159,6 +159,7 @@ pub fn spelled(alloc: Global, tx: &TxCase) -> Result<Bytes, AllocError> {
     put_count(&mut bytes, NAMESPACES)?;
     put_set(&mut bytes, b"cc", &tx.sets[0])?;
     put_set(&mut bytes, b"dd", &tx.sets[1])?;
+    put_set(&mut bytes, b"ee", &tx.sets[2])?;
     put_signatures(&mut bytes, tx.signed)?;
     Ok(Bytes::from_vec(bytes))
 }
