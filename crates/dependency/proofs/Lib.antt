@@ -1,3 +1,4 @@
+mod Worked
 mod Stepping
 mod Reaching
 mod Beginning
