@@ -36,7 +36,7 @@ fn board_of(alloc: Global, job: &Job<'_>, known: &KnownCase) -> Result<PlainBoar
     Ok(board)
 }
 
-pub fn endorsement(
+fn endorsement(
     alloc: Global,
     job: &Job<'_>,
     known: &KnownCase,
@@ -49,7 +49,7 @@ pub fn endorsement(
     Ok(endorsement_check::decide(job, i, &mut board))
 }
 
-pub fn reads(
+fn reads(
     alloc: Global,
     job: &Job<'_>,
     known: &KnownCase,
@@ -62,7 +62,7 @@ pub fn reads(
     Ok(mvcc::decide(job, i, &mut board))
 }
 
-pub fn version(
+fn version(
     alloc: Global,
     job: &Job<'_>,
     known: &KnownCase,
@@ -77,4 +77,57 @@ pub fn version(
     let mut board = board_of(alloc, job, known)?;
     let at = StateKey::new(&namespace.lend(), &key.lend());
     Ok(mvcc::version_at(job, i, &at, &mut board))
+}
+
+/// What is said of a transaction by both checks, and of a key's version before it.
+#[derive(Clone, Copy)]
+pub struct Said {
+    pub endorsement: Decision<bool>,
+    pub reads: Decision<ReadVerdict>,
+    pub version: Decision<Option<Version>>,
+}
+
+fn said_over(
+    alloc: Global,
+    job: &Job<'_>,
+    known: &KnownCase,
+    i: u32,
+    place: KeyPlace,
+) -> Result<Said, Failed> {
+    Ok(Said {
+        endorsement: endorsement(alloc, job, known, i)?,
+        reads: reads(alloc, job, known, i)?,
+        version: version(alloc, job, known, i, place)?,
+    })
+}
+
+/// What is said of each transaction of a job.
+pub type Answers = [Option<Said>; TXS];
+
+fn all_over(
+    alloc: Global,
+    job: &Job<'_>,
+    known: &KnownCase,
+    place: KeyPlace,
+) -> Result<Answers, Failed> {
+    let mut all = [None; TXS];
+    for i in 0..TXS {
+        let number = i as u32;
+        if number < job.len() {
+            all[i] = Some(said_over(alloc, job, known, number, place)?);
+        }
+    }
+    Ok(all)
+}
+
+/// What is said of each transaction of the case, where this is known.
+pub fn ask(
+    alloc: Global,
+    case: &JobCase,
+    known: &KnownCase,
+    place: KeyPlace,
+) -> Result<Answers, Failed> {
+    let ground = Ground::of(alloc, case)?;
+    let job = ground.job(alloc, case)?;
+    all_over(alloc, &job, known, place)
 }

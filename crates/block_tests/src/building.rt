@@ -173,17 +173,17 @@ fn candidates_of<'a>(
 /// What a job lends from.
 #[derive(Drop)]
 pub struct Ground {
-    state: StateDb,
-    definitions: Definitions,
     bytes: Vec<Bytes>,
+    definitions: Definitions,
+    state: StateDb,
 }
 
 impl Ground {
     pub fn of(alloc: Global, case: &JobCase) -> Result<Ground, Failed> {
         Ok(Ground {
-            state: state_of(alloc, case)?,
-            definitions: definitions(alloc)?,
             bytes: bytes_of(alloc, case)?,
+            definitions: definitions(alloc)?,
+            state: state_of(alloc, case)?,
         })
     }
 

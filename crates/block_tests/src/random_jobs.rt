@@ -1,21 +1,19 @@
 //! Small jobs at random, with boards on which something is known, whether it can be so or not.
 
-use crate::asking;
-use crate::building::Ground;
-use crate::cases::{JobCase, KeyPlace};
+use crate::asking::{Answers, Said, ask};
+use crate::cases::{JobCase, KeyPlace, TXS, TxCase};
 use crate::drawing::Random;
 use crate::failed::Failed;
 use crate::sure::{KnownCase, is_right_of_endorsement, is_right_of_reads, is_right_of_version};
-use key_chains::{Decision, Job};
+use key_chains::Decision;
 use rules::ReadVerdict;
 use std::alloc::Global;
-use transaction::Version;
 
 const JOBS: u32 = 2500;
 
 /// How often each answer was given.
 #[derive(Clone, Copy)]
-struct Answers {
+struct Times {
     passed: u32,
     refused: u32,
     endorsement_blocked: u32,
@@ -26,7 +24,7 @@ struct Answers {
     version_blocked: u32,
 }
 
-const NONE: Answers = Answers {
+const NONE: Times = Times {
     passed: 0,
     refused: 0,
     endorsement_blocked: 0,
@@ -37,37 +35,31 @@ const NONE: Answers = Answers {
     version_blocked: 0,
 };
 
-fn count(answers: &mut u32) {
-    *answers = answers.saturating_add(1);
+fn add_one(times: &mut u32) {
+    *times = times.saturating_add(1);
 }
 
-impl Answers {
-    fn count_endorsement(&mut self, said: Decision<bool>) {
-        match said {
-            Decision::Sure(true) => count(&mut self.passed),
-            Decision::Sure(false) => count(&mut self.refused),
-            Decision::Blocked(_) => count(&mut self.endorsement_blocked),
+impl Times {
+    fn count(&mut self, said: Said) {
+        match said.endorsement {
+            Decision::Sure(true) => add_one(&mut self.passed),
+            Decision::Sure(false) => add_one(&mut self.refused),
+            Decision::Blocked(_) => add_one(&mut self.endorsement_blocked),
         }
-    }
-
-    fn count_reads(&mut self, said: Decision<ReadVerdict>) {
-        match said {
-            Decision::Sure(ReadVerdict::Good) => count(&mut self.good),
-            Decision::Sure(ReadVerdict::Stale) => count(&mut self.stale),
-            Decision::Sure(ReadVerdict::Phantom) => count(&mut self.phantom),
-            Decision::Blocked(_) => count(&mut self.reads_blocked),
+        match said.reads {
+            Decision::Sure(ReadVerdict::Good) => add_one(&mut self.good),
+            Decision::Sure(ReadVerdict::Stale) => add_one(&mut self.stale),
+            Decision::Sure(ReadVerdict::Phantom) => add_one(&mut self.phantom),
+            Decision::Blocked(_) => add_one(&mut self.reads_blocked),
         }
-    }
-
-    fn count_version(&mut self, said: Decision<Option<Version>>) {
-        if let Decision::Blocked(_) = said {
-            count(&mut self.version_blocked);
+        if let Decision::Blocked(_) = said.version {
+            add_one(&mut self.version_blocked);
         }
     }
 
     // Whether each answer was given often.
     fn are_all_there(&self) -> bool {
-        let Answers {
+        let Times {
             passed,
             refused,
             endorsement_blocked,
@@ -88,7 +80,7 @@ impl Answers {
             version_blocked,
         ]
         .iter()
-        .all(|times| *times >= 100)
+        .all(|count| *count >= 100)
     }
 }
 
@@ -109,57 +101,46 @@ impl Question {
         }
     }
 
-    // Whether what is said of transaction i is right.
-    fn is_right_at(
-        &self,
-        alloc: Global,
-        job: &Job<'_>,
-        i: u32,
-        answers: &mut Answers,
-    ) -> Result<bool, Failed> {
-        let place = i as usize;
-        let Some(tx) = self.case.txs.get(place) else {
-            return Ok(false);
-        };
-        let endorsement = asking::endorsement(alloc, job, &self.known, i)?;
-        let reads = asking::reads(alloc, job, &self.known, i)?;
-        let version = asking::version(alloc, job, &self.known, i, self.place)?;
-        answers.count_endorsement(endorsement);
-        answers.count_reads(reads);
-        answers.count_version(version);
-        Ok(
-            is_right_of_endorsement(&self.case, tx, place, &self.known, endorsement)
-                && is_right_of_reads(&self.case, tx, place, &self.known, reads)
-                && is_right_of_version(&self.case, self.place, place, &self.known, version),
-        )
+    fn is_right(&self, tx: &TxCase, i: usize, said: Said) -> bool {
+        is_right_of_endorsement(&self.case, tx, i, &self.known, said.endorsement)
+            && is_right_of_reads(&self.case, tx, i, &self.known, said.reads)
+            && is_right_of_version(&self.case, self.place, i, &self.known, said.version)
     }
 
-    fn is_answered(&self, alloc: Global, answers: &mut Answers) -> Result<bool, Failed> {
-        let ground = Ground::of(alloc, &self.case)?;
-        let job = ground.job(alloc, &self.case)?;
-        if job.len() as usize != self.case.count {
-            return Ok(false);
-        }
-        for i in 0..job.len() {
-            if !self.is_right_at(alloc, &job, i, answers)? {
-                return Ok(false);
+    // Whether of each of its transactions something is said, which is right.
+    fn are_right(&self, answers: &Answers, times: &mut Times) -> bool {
+        for i in 0..TXS {
+            match &answers[i] {
+                None if i < self.case.count => return false,
+                Some(said) => {
+                    times.count(*said);
+                    if !self.is_right(&self.case.txs[i], i, *said) {
+                        return false;
+                    }
+                }
+                None => {}
             }
         }
-        Ok(true)
+        true
+    }
+
+    fn is_answered(&self, alloc: Global, times: &mut Times) -> Result<bool, Failed> {
+        let answers = ask(alloc, &self.case, &self.known, self.place)?;
+        Ok(self.are_right(&answers, times))
     }
 }
 
 #[test]
 fn all_assignments(rt: HostRuntime) -> Result<(), Failed> {
     let mut random = Random::new();
-    let mut answers = NONE;
+    let mut times = NONE;
     for number in 0..JOBS {
         let question = Question::draw(&mut random);
         assert!(rt;
-            question.is_answered(rt.alloc(), &mut answers)?,
+            question.is_answered(rt.alloc(), &mut times)?,
             "job {number}"
         );
     }
-    assert!(rt; answers.are_all_there());
+    assert!(rt; times.are_all_there());
     Ok(())
 }

@@ -1,7 +1,6 @@
 //! Small jobs whose answers were worked out by hand.
 
-use crate::asking;
-use crate::building::Ground;
+use crate::asking::{Said, ask};
 use crate::cases::{
     BLOCK, FLAGGED, JobCase, KEYS, KeyPlace, KeyUse, NOTHING, NewValue, RowCase, Rule, TXS, TxCase,
     UNUSED,
@@ -83,37 +82,13 @@ fn readers_and_writers() -> JobCase {
     case
 }
 
-fn reads_say(
-    alloc: Global,
-    case: &JobCase,
-    known: &KnownCase,
-    i: u32,
-) -> Result<Decision<ReadVerdict>, Failed> {
-    let ground = Ground::of(alloc, case)?;
-    let job = ground.job(alloc, case)?;
-    asking::reads(alloc, &job, known, i)
-}
-
-fn version_says(
-    alloc: Global,
-    case: &JobCase,
-    known: &KnownCase,
-    i: u32,
-) -> Result<Decision<Option<Version>>, Failed> {
-    let ground = Ground::of(alloc, case)?;
-    let job = ground.job(alloc, case)?;
-    asking::version(alloc, &job, known, i, KeyPlace::new(0, 0))
-}
-
-fn endorsement_says(
-    alloc: Global,
-    case: &JobCase,
-    known: &KnownCase,
-    i: u32,
-) -> Result<Decision<bool>, Failed> {
-    let ground = Ground::of(alloc, case)?;
-    let job = ground.job(alloc, case)?;
-    asking::endorsement(alloc, &job, known, i)
+// What is said of transaction i, and of the first key before it.
+fn said_of(alloc: Global, case: &JobCase, known: &KnownCase, i: usize) -> Result<Said, Failed> {
+    let all = ask(alloc, case, known, KeyPlace::new(0, 0))?;
+    match all.get(i) {
+        Some(Some(said)) => Ok(*said),
+        _ => Err(Failed::Missing("a transaction")),
+    }
 }
 
 fn flags_of_two(first: Option<Flag>, second: Option<Flag>) -> KnownCase {
@@ -136,7 +111,7 @@ fn a_policy_write_counts_where_its_key_is_there(rt: HostRuntime) -> Result<(), F
     ] {
         let known = flags_of_two(first, second);
         assert!(rt;
-            reads_say(rt.alloc(), &case, &known, 2)? == wanted,
+            said_of(rt.alloc(), &case, &known, 2)?.reads == wanted,
             "{wanted:?}"
         );
     }
@@ -150,28 +125,28 @@ fn version_of_a_policy_write(rt: HostRuntime) -> Result<(), Failed> {
         block: BLOCK,
         tx: 1,
     };
-    let said = version_says(rt.alloc(), &insert_policy_read(), &known, 2)?;
-    assert!(rt; said == Decision::Sure(Some(second)));
+    let said = said_of(rt.alloc(), &insert_policy_read(), &known, 2)?;
+    assert!(rt; said.version == Decision::Sure(Some(second)));
     Ok(())
 }
 
 #[test]
 fn endorsement_that_nobody_touches(rt: HostRuntime) -> Result<(), Failed> {
-    let said = endorsement_says(rt.alloc(), &readers_and_writers(), &UNKNOWN, 3)?;
-    assert!(rt; said == Decision::Sure(true));
+    let said = said_of(rt.alloc(), &readers_and_writers(), &UNKNOWN, 3)?;
+    assert!(rt; said.endorsement == Decision::Sure(true));
     Ok(())
 }
 
 #[test]
 fn reads_of_what_an_unknown_one_writes(rt: HostRuntime) -> Result<(), Failed> {
-    let said = reads_say(rt.alloc(), &readers_and_writers(), &UNKNOWN, 1)?;
-    assert!(rt; said == Decision::Blocked(0));
+    let said = said_of(rt.alloc(), &readers_and_writers(), &UNKNOWN, 1)?;
+    assert!(rt; said.reads == Decision::Blocked(0));
     Ok(())
 }
 
 #[test]
 fn reads_of_what_nobody_writes(rt: HostRuntime) -> Result<(), Failed> {
-    let said = reads_say(rt.alloc(), &readers_and_writers(), &UNKNOWN, 4)?;
-    assert!(rt; said == Decision::Sure(ReadVerdict::Good));
+    let said = said_of(rt.alloc(), &readers_and_writers(), &UNKNOWN, 4)?;
+    assert!(rt; said.reads == Decision::Sure(ReadVerdict::Good));
     Ok(())
 }
