@@ -1,0 +1,6 @@
+pub mod Draft
+pub mod Limits
+pub mod Numbers
+pub mod Says
+pub mod Script
+pub mod Taking

@@ -1,0 +1,19 @@
+//! Draft scripts: what a user writes of the transactions of a block.
+#![tactic(auto)]
+
+mod draft;
+mod keyed;
+mod laws;
+mod lines;
+mod namespace;
+mod numbers;
+mod parts;
+mod saying;
+mod script;
+mod so_far;
+
+pub use draft::Draft;
+pub use keyed::{OwnedKeyVersion, OwnedPolicyWrite, OwnedRead, OwnedWrite};
+pub use laws::limits_are_the_definitions;
+pub use namespace::{OwnedNsSet, OwnedRange};
+pub use script::{Item, Script, read};

@@ -1,0 +1,30 @@
+//! What one line says, whatever stands before it.
+
+use crate::keyed::{OwnedKeyVersion, OwnedPolicyWrite, OwnedRead, OwnedWrite};
+use crate::namespace::OwnedRange;
+use transaction::OwnedIdentity;
+use values::{Bytes, Name};
+
+/// What a line adds to the namespace that is open.
+#[derive(Drop)]
+pub(crate) enum Entry {
+    Read(OwnedRead),
+    Range(OwnedRange),
+    /// A result of the last range.
+    Found(OwnedKeyVersion),
+    Write(OwnedWrite),
+    Policy(OwnedPolicyWrite),
+}
+
+/// A line, by its form.
+#[derive(Drop)]
+pub(crate) enum Saying {
+    /// A transaction begins: creator, nonce, named chaincode.
+    Tx(OwnedIdentity, Bytes, Name),
+    /// The bytes of a whole transaction.
+    Raw(Bytes),
+    /// A namespace begins.
+    Namespace(Name),
+    Adds(Entry),
+    Endorse(OwnedIdentity),
+}
