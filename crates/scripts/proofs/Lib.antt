@@ -1,3 +1,5 @@
 pub mod Last
+pub mod SayingLimits
+pub mod ScriptLimits
 pub mod Steps
 mod Worked

@@ -4,3 +4,4 @@ pub mod Numbers
 pub mod Says
 pub mod Script
 pub mod Taking
+pub mod Within

@@ -1,6 +1,7 @@
 //! What a script says.
 ghost use Rattle.std.specs.Prelude.{◌≡◌, IfOk};
 ghost use Rattle.scripts.specs.Script.{script_of};
+ghost use Rattle.scripts.specs.Within.{AreDrafted};
 
 use crate::draft::Draft;
 use crate::so_far::SoFar;
@@ -24,6 +25,26 @@ pub struct Script {
     pub items: Items<Item>,
     /// The number of that line, from 1, or none where no line is faulty.
     pub fault: Option<u64>,
+}
+
+fn read_lines(alloc: Global, text: &str, keys: &KeyBook) -> Result<Script, AllocError>
+    ensures { IfOk result (λ script. script ≡ script_of keys.now text.now) }
+{
+    let mut so_far = SoFar::new(alloc);
+    for statement in Statements::new(text) {
+        so_far.go_before(statement.bytes)?;
+        if !so_far.say(alloc, keys, statement.line, statement.bytes)? {
+            return Ok(Script {
+                items: so_far.items,
+                fault: Some(statement.line),
+            });
+        }
+    }
+    so_far.end_open()?;
+    Ok(Script {
+        items: so_far.items,
+        fault: None,
+    })
 }
 
 /// Reads a draft script. Its lines are read as those of a channel text, and their parts are separated
@@ -52,21 +73,8 @@ pub struct Script {
 /// Linear in the text, with a look-up in the book and an HMAC of no bytes for each signer; the memory is
 /// linear in the text.
 pub fn read(alloc: Global, text: &str, keys: &KeyBook) -> Result<Script, AllocError>
-    ensures { IfOk result (λ script. script ≡ script_of keys.now text.now) }
+    ensures said { IfOk result (λ script. script ≡ script_of keys.now text.now) }
+    ensures within { IfOk result (λ script. AreDrafted script.items) }
 {
-    let mut so_far = SoFar::new(alloc);
-    for statement in Statements::new(text) {
-        so_far.go_before(statement.bytes)?;
-        if !so_far.say(alloc, keys, statement.line, statement.bytes)? {
-            return Ok(Script {
-                items: so_far.items,
-                fault: Some(statement.line),
-            });
-        }
-    }
-    so_far.end_open()?;
-    Ok(Script {
-        items: so_far.items,
-        fault: None,
-    })
+    read_lines(alloc, text, keys)
 }

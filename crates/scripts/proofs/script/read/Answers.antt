@@ -1,21 +1,5 @@
-use Rattle.std.proofs.Common.{ap, sym, ◌∙◌}
-use Rattle.text_lines.specs.Statements.{view_of}
-use Rattle.scripts.specs.Script.{script_from}
-use Rattle.scripts.proofs.Steps.{stops, goes}
+use Rattle.scripts.proofs.ScriptLimits.{read_within}
 use Rattle.scripts.proofs.script.read.Goals as goal
 
-pub returns-then-not-branch : goal.returns-then-not-branch
-returns-then-not-branch c =
-    let keys = c.args.keys.now in
-    let so_far = c.loop-statement.so_far in
-    stops keys so_far (view_of c.in-Some.statement) c.next.new.self c.go_before.new.self c.say.new.self c.in_ok-say.field-0 c.in_ok-go_before.ensures
-    c.if-not-branch.true c.in_ok-say.ensures
-    ∙ (sym (ap (script_from keys so_far) c.in-Some.ensures.steps) ∙ c.loop-statement.invariant)
-
-pub loop-statement-preserved : goal.loop-statement-preserved
-loop-statement-preserved c =
-    let keys = c.args.keys.now in
-    let so_far = c.loop-statement.so_far in
-    goes keys so_far (view_of c.in-Some.statement) c.next.new.self c.go_before.new.self c.say.new.self c.in_ok-say.field-0 c.in_ok-go_before.ensures
-    c.if-not-branch.false c.in_ok-say.ensures
-    ∙ (sym (ap (script_from keys so_far) c.in-Some.ensures.steps) ∙ c.loop-statement.invariant)
+pub returns-clause-within : goal.returns-clause-within
+returns-clause-within c = read_within c.read_lines.result c.args.keys.now c.args.text.now c.read_lines.ensures

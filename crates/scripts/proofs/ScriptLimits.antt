@@ -1,0 +1,200 @@
+-- What a script says is within its limits.
+use Rattle.std.proofs.Common.{◌≡◌, ℕ, ◌+◌, ◌<◌, ◌≤◌, ◌&&◌, Bool, true, false, cond, List, [], ◌∷◌, ◌++◌, length, Option, Some, None, Result, Ok, Err, refl, sym, subst, arith, length-append}
+use Rattle.std.specs.Prelude.{IsTrue, IfSome, IfOk, option_and_then, nat_lt}
+use Rattle.std.specs.List.{AllByRecursion}
+use Rattle.std.specs.Option.{option_to_list}
+use Rattle.std.proofs.lemmas.Bool.{and_parts}
+use Rattle.text_lines.specs.Lines.{Statement, statements}
+use Rattle.values.specs.Name.{is_name}
+use Rattle.transaction.specs.Grammar.{IsIdentity, IsResult, IsRange, IsNsSet, AreItems}
+use Rattle.transaction.specs.Limits.{max_endorsements}
+use Rattle.transaction.specs.declared.identity.Identity.{Identity}
+use Rattle.transaction.specs.declared.transaction.KeyVersion.{KeyVersion}
+use Rattle.transaction.specs.declared.transaction.Range.{Range}
+use Rattle.transaction.specs.declared.transaction.NsSet.{NsSet}
+use Rattle.block.specs.Limits.{max_txs}
+use Rattle.key_book.specs.Entry as book
+use Rattle.scripts.specs.declared.saying.Entry.{Entry}
+use Rattle.scripts.specs.declared.saying.Entry.TheVariants as entry
+use Rattle.scripts.specs.declared.saying.Saying.{Saying}
+use Rattle.scripts.specs.declared.saying.Saying.TheVariants as saying
+use Rattle.scripts.specs.declared.script.Item.{Item}
+use Rattle.scripts.specs.declared.script.Item.TheVariants.{Raw, Drafted}
+use Rattle.scripts.specs.declared.script.Script.{Script}
+use Rattle.scripts.specs.declared.so_far.SoFar.{SoFar}
+use Rattle.scripts.specs.Draft.{Draft}
+use Rattle.scripts.specs.Limits.{max_list, with_one}
+use Rattle.scripts.specs.Says.{says}
+use Rattle.scripts.specs.Script as spec
+use Rattle.scripts.specs.Within.{IsDraft, IsItem, AreDrafted}
+use Rattle.scripts.proofs.SayingLimits.{kept, either, mapped, below, IsEntry, IsSaying, says_within}
+
+-- ---- lists
+
+all_append : {A : Type 0} (P : A → Type 0) (xs ys : List A) → AllByRecursion P xs → AllByRecursion P ys → AllByRecursion P (xs ++ ys)
+all_append P [] ys first second = second
+all_append P (x ∷ xs) ys first second = (first.0, all_append P xs ys first.1 second)
+
+one_longer : {A : Type 0} (xs : List A) (x : A) (most : ℕ) → length xs < most → length (xs ++ x ∷ []) ≤ most
+one_longer xs x most h = omega (arith, length-append xs (x ∷ []))
+
+-- at most so many, each within its limits
+AreFew : {A : Type 0} → ℕ → (A → Type 0) → List A → Type 0
+AreFew most P xs = (length xs ≤ most) × AllByRecursion P xs
+
+with_one_within : {A : Type 0} (P : A → Type 0) (most : ℕ) (xs : List A) (x : A) → AllByRecursion P xs → P x → IfSome (with_one most xs x) (AreFew most P)
+unfolding AreFew
+with_one_within P most xs x all here =
+    kept (nat_lt (length xs) most) (xs ++ x ∷ []) (AreFew most P)
+    (λ test. (one_longer xs x most (below (length xs) most test), all_append P xs (x ∷ []) all (here, tt)))
+
+AreAsMany : {A : Type 0} → (A → Type 0) → List A → List A → Type 0
+AreAsMany P xs ys = (length ys ≡ length xs) × AllByRecursion P ys
+
+with_last_within : {A : Type 0} (P : A → Type 0) (f : A → Option A) (xs : List A) → ((x : A) → P x → IfSome (f x) P) → AllByRecursion P xs → IfSome (spec.with_last f xs) (AreAsMany P xs)
+unfolding AreAsMany
+with_last_within P f [] to all = tt
+with_last_within P f (x ∷ []) to all = mapped (λ y. y ∷ []) (f x) P (AreAsMany P (x ∷ [])) (λ y h. (refl, (h, tt))) (to x all.0)
+with_last_within P f (x ∷ y ∷ more) to all =
+    mapped (λ changed. x ∷ changed) (spec.with_last f (y ∷ more)) (AreAsMany P (y ∷ more)) (AreAsMany P (x ∷ y ∷ more)) (λ ys h. (cc, (all.0, h.1)))
+    (with_last_within P f (y ∷ more) to all.1)
+
+listed : {A : Type 0} (P : A → Type 0) (xs : List A) → AreFew max_list P xs → AreItems P xs
+unfolding AreFew
+listed P xs few = (omega arith, few.1)
+
+as_many : {A : Type 0} (P : A → Type 0) (xs ys : List A) → AreItems P xs → AreAsMany P xs ys → AreItems P ys
+unfolding AreAsMany
+as_many P xs ys items many = (omega arith, many.1)
+
+-- ---- one transaction
+
+with_result_within : (found : KeyVersion) (range : Range) → IsResult found → IsRange range → IfSome (spec.with_result found range) IsRange
+with_result_within found range f r =
+    mapped (λ results. record range { results = results }) (with_one max_list range.results found) (AreFew max_list IsResult) IsRange
+    (λ results few. record { start = r.start; end = r.end; results = listed IsResult results few })
+    (with_one_within IsResult max_list range.results found r.results.1 f)
+
+with_entry_within : (e : Entry) (ns : NsSet) → IsEntry e → IsNsSet ns → IfSome (spec.with_entry e ns) IsNsSet
+with_entry_within (entry.Read read) ns e n =
+    mapped (λ reads. record ns { reads = reads }) (with_one max_list ns.reads read) (AreFew max_list _) IsNsSet
+    (λ reads few. record { name = n.name; reads = listed _ reads few; ranges = n.ranges; writes = n.writes; policy_writes = n.policy_writes })
+    (with_one_within _ max_list ns.reads read n.reads.1 e)
+with_entry_within (entry.Range range) ns e n =
+    mapped (λ ranges. record ns { ranges = ranges }) (with_one max_list ns.ranges range) (AreFew max_list IsRange) IsNsSet
+    (λ ranges few. record { name = n.name; reads = n.reads; ranges = listed IsRange ranges few; writes = n.writes; policy_writes = n.policy_writes })
+    (with_one_within IsRange max_list ns.ranges range n.ranges.1 e)
+with_entry_within (entry.Found found) ns e n =
+    mapped (λ ranges. record ns { ranges = ranges }) (spec.with_last (spec.with_result found) ns.ranges) (AreAsMany IsRange ns.ranges) IsNsSet
+    (λ ranges many. record { name = n.name; reads = n.reads; ranges = as_many IsRange ns.ranges ranges n.ranges many; writes = n.writes; policy_writes = n.policy_writes })
+    (with_last_within IsRange (spec.with_result found) ns.ranges (λ range r. with_result_within found range e r) n.ranges.1)
+with_entry_within (entry.Write write) ns e n =
+    mapped (λ writes. record ns { writes = writes }) (with_one max_list ns.writes write) (AreFew max_list _) IsNsSet
+    (λ writes few. record { name = n.name; reads = n.reads; ranges = n.ranges; writes = listed _ writes few; policy_writes = n.policy_writes })
+    (with_one_within _ max_list ns.writes write n.writes.1 e)
+with_entry_within (entry.Policy write) ns e n =
+    mapped (λ writes. record ns { policy_writes = writes }) (with_one max_list ns.policy_writes write) (AreFew max_list _) IsNsSet
+    (λ writes few. record { name = n.name; reads = n.reads; ranges = n.ranges; writes = n.writes; policy_writes = listed _ writes few })
+    (with_one_within _ max_list ns.policy_writes write n.policy_writes.1 e)
+
+with_namespaces_within : (draft : Draft) (namespaces : List NsSet) → IsDraft draft → AreItems IsNsSet namespaces → IsDraft (record draft { namespaces = namespaces })
+with_namespaces_within draft namespaces d n =
+    record { creator = d.creator; nonce = d.nonce; chaincode = d.chaincode; namespaces = n; count = d.count; endorsers = d.endorsers }
+
+with_namespace_within : (name : List ℕ) (draft : Draft) → IsTrue (is_name name) → IsDraft draft → IfSome (spec.with_namespace name draft) IsDraft
+with_namespace_within name draft n d =
+    mapped (λ changed. record draft { namespaces = changed }) (with_one max_list draft.namespaces (spec.empty_namespace name)) (AreFew max_list IsNsSet) IsDraft
+    (λ changed few. with_namespaces_within draft changed d (listed IsNsSet changed few))
+    (with_one_within IsNsSet max_list draft.namespaces (spec.empty_namespace name) d.namespaces.1
+    (record { name = n; reads = (omega arith, tt); ranges = (omega arith, tt); writes = (omega arith, tt); policy_writes = (omega arith, tt) }))
+
+with_addition_within : (e : Entry) (draft : Draft) → IsEntry e → IsDraft draft → IfSome (spec.with_addition e draft) IsDraft
+with_addition_within e draft h d =
+    mapped (λ changed. record draft { namespaces = changed }) (spec.with_last (spec.with_entry e) draft.namespaces) (AreAsMany IsNsSet draft.namespaces) IsDraft
+    (λ changed many. with_namespaces_within draft changed d (as_many IsNsSet draft.namespaces changed d.namespaces many))
+    (with_last_within IsNsSet (spec.with_entry e) draft.namespaces (λ ns n. with_entry_within e ns h n) d.namespaces.1)
+
+with_endorser_within : (endorser : Identity) (draft : Draft) → IsIdentity endorser → IsDraft draft → IfSome (spec.with_endorser endorser draft) IsDraft
+unfolding AreFew
+with_endorser_within endorser draft e d =
+    mapped (λ endorsers. record draft { endorsers = endorsers }) (with_one max_endorsements draft.endorsers endorser) (AreFew max_endorsements IsIdentity) IsDraft
+    (λ endorsers few. record { creator = d.creator; nonce = d.nonce; chaincode = d.chaincode; namespaces = d.namespaces; count = few.0; endorsers = few.1 })
+    (with_one_within IsIdentity max_endorsements draft.endorsers endorser d.endorsers e)
+
+-- ---- all of them
+
+record IsSoFar (so_far : SoFar) : Type 0 where
+  count : length so_far.items + length (option_to_list so_far.drafting) ≤ max_txs
+  each : AllByRecursion IsItem so_far.items
+  drafting : IfSome so_far.drafting IsDraft
+
+in_open_within : (change : Draft → Option Draft) (items : List Item) (drafting : Option Draft) → ((d : Draft) → IsDraft d → IfSome (change d) IsDraft)
+    → IsSoFar (record { items = items; drafting = drafting }) → IfSome (spec.in_open change (record { items = items; drafting = drafting })) IsSoFar
+in_open_within change items None to s = tt
+in_open_within change items (Some draft) to s =
+    mapped (λ d. record { items = items; drafting = Some d }) (change draft) IsDraft IsSoFar (λ d h. record { count = s.count; each = s.each; drafting = h }) (to draft s.drafting)
+
+ended_within : (items : List Item) (drafting : Option Draft) → IsSoFar (record { items = items; drafting = drafting }) → IsSoFar (spec.ended (record { items = items; drafting = drafting }))
+ended_within items None s = record { count = omega (arith, s.count, length-append items []); each = all_append IsItem items [] s.each tt; drafting = tt }
+ended_within items (Some draft) s =
+    record { count = omega (arith, s.count, length-append items (Drafted draft ∷ [])); each = all_append IsItem items (Drafted draft ∷ []) s.each (s.drafting, tt); drafting = tt }
+
+before_within : (ends : Bool) (so_far : SoFar) → IsSoFar so_far → IsSoFar (cond ends (spec.ended so_far) so_far)
+before_within true so_far s = ended_within so_far.items so_far.drafting s
+before_within false so_far s = s
+
+with_tx_within : (keys : List book.Entry) (draft : Draft) (so_far : SoFar) → IsDraft draft → IsSoFar so_far → IfSome (spec.with_tx keys draft so_far) IsSoFar
+with_tx_within keys draft so_far d s =
+    let fits = nat_lt (length so_far.items) max_txs in
+    kept (spec.can_sign keys draft.creator && fits) (record { items = so_far.items; drafting = Some draft }) IsSoFar
+    (λ test. with_room d s (below (length so_far.items) max_txs (and_parts (spec.can_sign keys draft.creator) fits test).1))
+  where
+    with_room : IsDraft draft → IsSoFar so_far → length so_far.items < max_txs → IsSoFar (record { items = so_far.items; drafting = Some draft })
+    with_room d s few = record { count = omega arith; each = s.each; drafting = d }
+
+with_raw_within : (bytes : List ℕ) (so_far : SoFar) → IsItem (Raw bytes) → IsSoFar so_far → IfSome (spec.with_raw bytes so_far) IsSoFar
+unfolding AreFew
+with_raw_within bytes so_far b s =
+    mapped (λ items. record { items = items; drafting = None }) (with_one max_txs so_far.items (Raw bytes)) (AreFew max_txs IsItem) IsSoFar
+    (λ items few. record { count = omega (arith, few.0); each = few.1; drafting = tt }) (with_one_within IsItem max_txs so_far.items (Raw bytes) s.each b)
+
+said_by_within : (keys : List book.Entry) (n : ℕ) (so_far : SoFar) (saying : Saying) → IsSaying saying → IsSoFar so_far → IfSome (spec.said_by keys n so_far saying) IsSoFar
+said_by_within keys n so_far (saying.Tx creator nonce chaincode) h s =
+    with_tx_within keys _ so_far
+    (record { creator = h.0; nonce = omega (arith, h.1); chaincode = h.2; namespaces = (omega arith, tt); count = omega arith; endorsers = tt }) s
+said_by_within keys n so_far (saying.Raw bytes) h s = with_raw_within bytes so_far h s
+said_by_within keys n so_far (saying.Namespace name) h s =
+    in_open_within (spec.with_namespace name) so_far.items so_far.drafting (λ d dh. with_namespace_within name d h dh) s
+said_by_within keys n so_far (saying.Adds e) h s =
+    in_open_within (spec.with_addition e) so_far.items so_far.drafting (λ d dh. with_addition_within e d h dh) s
+said_by_within keys n so_far (saying.Endorse endorser) h s =
+    either (spec.can_sign keys endorser) (spec.in_open (spec.with_endorser endorser) so_far) None IsSoFar
+    (in_open_within (spec.with_endorser endorser) so_far.items so_far.drafting (λ d dh. with_endorser_within endorser d h dh) s) tt
+
+said_with_within : (keys : List book.Entry) (n : ℕ) (so_far : SoFar) (o : Option Saying) → IfSome o IsSaying → IsSoFar so_far → IfSome (option_and_then (spec.said_by keys n so_far) o) IsSoFar
+said_with_within keys n so_far None h s = tt
+said_with_within keys n so_far (Some saying) h s = said_by_within keys n so_far saying h s
+
+drafted : (so_far : SoFar) → IsSoFar so_far → AreDrafted so_far.items
+drafted so_far s = record { count = omega (arith, s.count); each = s.each }
+
+or_stops_within : (go : SoFar → Script) (n : ℕ) (items : List Item) (o : Option SoFar) → AreDrafted items → ((s : SoFar) → IsSoFar s → AreDrafted (go s).items) → IfSome o IsSoFar
+    → AreDrafted (spec.or_stops go n items o).items
+or_stops_within go n items None i to h = i
+or_stops_within go n items (Some s) i to h = to s h
+
+script_from_within : (keys : List book.Entry) (so_far : SoFar) (text : List Statement) → IsSoFar so_far → AreDrafted (spec.script_from keys so_far text).items
+script_from_within keys so_far [] s = drafted (spec.ended so_far) (ended_within so_far.items so_far.drafting s)
+script_from_within keys so_far (line ∷ more) s =
+    let before = spec.before line.bytes so_far in
+    let b : IsSoFar before = before_within (spec.ends_before line.bytes) so_far s in
+    or_stops_within (λ next. spec.script_from keys next more) line.line before.items (spec.said_with keys line.line before line.bytes) (drafted before b)
+    (λ next h. script_from_within keys next more h) (said_with_within keys line.line before (says line.bytes) (says_within line.bytes) b)
+
+pub script_within : (keys : List book.Entry) (text : List ℕ) → AreDrafted (spec.script_of keys text).items
+script_within keys text = script_from_within keys spec.nothing_said (statements text) (record { count = omega arith; each = tt; drafting = tt })
+
+pub read_within : {E : Type 0} (r : Result Script E) (keys : List book.Entry) (text : List ℕ) → IfOk r (λ script. script ≡ spec.script_of keys text)
+    → IfOk r (λ script. AreDrafted script.items)
+read_within (Ok script) keys text is = subst (λ (s : Script). AreDrafted s.items) (sym is) (script_within keys text)
+read_within (Err e) keys text is = tt
