@@ -1,0 +1,3 @@
+pub mod BlockLimits
+pub mod Items
+pub mod TxLimits

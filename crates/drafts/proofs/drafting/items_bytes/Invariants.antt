@@ -1,0 +1,12 @@
+use Rattle.std.proofs.Common.{◌≡◌, drop}
+use Rattle.std.specs.List.{AllByRecursion}
+use Rattle.scripts.specs.Within.{IsItem}
+use Rattle.drafts.specs.DraftBlock.{items_bytes}
+use Rattle.drafts.proofs.Items.{behind}
+use Rattle.drafts.proofs.drafting.items_bytes.Given as goal
+
+abbrev pub invariant-loop-item : goal.invariant-loop-item
+invariant-loop-item l = record {
+  bytes : behind l.txs.items (items_bytes l.keys l.channel (drop l.item-index l.items)) ≡ items_bytes l.keys l.channel l.items;
+  left : AllByRecursion IsItem (drop l.item-index l.items);
+}

@@ -1,0 +1,3 @@
+pub mod DraftBlock
+pub mod DraftTx
+pub mod Encoding

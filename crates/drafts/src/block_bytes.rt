@@ -1,0 +1,73 @@
+//! The bytes of a block of transactions behind a header.
+ghost use Rattle.std.specs.Prelude.{◌≡◌, ◌+◌, ◌<◌, ◌≤◌, ◌^◌, length, IfOk, IfSome};
+ghost use Rattle.std.specs.List.{AllByRecursion};
+ghost use Rattle.block.specs.Grammar.{IsTx, Spells};
+ghost use Rattle.block.specs.Limits.{max_txs};
+ghost use Rattle.header_hash.specs.Hashes.{data_hash_of};
+ghost use Rattle.drafts.specs.DraftBlock as spec;
+
+use block::{Block, Header, Previous, encode_block};
+use header_hash::{DataHasher, header_hash};
+use std::alloc::{AllocError, Global};
+use transaction::EncodeFault;
+use values::{Bytes, Hash, Items, Slice};
+
+fn data_hash(txs: &[Bytes]) -> Hash
+    ensures { result ≡ data_hash_of txs.now }
+{
+    let mut hasher = DataHasher::new();
+    for tx in txs {
+        hasher.add(tx.as_slice());
+    }
+    hasher.finish()
+}
+
+fn lend_txs<'a>(alloc: Global, txs: &'a [Bytes]) -> Result<Items<Slice<'a>>, AllocError>
+    ensures { IfOk result (λ lent. lent ≡ txs.now) }
+{
+    let mut lent = Items::new(alloc);
+    for tx in txs {
+        lent.push(tx.lend())?;
+    }
+    Ok(lent)
+}
+
+fn header_after(previous: Option<Header>, txs: &[Bytes]) -> Header
+    requires { IfSome previous (λ h. h.number + 1 < 2 ^ 64) }
+    ensures { result ≡ (spec.block_after previous txs.now).header }
+{
+    let data_hash = data_hash(txs);
+    match previous {
+        None => Header {
+            number: 0,
+            previous: Previous::Empty,
+            data_hash,
+        },
+        Some(before) => Header {
+            number: before.number + 1,
+            previous: Previous::Hash(header_hash(&before)),
+            data_hash,
+        },
+    }
+}
+
+pub(crate) fn block_bytes(
+    alloc: Global,
+    previous: Option<Header>,
+    txs: &[Bytes],
+) -> Result<Bytes, AllocError>
+    requires number { IfSome previous (λ h. h.number + 1 < 2 ^ 64) }
+    requires count { length txs.now ≤ max_txs }
+    requires each { AllByRecursion IsTx txs.now }
+    ensures { IfOk result (λ bytes. bytes ≡ spec.block_bytes (spec.block_after previous txs.now)) }
+{
+    let block = Block {
+        header: header_after(previous, txs),
+        txs: lend_txs(alloc, txs)?,
+    };
+    match encode_block(alloc, &block) {
+        Ok(bytes) => Ok(bytes),
+        Err(EncodeFault::Memory) => Err(AllocError),
+        Err(EncodeFault::TooLarge) => unreachable!(),
+    }
+}

@@ -1,0 +1,85 @@
+//! From a script's text to the bytes of its block.
+ghost use Rattle.std.specs.Prelude.{◌≡◌, ◌+◌, ◌<◌, ◌^◌, ◌⊎◌, Ok, Err, IfOk, IfErr, IfSome};
+ghost use Rattle.std.specs.List.{AllByRecursion};
+ghost use Rattle.values.specs.Memory.{GivesUnless};
+ghost use Rattle.scripts.specs.Within.{IsDraft, IsItem};
+ghost use Rattle.drafts.specs.declared.fault.DraftFault.TheVariants.{Memory};
+ghost use Rattle.drafts.specs.DraftBlock as spec;
+
+use crate::block_bytes::block_bytes;
+use crate::fault::DraftFault;
+use crate::tx_bytes::tx_bytes;
+use block::Header;
+use key_book::KeyBook;
+use scripts::{Draft, Item, read};
+use std::alloc::Global;
+use transaction::EncodeFault;
+use values::{Bytes, Name};
+
+fn draft_bytes(
+    alloc: Global,
+    channel: &Name,
+    keys: &KeyBook,
+    draft: &Draft,
+) -> Result<Bytes, DraftFault>
+    requires { IsDraft draft.now }
+    ensures { GivesUnless Memory result (spec.draft_bytes keys.now channel.now draft.now) }
+{
+    match tx_bytes(alloc, channel, keys, draft) {
+        Ok(bytes) => Ok(bytes),
+        Err(EncodeFault::TooLarge) => Err(DraftFault::Line(draft.line())),
+        Err(EncodeFault::Memory) => Err(DraftFault::Memory),
+    }
+}
+
+fn item_bytes(
+    alloc: Global,
+    channel: &Name,
+    keys: &KeyBook,
+    item: &Item,
+) -> Result<Bytes, DraftFault>
+    requires { IsItem item.now }
+    ensures { GivesUnless Memory result (spec.item_bytes keys.now channel.now item.now) }
+{
+    match item {
+        Item::Raw(bytes) => Ok(bytes.copy(alloc)?),
+        Item::Drafted(draft) => draft_bytes(alloc, channel, keys, draft),
+    }
+}
+
+fn items_bytes(
+    alloc: Global,
+    channel: &Name,
+    keys: &KeyBook,
+    items: &[Item],
+) -> Result<Vec<Bytes>, DraftFault>
+    requires { AllByRecursion IsItem items.now }
+    ensures ok { IfOk result (λ txs. spec.items_bytes keys.now channel.now items.now ≡ Ok txs.items) }
+    ensures err { IfErr result (λ fault. (fault ≡ Memory) ⊎ (spec.items_bytes keys.now channel.now items.now ≡ Err fault)) }
+{
+    let mut txs = Vec::new(alloc);
+    for item in items {
+        txs.push(item_bytes(alloc, channel, keys, item)?)?;
+    }
+    Ok(txs)
+}
+
+/// The bytes of the block that a script drafts on a channel, behind the header of the block before, or as block 0
+/// where there is none. `scripts::read` says how a script is read.
+pub fn draft(
+    alloc: Global,
+    channel: &Name,
+    keys: &KeyBook,
+    previous: Option<Header>,
+    text: &str,
+) -> Result<Bytes, DraftFault>
+    requires { IfSome previous (λ h. h.number + 1 < 2 ^ 64) }
+    ensures { GivesUnless Memory result (spec.drafted keys.now channel.now previous text.now) }
+{
+    let script = read(alloc, text, keys)?;
+    let txs = items_bytes(alloc, channel, keys, script.items.as_slice())?;
+    match script.fault {
+        Some(line) => Err(DraftFault::Line(line)),
+        None => Ok(block_bytes(alloc, previous, txs.as_slice())?),
+    }
+}
