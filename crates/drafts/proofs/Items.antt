@@ -1,8 +1,9 @@
 -- The transactions of a script, one more at a time, and their limits.
-use Rattle.std.proofs.Common.{◌≡◌, ℕ, ◌≤◌, suc, Bool, true, false, cond, List, [], ◌∷◌, ◌++◌, length, Result, Ok, Err, ap, refl, subst, arith}
+use Rattle.std.proofs.Common.{◌≡◌, ℕ, ◌+◌, ◌<◌, ◌≤◌, suc, Bool, true, false, cond, List, [], ◌∷◌, ◌++◌, length, Result, Ok, Err, ap, refl, sym, ◌∙◌, subst, take, drop, get_or, arith}
 use Rattle.std.specs.Prelude.{IfOk, nat_lt}
 use Rattle.std.specs.List.{AllByRecursion}
 use Rattle.std.proofs.lemmas.Bool.Decides.{nat_tests}
+use Rattle.std.proofs.lemmas.List.{take_more, drop_more}
 use Rattle.transaction.specs.Grammar.{whole_bytes}
 use Rattle.transaction.specs.Limits.{max_tx_bytes}
 use Rattle.block.specs.Grammar.{IsTx}
@@ -13,6 +14,7 @@ use Rattle.scripts.specs.Within.{IsItem}
 use Rattle.drafts.specs.declared.fault.DraftFault.{DraftFault}
 use Rattle.drafts.specs.declared.fault.DraftFault.TheVariants.{Line}
 use Rattle.drafts.specs.DraftTx.{tx_of}
+use Rattle.drafts.specs.Drafted.{Makes, MakesAll}
 use Rattle.drafts.specs.DraftBlock.{◌>>=◌, item_bytes, items_bytes}
 
 -- what was read, with the bytes before it
@@ -53,3 +55,25 @@ pub txs_short : (keys : List Entry) (channel : List ℕ) (items : List Item) (tx
 unfolding AreShort
 txs_short keys channel items txs all is =
     subst (λ (r : Result (List (List ℕ)) DraftFault). IfOk r (AreShort (length items))) is (items_short keys channel items all)
+
+-- one item more, with the transaction that it makes
+pub makes_one_more : (keys : List Entry) (channel : List ℕ) (items : List Item) (txs : List (List ℕ)) (item : Item) (tx : List ℕ) → MakesAll keys channel items txs
+    → Makes keys channel item tx → MakesAll keys channel (items ++ item ∷ []) (txs ++ tx ∷ [])
+makes_one_more keys channel [] [] item tx all here = (here, tt)
+makes_one_more keys channel [] (other ∷ txs) item tx all here = absurd all
+makes_one_more keys channel (first ∷ items) [] item tx all here = absurd all
+makes_one_more keys channel (first ∷ items) (other ∷ txs) item tx all here = (all.0, makes_one_more keys channel items txs item tx all.1 here)
+
+pub makes_next : (keys : List Entry) (channel : List ℕ) (items : List Item) (i : ℕ) (txs new : List (List ℕ)) (item : Item) (tx : List ℕ) → i < length items → item ≡ get_or items i item
+    → MakesAll keys channel (take i items) txs → Makes keys channel item tx → new ≡ txs ++ tx ∷ [] → MakesAll keys channel (take (i + 1) items) new
+makes_next keys channel items i txs new item tx below is all here longer =
+    let one = makes_one_more keys channel (take i items) txs item tx all here in
+    let parts : take (i + 1) items ≡ take i items ++ item ∷ [] =
+    take_more items i item below ∙ ap (λ (x : Item). take i items ++ x ∷ []) (sym is) in
+    subst (λ (front : List Item). MakesAll keys channel front new) (sym parts) (subst (λ (t : List (List ℕ)). MakesAll keys channel (take i items ++ item ∷ []) t) (sym longer) one)
+
+-- those that are left, once one more was taken
+pub left_next : (items : List Item) (i : ℕ) (item : Item) → i < length items → AllByRecursion IsItem (drop i items) → AllByRecursion IsItem (drop (i + 1) items)
+left_next items i item below all =
+    let parts : AllByRecursion IsItem (get_or items i item ∷ drop (i + 1) items) = subst (AllByRecursion IsItem) (drop_more items i item below) all in
+    parts.1

@@ -1,3 +1,4 @@
 pub mod BlockLimits
 pub mod Items
 pub mod TxLimits
+mod Worked

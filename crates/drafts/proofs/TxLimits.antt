@@ -59,6 +59,12 @@ are_endorsements keys body draft d =
 abbrev pub with_signatures : List ℕ → Draft → List Endorsement → List ℕ → Tx
 with_signatures channel draft endorsements signature = record (unsigned channel draft) { endorsements = endorsements; signature = signature }
 
+-- what the signatures are called
+pub same_signatures : (channel : List ℕ) (draft : Draft) (tx : Tx) (es others : List Endorsement) (s other : List ℕ) → tx ≡ with_signatures channel draft es s → es ≡ others → s ≡ other
+    → tx ≡ with_signatures channel draft others other
+same_signatures channel draft tx es others s other is same same_s =
+    is ∙ ap (λ (e : List Endorsement). with_signatures channel draft e s) same ∙ ap (with_signatures channel draft others) same_s
+
 is_body : (channel : List ℕ) (draft : Draft) (es : List Endorsement) (s : List ℕ) → IsTrue (is_name channel) → IsDraft draft → IsBody (with_signatures channel draft es s)
 is_body channel draft es s n d =
     record { channel = n; id = length-tx_id_of draft.nonce (identity_bytes draft.creator); creator = d.creator; nonce = d.nonce; chaincode = d.chaincode; namespaces = d.namespaces }
@@ -119,3 +125,6 @@ pub too_long_already : (f : EncodeFault) (keys : List Entry) (channel : List ℕ
 too_long_already f keys channel draft es is h =
     let tx = tx_of keys channel draft in
     longer f (signed_bytes tx) (counted 2 tx.signature) (subst (λ (e : List Endorsement). Encodes (Err f) (signed_bytes (with_signatures channel draft e []))) is h)
+
+pub spelled_as : (r : Result (List ℕ) EncodeFault) (tx other : Tx) → tx ≡ other → IfOk r (λ bytes. SpellsTx bytes tx) → IfOk r (λ bytes. SpellsTx bytes other)
+spelled_as r tx other is spelled = subst (λ (t : Tx). IfOk r (λ bytes. SpellsTx bytes t)) is spelled

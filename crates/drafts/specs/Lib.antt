@@ -1,3 +1,4 @@
 pub mod DraftBlock
 pub mod DraftTx
+pub mod Drafted
 pub mod Encoding

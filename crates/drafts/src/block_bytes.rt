@@ -59,7 +59,8 @@ pub(crate) fn block_bytes(
     requires number { IfSome previous (λ h. h.number + 1 < 2 ^ 64) }
     requires count { length txs.now ≤ max_txs }
     requires each { AllByRecursion IsTx txs.now }
-    ensures { IfOk result (λ bytes. bytes ≡ spec.block_bytes (spec.block_after previous txs.now)) }
+    ensures bytes { IfOk result (λ bytes. bytes ≡ spec.block_bytes (spec.block_after previous txs.now)) }
+    ensures spelled { IfOk result (λ bytes. Spells bytes (spec.block_after previous txs.now)) }
 {
     let block = Block {
         header: header_after(previous, txs),

@@ -2,9 +2,12 @@
 ghost use Rattle.std.specs.Prelude.{◌≡◌, ◌+◌, ◌<◌, ◌^◌, ◌⊎◌, Ok, Err, IfOk, IfErr, IfSome};
 ghost use Rattle.std.specs.List.{AllByRecursion};
 ghost use Rattle.values.specs.Memory.{GivesUnless};
+ghost use Rattle.transaction.specs.Grammar.{SpellsTx};
 ghost use Rattle.scripts.specs.Within.{IsDraft, IsItem};
 ghost use Rattle.drafts.specs.declared.fault.DraftFault.TheVariants.{Memory};
 ghost use Rattle.drafts.specs.DraftBlock as spec;
+ghost use Rattle.drafts.specs.DraftTx.{tx_of};
+ghost use Rattle.drafts.specs.Drafted.{Makes, MakesAll, IsDrafted};
 
 use crate::block_bytes::block_bytes;
 use crate::fault::DraftFault;
@@ -23,7 +26,8 @@ fn draft_bytes(
     draft: &Draft,
 ) -> Result<Bytes, DraftFault>
     requires { IsDraft draft.now }
-    ensures { GivesUnless Memory result (spec.draft_bytes keys.now channel.now draft.now) }
+    ensures bytes { GivesUnless Memory result (spec.draft_bytes keys.now channel.now draft.now) }
+    ensures spelled { IfOk result (λ bytes. SpellsTx bytes (tx_of keys.now channel.now draft.now)) }
 {
     match tx_bytes(alloc, channel, keys, draft) {
         Ok(bytes) => Ok(bytes),
@@ -39,7 +43,8 @@ fn item_bytes(
     item: &Item,
 ) -> Result<Bytes, DraftFault>
     requires { IsItem item.now }
-    ensures { GivesUnless Memory result (spec.item_bytes keys.now channel.now item.now) }
+    ensures bytes { GivesUnless Memory result (spec.item_bytes keys.now channel.now item.now) }
+    ensures makes { IfOk result (λ bytes. Makes keys.now channel.now item.now bytes) }
 {
     match item {
         Item::Raw(bytes) => Ok(bytes.copy(alloc)?),
@@ -54,6 +59,7 @@ fn items_bytes(
     items: &[Item],
 ) -> Result<Vec<Bytes>, DraftFault>
     requires { AllByRecursion IsItem items.now }
+    ensures makes { IfOk result (λ txs. MakesAll keys.now channel.now items.now txs.items) }
     ensures ok { IfOk result (λ txs. spec.items_bytes keys.now channel.now items.now ≡ Ok txs.items) }
     ensures err { IfErr result (λ fault. (fault ≡ Memory) ⊎ (spec.items_bytes keys.now channel.now items.now ≡ Err fault)) }
 {
@@ -74,7 +80,9 @@ pub fn draft(
     text: &str,
 ) -> Result<Bytes, DraftFault>
     requires { IfSome previous (λ h. h.number + 1 < 2 ^ 64) }
-    ensures { GivesUnless Memory result (spec.drafted keys.now channel.now previous text.now) }
+    ensures drafted { GivesUnless Memory result (spec.drafted keys.now channel.now previous text.now) }
+    // What its bytes are.
+    ensures block { IfOk result (λ bytes. IsDrafted keys.now channel.now previous text.now bytes) }
 {
     let script = read(alloc, text, keys)?;
     let txs = items_bytes(alloc, channel, keys, script.items.as_slice())?;

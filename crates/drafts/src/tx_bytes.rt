@@ -1,7 +1,7 @@
 //! The bytes of a drafted transaction.
 ghost use Rattle.std.specs.Prelude.{◌≡◌, ◌<◌, ◌^◌, length, IsTrue, IfOk, OnOk};
 ghost use Rattle.values.specs.Name.{is_name};
-ghost use Rattle.transaction.specs.Grammar.{body_bytes, signed_bytes, whole_bytes, AreEndorsements};
+ghost use Rattle.transaction.specs.Grammar.{body_bytes, signed_bytes, whole_bytes, AreEndorsements, SpellsTx};
 ghost use Rattle.scripts.specs.Within.{IsDraft};
 ghost use Rattle.drafts.specs.DraftTx as spec;
 ghost use Rattle.drafts.specs.Encoding.{Encodes};
@@ -86,7 +86,8 @@ fn whole_of(
     requires draft { IsDraft draft.now }
     requires endorsements { AreEndorsements endorsements.now }
     requires signature { length signature.now < 2 ^ 16 }
-    ensures { Encodes result (whole_bytes (record (spec.unsigned channel.now draft.now) { endorsements = endorsements.now; signature = signature.now })) }
+    ensures encodes { Encodes result (whole_bytes (record (spec.unsigned channel.now draft.now) { endorsements = endorsements.now; signature = signature.now })) }
+    ensures spelled { IfOk result (λ bytes. SpellsTx bytes (record (spec.unsigned channel.now draft.now) { endorsements = endorsements.now; signature = signature.now })) }
 {
     let endorsements = lend_all(alloc, endorsements)?;
     let tx = tx_with(alloc, channel, draft, endorsements, signature.lend())?;
@@ -102,7 +103,8 @@ pub(crate) fn tx_bytes(
     draft: &Draft,
 ) -> Result<Bytes, EncodeFault>
     requires { IsDraft draft.now }
-    ensures { Encodes result (whole_bytes (spec.tx_of keys.now channel.now draft.now)) }
+    ensures encodes { Encodes result (whole_bytes (spec.tx_of keys.now channel.now draft.now)) }
+    ensures spelled { IfOk result (λ bytes. SpellsTx bytes (spec.tx_of keys.now channel.now draft.now)) }
 {
     let body = body_of(alloc, channel, draft)?;
     let endorsements = endorse_all(alloc, keys, body.into_vec(), draft.endorsers())?;

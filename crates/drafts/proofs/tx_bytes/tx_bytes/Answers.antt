@@ -8,8 +8,8 @@ message_of-requires-clause-endorsements c =
     are_those c.args.keys.now c.into_vec.result.items c.args.draft.now c.endorsers.result.now c.as_slice.result.now c.requires c.endorsers.ensures
     (c.as_slice.ensures.value ∙ c.in_ok-endorsements.ensures)
 
-pub returns-in_err-message : goal.returns-in_err-message
-returns-in_err-message c =
+pub returns-in_err-message-clause-encodes : goal.returns-in_err-message-clause-encodes
+returns-in_err-message-clause-encodes c =
     let p = err_from_is_err_and c.from_residual-in_err-message.result c.from_residual-in_err-message.ensures.1 in
     let keys = c.args.keys.now in
     let channel = c.args.channel.now in
