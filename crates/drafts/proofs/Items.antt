@@ -28,7 +28,7 @@ short_when : (b : Bool) (line : ℕ) (bytes : List ℕ) → nat_lt max_tx_bytes 
 short_when true line bytes test = tt
 short_when false line bytes test = not_below max_tx_bytes (length bytes) test
 
-item_short : (keys : List Entry) (channel : List ℕ) (item : Item) → IsItem item → IfOk (item_bytes keys channel item) IsTx
+item_short : (keys : List Entry) (channel : List ℕ) (item : Item) → IsItem keys item → IfOk (item_bytes keys channel item) IsTx
 item_short keys channel (Raw bytes) h = h
 item_short keys channel (Drafted draft) h =
     let bytes = whole_bytes (tx_of keys channel draft) in short_when (nat_lt max_tx_bytes (length bytes)) draft.line bytes refl
@@ -43,14 +43,14 @@ one_more (Err fault) others n f o = tt
 one_more (Ok first) (Err fault) n f o = tt
 one_more (Ok first) (Ok others) n f o = (ap suc o.0, (f, o.1))
 
-items_short : (keys : List Entry) (channel : List ℕ) (items : List Item) → AllByRecursion IsItem items → IfOk (items_bytes keys channel items) (AreShort (length items))
+items_short : (keys : List Entry) (channel : List ℕ) (items : List Item) → AllByRecursion (IsItem keys) items → IfOk (items_bytes keys channel items) (AreShort (length items))
 unfolding AreShort
 items_short keys channel [] all = (refl, tt)
 items_short keys channel (item ∷ more) all =
     one_more (item_bytes keys channel item) (items_bytes keys channel more) (length more) (item_short keys channel item all.0) (items_short keys channel more all.1)
 
 -- there are as many as items, and none is too long
-pub txs_short : (keys : List Entry) (channel : List ℕ) (items : List Item) (txs : List (List ℕ)) → AllByRecursion IsItem items → items_bytes keys channel items ≡ Ok txs
+pub txs_short : (keys : List Entry) (channel : List ℕ) (items : List Item) (txs : List (List ℕ)) → AllByRecursion (IsItem keys) items → items_bytes keys channel items ≡ Ok txs
     → (length txs ≡ length items) × AllByRecursion IsTx txs
 unfolding AreShort
 txs_short keys channel items txs all is =
@@ -73,7 +73,7 @@ makes_next keys channel items i txs new item tx below is all here longer =
     subst (λ (front : List Item). MakesAll keys channel front new) (sym parts) (subst (λ (t : List (List ℕ)). MakesAll keys channel (take i items ++ item ∷ []) t) (sym longer) one)
 
 -- those that are left, once one more was taken
-pub left_next : (items : List Item) (i : ℕ) (item : Item) → i < length items → AllByRecursion IsItem (drop i items) → AllByRecursion IsItem (drop (i + 1) items)
-left_next items i item below all =
-    let parts : AllByRecursion IsItem (get_or items i item ∷ drop (i + 1) items) = subst (AllByRecursion IsItem) (drop_more items i item below) all in
+pub left_next : (keys : List Entry) (items : List Item) (i : ℕ) (item : Item) → i < length items → AllByRecursion (IsItem keys) (drop i items) → AllByRecursion (IsItem keys) (drop (i + 1) items)
+left_next keys items i item below all =
+    let parts : AllByRecursion (IsItem keys) (get_or items i item ∷ drop (i + 1) items) = subst (AllByRecursion (IsItem keys)) (drop_more items i item below) all in
     parts.1

@@ -1,4 +1,5 @@
 pub mod BlockLimits
 pub mod Items
+pub mod Signatures
 pub mod TxLimits
 mod Worked

@@ -19,7 +19,7 @@ use Rattle.key_book.specs.Entry.{Entry}
 use Rattle.key_book.specs.Book.{key_in_book}
 use Rattle.key_book.specs.Hmac.{hmac, key_xor, ipad, opad}
 use Rattle.scripts.specs.Draft.{Draft}
-use Rattle.scripts.specs.Within.{IsDraft}
+use Rattle.scripts.specs.Within.{IsWithin}
 use Rattle.drafts.specs.DraftTx.{unsigned, signed_by, endorsement_by, endorsed, tx_of}
 use Rattle.drafts.specs.Encoding.{Encodes}
 
@@ -49,7 +49,7 @@ length-map : {A B : Type 0} (f : A → B) (xs : List A) → length (map f xs) �
 length-map f [] = refl
 length-map f (x ∷ more) = ap suc (length-map f more)
 
-pub are_endorsements : (keys : List Entry) (body : List ℕ) (draft : Draft) → IsDraft draft → AreEndorsements (map (endorsement_by keys body) draft.endorsers)
+pub are_endorsements : (keys : List Entry) (body : List ℕ) (draft : Draft) → IsWithin draft → AreEndorsements (map (endorsement_by keys body) draft.endorsers)
 are_endorsements keys body draft d =
     record { count = omega (arith, d.count, length-map (endorsement_by keys body) draft.endorsers); each = endorsements_each keys body draft.endorsers d.endorsers }
 
@@ -65,11 +65,11 @@ pub same_signatures : (channel : List ℕ) (draft : Draft) (tx : Tx) (es others 
 same_signatures channel draft tx es others s other is same same_s =
     is ∙ ap (λ (e : List Endorsement). with_signatures channel draft e s) same ∙ ap (with_signatures channel draft others) same_s
 
-is_body : (channel : List ℕ) (draft : Draft) (es : List Endorsement) (s : List ℕ) → IsTrue (is_name channel) → IsDraft draft → IsBody (with_signatures channel draft es s)
+is_body : (channel : List ℕ) (draft : Draft) (es : List Endorsement) (s : List ℕ) → IsTrue (is_name channel) → IsWithin draft → IsBody (with_signatures channel draft es s)
 is_body channel draft es s n d =
     record { channel = n; id = length-tx_id_of draft.nonce (identity_bytes draft.creator); creator = d.creator; nonce = d.nonce; chaincode = d.chaincode; namespaces = d.namespaces }
 
-is_signed : (channel : List ℕ) (draft : Draft) (es : List Endorsement) (s : List ℕ) → IsTrue (is_name channel) → IsDraft draft → AreEndorsements es → IsSigned (with_signatures channel draft es s)
+is_signed : (channel : List ℕ) (draft : Draft) (es : List Endorsement) (s : List ℕ) → IsTrue (is_name channel) → IsWithin draft → AreEndorsements es → IsSigned (with_signatures channel draft es s)
 is_signed channel draft es s n d e = record { body = is_body channel draft es s n d; endorsements = e }
 
 -- ---- encoding
@@ -81,21 +81,21 @@ encodes (Ok bytes) wanted Spells ok large is fits =
 encodes (Err TooLarge) wanted Spells ok large is fits = elim (cases_lt max_tx_bytes (length wanted)) [ inl many ↦ many | inr few ↦ absurd (large refl wanted (fits few)) ]
 encodes (Err Memory) wanted Spells ok large is fits = tt
 
-pub encodes_body : (r : Result (List ℕ) EncodeFault) (tx : Tx) (channel : List ℕ) (draft : Draft) → tx ≡ with_signatures channel draft [] [] → IsTrue (is_name channel) → IsDraft draft
+pub encodes_body : (r : Result (List ℕ) EncodeFault) (tx : Tx) (channel : List ℕ) (draft : Draft) → tx ≡ with_signatures channel draft [] [] → IsTrue (is_name channel) → IsWithin draft
     → IfOk r (λ bytes. SpellsBody bytes tx) → (r ≡ Err TooLarge → (bytes : List ℕ) → ¬ SpellsBody bytes tx) → Encodes r (body_bytes (unsigned channel draft))
 encodes_body r tx channel draft is n d ok large =
     let fits = subst IsBody (sym is) (is_body channel draft [] [] n d) in
     subst (λ (t : Tx). Encodes r (body_bytes t)) is
     (encodes r (body_bytes tx) (λ bytes. SpellsBody bytes tx) ok large (λ bytes s. (s.fields, s.short)) (λ short. record { fits = fits; fields = refl; short = short }))
 
-pub encodes_signed : (r : Result (List ℕ) EncodeFault) (tx : Tx) (channel : List ℕ) (draft : Draft) (es : List Endorsement) → tx ≡ with_signatures channel draft es [] → IsTrue (is_name channel) → IsDraft draft → AreEndorsements es
+pub encodes_signed : (r : Result (List ℕ) EncodeFault) (tx : Tx) (channel : List ℕ) (draft : Draft) (es : List Endorsement) → tx ≡ with_signatures channel draft es [] → IsTrue (is_name channel) → IsWithin draft → AreEndorsements es
     → IfOk r (λ bytes. SpellsSigned bytes tx) → (r ≡ Err TooLarge → (bytes : List ℕ) → ¬ SpellsSigned bytes tx) → Encodes r (signed_bytes (with_signatures channel draft es []))
 encodes_signed r tx channel draft es is n d e ok large =
     let fits = subst IsSigned (sym is) (is_signed channel draft es [] n d e) in
     subst (λ (t : Tx). Encodes r (signed_bytes t)) is
     (encodes r (signed_bytes tx) (λ bytes. SpellsSigned bytes tx) ok large (λ bytes s. (s.fields, s.short)) (λ short. record { fits = fits; fields = refl; short = short }))
 
-pub encodes_whole : (r : Result (List ℕ) EncodeFault) (tx : Tx) (channel : List ℕ) (draft : Draft) (es : List Endorsement) (signature : List ℕ) → tx ≡ with_signatures channel draft es signature → IsTrue (is_name channel) → IsDraft draft → AreEndorsements es → length signature < 2 ^ 16
+pub encodes_whole : (r : Result (List ℕ) EncodeFault) (tx : Tx) (channel : List ℕ) (draft : Draft) (es : List Endorsement) (signature : List ℕ) → tx ≡ with_signatures channel draft es signature → IsTrue (is_name channel) → IsWithin draft → AreEndorsements es → length signature < 2 ^ 16
     → IfOk r (λ bytes. SpellsTx bytes tx) → (r ≡ Err TooLarge → (bytes : List ℕ) → ¬ SpellsTx bytes tx) → Encodes r (whole_bytes (with_signatures channel draft es signature))
 encodes_whole r tx channel draft es signature is n d e s ok large =
     let fits = subst IsWhole (sym is) (record { signed = is_signed channel draft es signature n d e; signature = s }) in
@@ -109,7 +109,7 @@ longer Memory part rest many = tt
 
 -- ---- the parts on the way
 
-pub are_those : (keys : List Entry) (body : List ℕ) (draft : Draft) (endorsers : List Identity) (es : List Endorsement) → IsDraft draft → endorsers ≡ draft.endorsers
+pub are_those : (keys : List Entry) (body : List ℕ) (draft : Draft) (endorsers : List Identity) (es : List Endorsement) → IsWithin draft → endorsers ≡ draft.endorsers
     → es ≡ map (endorsement_by keys body) endorsers → AreEndorsements es
 are_those keys body draft endorsers es d are is =
     subst AreEndorsements (sym (is ∙ ap (map (endorsement_by keys body)) are)) (are_endorsements keys body draft d)

@@ -1,3 +1,4 @@
+pub mod Authentic
 pub mod DraftBlock
 pub mod DraftTx
 pub mod Drafted

@@ -25,7 +25,7 @@ fn draft_bytes(
     keys: &KeyBook,
     draft: &Draft,
 ) -> Result<Bytes, DraftFault>
-    requires { IsDraft draft.now }
+    requires { IsDraft keys.now draft.now }
     ensures bytes { GivesUnless Memory result (spec.draft_bytes keys.now channel.now draft.now) }
     ensures spelled { IfOk result (λ bytes. SpellsTx bytes (tx_of keys.now channel.now draft.now)) }
 {
@@ -42,7 +42,7 @@ fn item_bytes(
     keys: &KeyBook,
     item: &Item,
 ) -> Result<Bytes, DraftFault>
-    requires { IsItem item.now }
+    requires { IsItem keys.now item.now }
     ensures bytes { GivesUnless Memory result (spec.item_bytes keys.now channel.now item.now) }
     ensures makes { IfOk result (λ bytes. Makes keys.now channel.now item.now bytes) }
 {
@@ -58,7 +58,7 @@ fn items_bytes(
     keys: &KeyBook,
     items: &[Item],
 ) -> Result<Vec<Bytes>, DraftFault>
-    requires { AllByRecursion IsItem items.now }
+    requires { AllByRecursion (IsItem keys.now) items.now }
     ensures makes { IfOk result (λ txs. MakesAll keys.now channel.now items.now txs.items) }
     ensures ok { IfOk result (λ txs. spec.items_bytes keys.now channel.now items.now ≡ Ok txs.items) }
     ensures err { IfErr result (λ fault. (fault ≡ Memory) ⊎ (spec.items_bytes keys.now channel.now items.now ≡ Err fault)) }

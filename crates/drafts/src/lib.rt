@@ -4,8 +4,10 @@
 mod block_bytes;
 mod drafting;
 mod fault;
+mod laws;
 mod signing;
 mod tx_bytes;
 
 pub use drafting::draft;
 pub use fault::DraftFault;
+pub use laws::drafts_are_authentic;

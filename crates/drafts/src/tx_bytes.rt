@@ -2,7 +2,7 @@
 ghost use Rattle.std.specs.Prelude.{◌≡◌, ◌<◌, ◌^◌, length, IsTrue, IfOk, OnOk};
 ghost use Rattle.values.specs.Name.{is_name};
 ghost use Rattle.transaction.specs.Grammar.{body_bytes, signed_bytes, whole_bytes, AreEndorsements, SpellsTx};
-ghost use Rattle.scripts.specs.Within.{IsDraft};
+ghost use Rattle.scripts.specs.Within.{IsWithin};
 ghost use Rattle.drafts.specs.DraftTx as spec;
 ghost use Rattle.drafts.specs.Encoding.{Encodes};
 
@@ -35,7 +35,7 @@ fn tx_with<'a>(
     endorsements: Items<Endorsement<'a>>,
     signature: Slice<'a>,
 ) -> Result<Tx<'a>, AllocError>
-    requires { IsDraft draft.now }
+    requires { IsWithin draft.now }
     ensures value { IfOk result (λ tx. tx ≡ record (spec.unsigned channel.now draft.now) { endorsements = endorsements.entry; signature = signature.entry }) }
     ensures named { OnOk result (IsTrue (is_name channel.now)) }
 {
@@ -53,7 +53,7 @@ fn tx_with<'a>(
 }
 
 fn body_of(alloc: Global, channel: &Name, draft: &Draft) -> Result<Bytes, EncodeFault>
-    requires { IsDraft draft.now }
+    requires { IsWithin draft.now }
     ensures { Encodes result (body_bytes (spec.unsigned channel.now draft.now)) }
 {
     let tx = tx_with(alloc, channel, draft, Items::new(alloc), Slice::new(&[]))?;
@@ -67,7 +67,7 @@ fn message_of(
     draft: &Draft,
     endorsements: &[Signed<'_>],
 ) -> Result<Bytes, EncodeFault>
-    requires draft { IsDraft draft.now }
+    requires draft { IsWithin draft.now }
     requires endorsements { AreEndorsements endorsements.now }
     ensures { Encodes result (signed_bytes (record (spec.unsigned channel.now draft.now) { endorsements = endorsements.now })) }
 {
@@ -83,7 +83,7 @@ fn whole_of(
     endorsements: &[Signed<'_>],
     signature: &Bytes,
 ) -> Result<Bytes, EncodeFault>
-    requires draft { IsDraft draft.now }
+    requires draft { IsWithin draft.now }
     requires endorsements { AreEndorsements endorsements.now }
     requires signature { length signature.now < 2 ^ 16 }
     ensures encodes { Encodes result (whole_bytes (record (spec.unsigned channel.now draft.now) { endorsements = endorsements.now; signature = signature.now })) }
@@ -102,7 +102,7 @@ pub(crate) fn tx_bytes(
     keys: &KeyBook,
     draft: &Draft,
 ) -> Result<Bytes, EncodeFault>
-    requires { IsDraft draft.now }
+    requires { IsWithin draft.now }
     ensures encodes { Encodes result (whole_bytes (spec.tx_of keys.now channel.now draft.now)) }
     ensures spelled { IfOk result (λ bytes. SpellsTx bytes (spec.tx_of keys.now channel.now draft.now)) }
 {

@@ -27,7 +27,7 @@ use Rattle.scripts.specs.Limits.{max_list, with_one}
 use Rattle.scripts.specs.Says.{says}
 use Rattle.scripts.specs.Script as spec
 use Rattle.scripts.specs.Within.{IsDraft, IsItem, AreDrafted}
-use Rattle.scripts.proofs.SayingLimits.{kept, either, mapped, below, IsEntry, IsSaying, says_within}
+use Rattle.scripts.proofs.SayingLimits.{kept, mapped, below, IsEntry, IsSaying, says_within}
 
 -- ---- lists
 
@@ -97,104 +97,122 @@ with_entry_within (entry.Policy write) ns e n =
     (λ writes few. record { name = n.name; reads = n.reads; ranges = n.ranges; writes = n.writes; policy_writes = listed _ writes few })
     (with_one_within _ max_list ns.policy_writes write n.policy_writes.1 e)
 
-with_namespaces_within : (draft : Draft) (namespaces : List NsSet) → IsDraft draft → AreItems IsNsSet namespaces → IsDraft (record draft { namespaces = namespaces })
-with_namespaces_within draft namespaces d n =
-    record { creator = d.creator; nonce = d.nonce; chaincode = d.chaincode; namespaces = n; count = d.count; endorsers = d.endorsers }
+with_namespaces_within : (keys : List book.Entry) (draft : Draft) (namespaces : List NsSet) → IsDraft keys draft → AreItems IsNsSet namespaces → IsDraft keys (record draft { namespaces = namespaces })
+with_namespaces_within keys draft namespaces d n =
+    record {
+      limits = record { creator = d.limits.creator; nonce = d.limits.nonce; chaincode = d.limits.chaincode; namespaces = n; count = d.limits.count; endorsers = d.limits.endorsers };
+      creator_signs = d.creator_signs;
+      endorsers_sign = d.endorsers_sign;
+    }
 
-with_namespace_within : (name : List ℕ) (draft : Draft) → IsTrue (is_name name) → IsDraft draft → IfSome (spec.with_namespace name draft) IsDraft
-with_namespace_within name draft n d =
-    mapped (λ changed. record draft { namespaces = changed }) (with_one max_list draft.namespaces (spec.empty_namespace name)) (AreFew max_list IsNsSet) IsDraft
-    (λ changed few. with_namespaces_within draft changed d (listed IsNsSet changed few))
-    (with_one_within IsNsSet max_list draft.namespaces (spec.empty_namespace name) d.namespaces.1
+with_namespace_within : (keys : List book.Entry) (name : List ℕ) (draft : Draft) → IsTrue (is_name name) → IsDraft keys draft → IfSome (spec.with_namespace name draft) (IsDraft keys)
+with_namespace_within keys name draft n d =
+    mapped (λ changed. record draft { namespaces = changed }) (with_one max_list draft.namespaces (spec.empty_namespace name)) (AreFew max_list IsNsSet) (IsDraft keys)
+    (λ changed few. with_namespaces_within keys draft changed d (listed IsNsSet changed few))
+    (with_one_within IsNsSet max_list draft.namespaces (spec.empty_namespace name) d.limits.namespaces.1
     (record { name = n; reads = (omega arith, tt); ranges = (omega arith, tt); writes = (omega arith, tt); policy_writes = (omega arith, tt) }))
 
-with_addition_within : (e : Entry) (draft : Draft) → IsEntry e → IsDraft draft → IfSome (spec.with_addition e draft) IsDraft
-with_addition_within e draft h d =
-    mapped (λ changed. record draft { namespaces = changed }) (spec.with_last (spec.with_entry e) draft.namespaces) (AreAsMany IsNsSet draft.namespaces) IsDraft
-    (λ changed many. with_namespaces_within draft changed d (as_many IsNsSet draft.namespaces changed d.namespaces many))
-    (with_last_within IsNsSet (spec.with_entry e) draft.namespaces (λ ns n. with_entry_within e ns h n) d.namespaces.1)
+with_addition_within : (keys : List book.Entry) (e : Entry) (draft : Draft) → IsEntry e → IsDraft keys draft → IfSome (spec.with_addition e draft) (IsDraft keys)
+with_addition_within keys e draft h d =
+    mapped (λ changed. record draft { namespaces = changed }) (spec.with_last (spec.with_entry e) draft.namespaces) (AreAsMany IsNsSet draft.namespaces) (IsDraft keys)
+    (λ changed many. with_namespaces_within keys draft changed d (as_many IsNsSet draft.namespaces changed d.limits.namespaces many))
+    (with_last_within IsNsSet (spec.with_entry e) draft.namespaces (λ ns n. with_entry_within e ns h n) d.limits.namespaces.1)
 
-with_endorser_within : (endorser : Identity) (draft : Draft) → IsIdentity endorser → IsDraft draft → IfSome (spec.with_endorser endorser draft) IsDraft
+both : {A : Type 0} (o : Option A) (P Q : A → Type 0) → IfSome o P → IfSome o Q → IfSome o (λ x. P x × Q x)
+both None P Q p q = tt
+both (Some x) P Q p q = (p, q)
+
+with_endorser_within : (keys : List book.Entry) (endorser : Identity) (draft : Draft) → IsIdentity endorser → IsTrue (spec.can_sign keys endorser) → IsDraft keys draft → IfSome (spec.with_endorser endorser draft) (IsDraft keys)
 unfolding AreFew
-with_endorser_within endorser draft e d =
-    mapped (λ endorsers. record draft { endorsers = endorsers }) (with_one max_endorsements draft.endorsers endorser) (AreFew max_endorsements IsIdentity) IsDraft
-    (λ endorsers few. record { creator = d.creator; nonce = d.nonce; chaincode = d.chaincode; namespaces = d.namespaces; count = few.0; endorsers = few.1 })
-    (with_one_within IsIdentity max_endorsements draft.endorsers endorser d.endorsers e)
+with_endorser_within keys endorser draft e signs d =
+    let Signs = λ (i : Identity). IsTrue (spec.can_sign keys i) in
+    let longer = with_one max_endorsements draft.endorsers endorser in
+    let few = AreFew max_endorsements IsIdentity in
+    let signing = AreFew max_endorsements Signs in
+    mapped (λ endorsers. record draft { endorsers = endorsers }) longer (λ es. few es × signing es) (IsDraft keys)
+    (λ endorsers all. record { limits = record { creator = d.limits.creator; nonce = d.limits.nonce; chaincode = d.limits.chaincode; namespaces = d.limits.namespaces; count = all.0.0; endorsers = all.0.1 }; creator_signs = d.creator_signs; endorsers_sign = all.1.1 })
+    (both longer few signing (with_one_within IsIdentity max_endorsements draft.endorsers endorser d.limits.endorsers e)
+    (with_one_within Signs max_endorsements draft.endorsers endorser d.endorsers_sign signs))
 
 -- ---- all of them
 
-record IsSoFar (so_far : SoFar) : Type 0 where
+record IsSoFar (keys : List book.Entry) (so_far : SoFar) : Type 0 where
   count : length so_far.items + length (option_to_list so_far.drafting) ≤ max_txs
-  each : AllByRecursion IsItem so_far.items
-  drafting : IfSome so_far.drafting IsDraft
+  each : AllByRecursion (IsItem keys) so_far.items
+  drafting : IfSome so_far.drafting (IsDraft keys)
 
-in_open_within : (change : Draft → Option Draft) (items : List Item) (drafting : Option Draft) → ((d : Draft) → IsDraft d → IfSome (change d) IsDraft)
-    → IsSoFar (record { items = items; drafting = drafting }) → IfSome (spec.in_open change (record { items = items; drafting = drafting })) IsSoFar
-in_open_within change items None to s = tt
-in_open_within change items (Some draft) to s =
-    mapped (λ d. record { items = items; drafting = Some d }) (change draft) IsDraft IsSoFar (λ d h. record { count = s.count; each = s.each; drafting = h }) (to draft s.drafting)
+in_open_within : (keys : List book.Entry) (change : Draft → Option Draft) (items : List Item) (drafting : Option Draft) → ((d : Draft) → IsDraft keys d → IfSome (change d) (IsDraft keys))
+    → IsSoFar keys (record { items = items; drafting = drafting }) → IfSome (spec.in_open change (record { items = items; drafting = drafting })) (IsSoFar keys)
+in_open_within keys change items None to s = tt
+in_open_within keys change items (Some draft) to s =
+    mapped (λ d. record { items = items; drafting = Some d }) (change draft) (IsDraft keys) (IsSoFar keys) (λ d h. record { count = s.count; each = s.each; drafting = h }) (to draft s.drafting)
 
-ended_within : (items : List Item) (drafting : Option Draft) → IsSoFar (record { items = items; drafting = drafting }) → IsSoFar (spec.ended (record { items = items; drafting = drafting }))
-ended_within items None s = record { count = omega (arith, s.count, length-append items []); each = all_append IsItem items [] s.each tt; drafting = tt }
-ended_within items (Some draft) s =
-    record { count = omega (arith, s.count, length-append items (Drafted draft ∷ [])); each = all_append IsItem items (Drafted draft ∷ []) s.each (s.drafting, tt); drafting = tt }
+ended_within : (keys : List book.Entry) (items : List Item) (drafting : Option Draft) → IsSoFar keys (record { items = items; drafting = drafting }) → IsSoFar keys (spec.ended (record { items = items; drafting = drafting }))
+ended_within keys items None s = record { count = omega (arith, s.count, length-append items []); each = all_append (IsItem keys) items [] s.each tt; drafting = tt }
+ended_within keys items (Some draft) s =
+    record { count = omega (arith, s.count, length-append items (Drafted draft ∷ [])); each = all_append (IsItem keys) items (Drafted draft ∷ []) s.each (s.drafting, tt); drafting = tt }
 
-before_within : (ends : Bool) (so_far : SoFar) → IsSoFar so_far → IsSoFar (cond ends (spec.ended so_far) so_far)
-before_within true so_far s = ended_within so_far.items so_far.drafting s
-before_within false so_far s = s
+before_within : (keys : List book.Entry) (ends : Bool) (so_far : SoFar) → IsSoFar keys so_far → IsSoFar keys (cond ends (spec.ended so_far) so_far)
+before_within keys true so_far s = ended_within keys so_far.items so_far.drafting s
+before_within keys false so_far s = s
 
-with_tx_within : (keys : List book.Entry) (draft : Draft) (so_far : SoFar) → IsDraft draft → IsSoFar so_far → IfSome (spec.with_tx keys draft so_far) IsSoFar
+with_tx_within : (keys : List book.Entry) (draft : Draft) (so_far : SoFar) → (IsTrue (spec.can_sign keys draft.creator) → IsDraft keys draft) → IsSoFar keys so_far → IfSome (spec.with_tx keys draft so_far) (IsSoFar keys)
 with_tx_within keys draft so_far d s =
+    let signs = spec.can_sign keys draft.creator in
     let fits = nat_lt (length so_far.items) max_txs in
-    kept (spec.can_sign keys draft.creator && fits) (record { items = so_far.items; drafting = Some draft }) IsSoFar
-    (λ test. with_room d s (below (length so_far.items) max_txs (and_parts (spec.can_sign keys draft.creator) fits test).1))
+    kept (signs && fits) (record { items = so_far.items; drafting = Some draft }) (IsSoFar keys)
+    (λ test. with_room (d (and_parts signs fits test).0) s (below (length so_far.items) max_txs (and_parts signs fits test).1))
   where
-    with_room : IsDraft draft → IsSoFar so_far → length so_far.items < max_txs → IsSoFar (record { items = so_far.items; drafting = Some draft })
+    with_room : IsDraft keys draft → IsSoFar keys so_far → length so_far.items < max_txs → IsSoFar keys (record { items = so_far.items; drafting = Some draft })
     with_room d s few = record { count = omega arith; each = s.each; drafting = d }
 
-with_raw_within : (bytes : List ℕ) (so_far : SoFar) → IsItem (Raw bytes) → IsSoFar so_far → IfSome (spec.with_raw bytes so_far) IsSoFar
+with_raw_within : (keys : List book.Entry) (bytes : List ℕ) (so_far : SoFar) → IsItem keys (Raw bytes) → IsSoFar keys so_far → IfSome (spec.with_raw bytes so_far) (IsSoFar keys)
 unfolding AreFew
-with_raw_within bytes so_far b s =
-    mapped (λ items. record { items = items; drafting = None }) (with_one max_txs so_far.items (Raw bytes)) (AreFew max_txs IsItem) IsSoFar
-    (λ items few. record { count = omega (arith, few.0); each = few.1; drafting = tt }) (with_one_within IsItem max_txs so_far.items (Raw bytes) s.each b)
+with_raw_within keys bytes so_far b s =
+    mapped (λ items. record { items = items; drafting = None }) (with_one max_txs so_far.items (Raw bytes)) (AreFew max_txs (IsItem keys)) (IsSoFar keys)
+    (λ items few. record { count = omega (arith, few.0); each = few.1; drafting = tt }) (with_one_within (IsItem keys) max_txs so_far.items (Raw bytes) s.each b)
 
-said_by_within : (keys : List book.Entry) (n : ℕ) (so_far : SoFar) (saying : Saying) → IsSaying saying → IsSoFar so_far → IfSome (spec.said_by keys n so_far saying) IsSoFar
+when : {A : Type 0} (b : Bool) (x : Option A) (P : A → Type 0) → (b ≡ true → IfSome x P) → IfSome (cond b x None) P
+when true x P holds = holds refl
+when false x P holds = tt
+
+said_by_within : (keys : List book.Entry) (n : ℕ) (so_far : SoFar) (saying : Saying) → IsSaying saying → IsSoFar keys so_far → IfSome (spec.said_by keys n so_far saying) (IsSoFar keys)
 said_by_within keys n so_far (saying.Tx creator nonce chaincode) h s =
     with_tx_within keys _ so_far
-    (record { creator = h.0; nonce = omega (arith, h.1); chaincode = h.2; namespaces = (omega arith, tt); count = omega arith; endorsers = tt }) s
-said_by_within keys n so_far (saying.Raw bytes) h s = with_raw_within bytes so_far h s
+    (λ signs. record { limits = record { creator = h.0; nonce = omega (arith, h.1); chaincode = h.2; namespaces = (omega arith, tt); count = omega arith; endorsers = tt }; creator_signs = signs; endorsers_sign = tt }) s
+said_by_within keys n so_far (saying.Raw bytes) h s = with_raw_within keys bytes so_far h s
 said_by_within keys n so_far (saying.Namespace name) h s =
-    in_open_within (spec.with_namespace name) so_far.items so_far.drafting (λ d dh. with_namespace_within name d h dh) s
+    in_open_within keys (spec.with_namespace name) so_far.items so_far.drafting (λ d dh. with_namespace_within keys name d h dh) s
 said_by_within keys n so_far (saying.Adds e) h s =
-    in_open_within (spec.with_addition e) so_far.items so_far.drafting (λ d dh. with_addition_within e d h dh) s
+    in_open_within keys (spec.with_addition e) so_far.items so_far.drafting (λ d dh. with_addition_within keys e d h dh) s
 said_by_within keys n so_far (saying.Endorse endorser) h s =
-    either (spec.can_sign keys endorser) (spec.in_open (spec.with_endorser endorser) so_far) None IsSoFar
-    (in_open_within (spec.with_endorser endorser) so_far.items so_far.drafting (λ d dh. with_endorser_within endorser d h dh) s) tt
+    when (spec.can_sign keys endorser) (spec.in_open (spec.with_endorser endorser) so_far) (IsSoFar keys)
+    (λ signs. in_open_within keys (spec.with_endorser endorser) so_far.items so_far.drafting (λ d dh. with_endorser_within keys endorser d h signs dh) s)
 
-said_with_within : (keys : List book.Entry) (n : ℕ) (so_far : SoFar) (o : Option Saying) → IfSome o IsSaying → IsSoFar so_far → IfSome (option_and_then (spec.said_by keys n so_far) o) IsSoFar
+said_with_within : (keys : List book.Entry) (n : ℕ) (so_far : SoFar) (o : Option Saying) → IfSome o IsSaying → IsSoFar keys so_far → IfSome (option_and_then (spec.said_by keys n so_far) o) (IsSoFar keys)
 said_with_within keys n so_far None h s = tt
 said_with_within keys n so_far (Some saying) h s = said_by_within keys n so_far saying h s
 
-drafted : (so_far : SoFar) → IsSoFar so_far → AreDrafted so_far.items
-drafted so_far s = record { count = omega (arith, s.count); each = s.each }
+drafted : (keys : List book.Entry) (so_far : SoFar) → IsSoFar keys so_far → AreDrafted keys so_far.items
+drafted keys so_far s = record { count = omega (arith, s.count); each = s.each }
 
-or_stops_within : (go : SoFar → Script) (n : ℕ) (items : List Item) (o : Option SoFar) → AreDrafted items → ((s : SoFar) → IsSoFar s → AreDrafted (go s).items) → IfSome o IsSoFar
-    → AreDrafted (spec.or_stops go n items o).items
-or_stops_within go n items None i to h = i
-or_stops_within go n items (Some s) i to h = to s h
+or_stops_within : (keys : List book.Entry) (go : SoFar → Script) (n : ℕ) (items : List Item) (o : Option SoFar) → AreDrafted keys items → ((s : SoFar) → IsSoFar keys s → AreDrafted keys (go s).items) → IfSome o (IsSoFar keys)
+    → AreDrafted keys (spec.or_stops go n items o).items
+or_stops_within keys go n items None i to h = i
+or_stops_within keys go n items (Some s) i to h = to s h
 
-script_from_within : (keys : List book.Entry) (so_far : SoFar) (text : List Statement) → IsSoFar so_far → AreDrafted (spec.script_from keys so_far text).items
-script_from_within keys so_far [] s = drafted (spec.ended so_far) (ended_within so_far.items so_far.drafting s)
+script_from_within : (keys : List book.Entry) (so_far : SoFar) (text : List Statement) → IsSoFar keys so_far → AreDrafted keys (spec.script_from keys so_far text).items
+script_from_within keys so_far [] s = drafted keys (spec.ended so_far) (ended_within keys so_far.items so_far.drafting s)
 script_from_within keys so_far (line ∷ more) s =
     let before = spec.before line.bytes so_far in
-    let b : IsSoFar before = before_within (spec.ends_before line.bytes) so_far s in
-    or_stops_within (λ next. spec.script_from keys next more) line.line before.items (spec.said_with keys line.line before line.bytes) (drafted before b)
+    let b : IsSoFar keys before = before_within keys (spec.ends_before line.bytes) so_far s in
+    or_stops_within keys (λ next. spec.script_from keys next more) line.line before.items (spec.said_with keys line.line before line.bytes) (drafted keys before b)
     (λ next h. script_from_within keys next more h) (said_with_within keys line.line before (says line.bytes) (says_within line.bytes) b)
 
-pub script_within : (keys : List book.Entry) (text : List ℕ) → AreDrafted (spec.script_of keys text).items
+pub script_within : (keys : List book.Entry) (text : List ℕ) → AreDrafted keys (spec.script_of keys text).items
 script_within keys text = script_from_within keys spec.nothing_said (statements text) (record { count = omega arith; each = tt; drafting = tt })
 
 pub read_within : {E : Type 0} (r : Result Script E) (keys : List book.Entry) (text : List ℕ) → IfOk r (λ script. script ≡ spec.script_of keys text)
-    → IfOk r (λ script. AreDrafted script.items)
-read_within (Ok script) keys text is = subst (λ (s : Script). AreDrafted s.items) (sym is) (script_within keys text)
+    → IfOk r (λ script. AreDrafted keys script.items)
+read_within (Ok script) keys text is = subst (λ (s : Script). AreDrafted keys s.items) (sym is) (script_within keys text)
 read_within (Err e) keys text is = tt

@@ -74,7 +74,7 @@ fn read_lines(alloc: Global, text: &str, keys: &KeyBook) -> Result<Script, Alloc
 /// linear in the text.
 pub fn read(alloc: Global, text: &str, keys: &KeyBook) -> Result<Script, AllocError>
     ensures said { IfOk result (λ script. script ≡ script_of keys.now text.now) }
-    ensures within { IfOk result (λ script. AreDrafted script.items) }
+    ensures within { IfOk result (λ script. AreDrafted keys.now script.items) }
 {
     read_lines(alloc, text, keys)
 }

@@ -9,5 +9,5 @@ loop-item-preserved c = record {
   makes =
       makes_next c.args.keys.now c.args.channel.now c.args.items.now c.loop-item.item-index c.loop-item.txs.items c.push.new.self.items c.item-item.result c.in_ok-item_bytes.field-0
       c.loop-item-test.true c.item-item.is c.loop-item.invariant.makes c.in_ok-item_bytes.ensures.makes c.in_ok-push.ensures.items;
-  left = left_next c.args.items.now c.loop-item.item-index c.item-item.result c.loop-item-test.true c.loop-item.invariant.left;
+  left = left_next c.args.keys.now c.args.items.now c.loop-item.item-index c.item-item.result c.loop-item-test.true c.loop-item.invariant.left;
 }

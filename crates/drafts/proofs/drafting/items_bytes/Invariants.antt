@@ -10,5 +10,5 @@ abbrev pub invariant-loop-item : goal.invariant-loop-item
 invariant-loop-item l = record {
   bytes : behind l.txs.items (items_bytes l.keys l.channel (drop l.item-index l.items)) ≡ items_bytes l.keys l.channel l.items;
   makes : MakesAll l.keys l.channel (take l.item-index l.items) l.txs.items;
-  left : AllByRecursion IsItem (drop l.item-index l.items);
+  left : AllByRecursion (IsItem l.keys) (drop l.item-index l.items);
 }

@@ -1,0 +1,53 @@
+-- The book accepts what it signs.
+use Rattle.std.proofs.Common.{◌≡◌, ℕ, List, [], ◌∷◌, ◌++◌, map, true, false, Option, Some, None, refl}
+use Rattle.std.specs.Prelude.{IsTrue, is_some, option_map, unwrap_or}
+use Rattle.std.specs.List.{AllByRecursion}
+use Rattle.std.specs.Option.{option_map_or}
+use Rattle.std.specs.Str.{bytes_eq}
+use Rattle.std.proofs.lemmas.Slice.Eq.{bytes_eq-Decides}
+use Rattle.transaction.specs.Grammar.{identity_bytes, body_bytes, signed_bytes}
+use Rattle.transaction.specs.declared.identity.Identity.{Identity}
+use Rattle.key_book.specs.Entry.{Entry}
+use Rattle.key_book.specs.Book.{key_in_book, accepts}
+use Rattle.key_book.specs.Hmac.{hmac}
+use Rattle.scripts.specs.declared.script.Item.{Item}
+use Rattle.scripts.specs.declared.script.Item.TheVariants.{Raw, Drafted}
+use Rattle.scripts.specs.Draft.{Draft}
+use Rattle.scripts.specs.Script.{can_sign, script_of}
+use Rattle.scripts.specs.Within.{IsDraft, IsItem}
+use Rattle.scripts.proofs.ScriptLimits.{script_within}
+use Rattle.drafts.specs.DraftTx.{signed_by, endorsement_by, unsigned, endorsed, tx_of}
+use Rattle.drafts.specs.Authentic.{IsAuthentic, IsAuthenticItem, DraftsAreAuthentic}
+
+same_bytes : (bytes : List ℕ) → bytes_eq bytes bytes ≡ true
+same_bytes bytes = (bytes_eq-Decides bytes bytes).1 refl
+
+accepted_with : (key : Option (List ℕ)) (message : List ℕ) → is_some key ≡ true
+    → option_map_or (λ signed. bytes_eq signed (unwrap_or (option_map (λ k. hmac k message) key) [])) (option_map (λ k. hmac k message) key) false ≡ true
+accepted_with None message some = cc
+accepted_with (Some key) message some = same_bytes (hmac key message)
+
+accepted : (keys : List Entry) (identity : Identity) (message : List ℕ) → IsTrue (can_sign keys identity) → IsTrue (accepts keys identity message (signed_by keys identity message))
+accepted keys identity message signs = accepted_with (key_in_book identity keys) message signs
+
+endorsers_accepted : (keys : List Entry) (body : List ℕ) (endorsers : List Identity) → AllByRecursion (λ e. IsTrue (can_sign keys e)) endorsers
+    → AllByRecursion (λ e. IsTrue (accepts keys e.endorser (body ++ identity_bytes e.endorser) e.signature)) (map (endorsement_by keys body) endorsers)
+endorsers_accepted keys body [] all = tt
+endorsers_accepted keys body (e ∷ more) all = (accepted keys e (body ++ identity_bytes e) all.0, endorsers_accepted keys body more all.1)
+
+authentic : (keys : List Entry) (channel : List ℕ) (draft : Draft) → IsDraft keys draft → IsAuthentic keys channel (tx_of keys channel draft)
+authentic keys channel draft d =
+    record {
+      is_for = refl;
+      id = refl;
+      creator = accepted keys draft.creator (signed_bytes (endorsed keys channel draft)) d.creator_signs;
+      endorsers = endorsers_accepted keys (body_bytes (unsigned channel draft)) draft.endorsers d.endorsers_sign;
+    }
+
+items_authentic : (keys : List Entry) (channel : List ℕ) (items : List Item) → AllByRecursion (IsItem keys) items → AllByRecursion (IsAuthenticItem keys channel) items
+items_authentic keys channel [] all = tt
+items_authentic keys channel (Raw bytes ∷ more) all = (tt, items_authentic keys channel more all.1)
+items_authentic keys channel (Drafted draft ∷ more) all = (authentic keys channel draft all.0, items_authentic keys channel more all.1)
+
+pub drafts_authentic : DraftsAreAuthentic
+drafts_authentic keys channel text = items_authentic keys channel (script_of keys text).items (script_within keys text).each
