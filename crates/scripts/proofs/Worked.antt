@@ -14,7 +14,7 @@ use Rattle.scripts.specs.Draft.{Draft}
 use Rattle.scripts.specs.Limits.{with_one}
 use Rattle.scripts.specs.Numbers.{number_of}
 use Rattle.scripts.specs.Says.{says}
-use Rattle.scripts.specs.Script.{empty_namespace, script_of}
+use Rattle.scripts.specs.Script.{empty_namespace, with_endorser, with_raw, with_tx, script_of}
 
 client : Identity
 client = record { org = codes "Org1"; role = Client; label = codes "c0" }
@@ -76,6 +76,11 @@ endorsed_between = refl
 nothing_at_all : script_of keys [] ≡ record { items = []; fault = None }
 unfolding client peer keys
 nothing_at_all = refl
+
+-- the number of its own line
+later_line : script_of keys (codes "# c" / codes "raw" / begins) ≡ record { items = Raw [] ∷ Drafted (said 3 [] []) ∷ []; fault = None }
+unfolding client peer keys ◌/◌ said hex_on_literals
+later_line = refl
 
 -- ---- the first faulty line, and what ended before it
 
@@ -146,6 +151,13 @@ third_part = refl
 long_nonce : says (codes "tx Org1:client:c0 " ++ (replicate 256 110 ++ codes " cc")) ≡ None
 long_nonce = refl
 
+-- the transaction's place has 32 bits
+too_great_place : says (codes "result k 0 4294967296") ≡ None
+too_great_place = refl
+
+greatest_place : says (codes "result k 0 4294967295") ≡ Some (saying.Adds (entry.Found (record { key = codes "k"; version = record { block = 0; tx = 4294967295 } })))
+greatest_place = refl
+
 -- ---- numbers
 
 greatest : number_of 64 (codes "18446744073709551615") ≡ Some 18446744073709551615
@@ -173,3 +185,18 @@ full = refl
 
 one_more : with_one {A = ℕ} 2 (1 ∷ []) 2 ≡ Some (1 ∷ 2 ∷ [])
 one_more = refl
+
+sixty_five_endorsers : with_endorser peer (said 1 [] (replicate 64 peer)) ≡ None
+unfolding client peer said
+sixty_five_endorsers = refl
+
+sixty_four_endorsers : with_endorser peer (said 1 [] (replicate 63 peer)) ≡ Some (said 1 [] (replicate 64 peer))
+unfolding client peer said
+sixty_four_endorsers = refl
+
+one_raw_more : with_raw [] (record { items = replicate 4096 (Raw []); drafting = None }) ≡ None
+one_raw_more = refl
+
+full_block : with_tx keys (said 1 [] []) (record { items = replicate 4096 (Raw []); drafting = None }) ≡ None
+unfolding client peer keys said
+full_block = refl
