@@ -47,7 +47,8 @@ fn tx_of(uses: [KeyUse; KEYS]) -> TxCase {
     tx
 }
 
-// The key is absent. The first inserts it, the second writes its policy alone, and the third reads the second's version.
+// The key is absent before the block. The first transaction inserts it, the second writes its policy alone, and the
+// third reads the second's version.
 fn insert_policy_read() -> JobCase {
     let second = Version {
         block: BLOCK,
@@ -61,8 +62,8 @@ fn insert_policy_read() -> JobCase {
     case
 }
 
-// The example of the documentation: five keys were written before. The second reads what the first has written, the
-// fourth what the third has, and the fifth what nobody has.
+// The example of Fabric's documentation: five keys have rows before the block. The second transaction reads what the
+// first writes, the fourth what the first and the third write, and the fifth what nobody writes.
 fn readers_and_writers() -> JobCase {
     let mut put_after_read = PUT;
     put_after_read.read = Some(Some(BEFORE));
