@@ -42,6 +42,6 @@ abbrev pub tx_of : List Entry → List ℕ → Draft → Tx
 tx_of keys channel draft =
     record (endorsed keys channel draft) { signature = signed_by keys draft.creator (signed_bytes (endorsed keys channel draft)) }
 
--- its bytes are more than a transaction has
+-- its bytes are more than a transaction has; its body and its signed part, which begin them, are never longer
 abbrev pub is_too_long : Tx → Bool
 is_too_long tx = nat_lt max_tx_bytes (length (whole_bytes tx))

@@ -70,8 +70,16 @@ fn items_bytes(
     Ok(txs)
 }
 
-/// The bytes of the block that a script drafts on a channel, behind the header of the block before, or as block 0
-/// where there is none. `scripts::read` says how a script is read.
+/// The bytes of the block that a script drafts on a channel: behind the header of the block before, or block 0 where
+/// there is none. A drafted transaction gets its id, and the signatures of its endorsers and its creator by the book's
+/// keys; a raw one is taken as it is. [`scripts::read`] says how a script is read.
+///
+/// The fault is `Line` with the first faulty line, unless memory runs out before. A transaction that is too long, whole
+/// or in a part, is a fault of its `tx` line, and known once it has ended: a faulty line further on comes after it, one
+/// within it before it.
+///
+/// Linear in the text and the block, and for each endorser in the body that it signs; the memory is linear in the text
+/// and the block.
 pub fn draft(
     alloc: Global,
     channel: &Name,
@@ -80,8 +88,9 @@ pub fn draft(
     text: &str,
 ) -> Result<Bytes, DraftFault>
     requires { IfSome previous (λ h. h.number + 1 < 2 ^ 64) }
+    // Exactly these bytes, or the first faulty line.
     ensures drafted { GivesUnless Memory result (spec.drafted keys.now channel.now previous text.now) }
-    // What its bytes are.
+    // They spell the block that has the script's transactions and stands behind the header.
     ensures block { IfOk result (λ bytes. IsDrafted keys.now channel.now previous text.now bytes) }
 {
     let script = read(alloc, text, keys)?;

@@ -94,8 +94,7 @@ fn whole_of(
     encode_tx(alloc, &tx)
 }
 
-/// The bytes of the transaction that a draft makes. Its body is encoded three times over, to be signed, and an
-/// HMAC of it made for each endorser.
+// The bytes of the transaction that a draft makes. The body is encoded for its endorsers, for its creator and as it is.
 pub(crate) fn tx_bytes(
     alloc: Global,
     channel: &Name,
