@@ -1,5 +1,5 @@
 -- What the candidates of the next block change is its delta, and a world with it applied is a step.
-use Rattle.std.proofs.Common.{◌≡◌, ℕ, List, [], ◌∷◌, length, map, Option, Ok, sym, ap, subst, ◌∙◌}
+use Rattle.std.proofs.Common.{◌≡◌, ℕ, List, [], length, map, Option, Ok, sym, ap, subst, ◌∙◌}
 use Rattle.std.proofs.lemmas.List.{length-map}
 use Rattle.block.specs.declared.block.Block.{Block}
 use Rattle.channel.specs.Configuration.{Configuration}
@@ -14,7 +14,6 @@ use Rattle.rules.specs.Delta.{applied, IsDelta}
 use Rattle.rules.specs.FirstUses.{with_uses}
 use Rattle.rules.specs.History.{with_entries}
 use Rattle.rules.specs.Job.{Job}
-use Rattle.rules.specs.Linked.{IsLinked}
 use Rattle.rules.specs.Step.{Step}
 use Rattle.rules.specs.World.{World, height_of}
 use Rattle.rules.proofs.Candidates.{length-candidates_from}

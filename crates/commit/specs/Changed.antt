@@ -1,7 +1,6 @@
 -- What the candidates of a block change, part by part. A step between the definition of deltas and the code: no public
 -- contract cites this.
 use Rattle.std.specs.Prelude.{◌≡◌, ℕ, List, length, Option}
-use Rattle.rules.specs.declared.committed.CommittedBlock.{CommittedBlock}
 use Rattle.rules.specs.declared.delta.Delta.{Delta}
 use Rattle.rules.specs.State.{with_changes}
 use Rattle.rules.specs.Commit.{uses_from}

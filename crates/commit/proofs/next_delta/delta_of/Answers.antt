@@ -1,4 +1,4 @@
-use Rattle.std.proofs.Common.{ℕ, List, Option, length, map, ◌≤◌, ap, sym, subst, ◌∙◌, arith}
+use Rattle.std.proofs.Common.{length, ap, sym, ◌∙◌}
 use Rattle.rules.proofs.BlockFlags.{length-flags}
 use Rattle.commit.proofs.next_delta.delta_of.Goals as goal
 

@@ -1,8 +1,6 @@
-use Rattle.std.proofs.Common.{ℕ, List, [], Option, length, map, ap, sym, ◌∙◌, arith}
+use Rattle.std.proofs.Common.{[], length, map, ap, sym, ◌∙◌, arith}
 use Rattle.std.proofs.lemmas.List.{length-map}
 use Rattle.transaction.specs.Decoded.{tx_of}
-use Rattle.rules.specs.Candidate.{Candidate}
-use Rattle.rules.specs.Job.{Job}
 use Rattle.rules.proofs.Candidates.{length-candidates_from}
 use Rattle.candidates.specs.Seen.{seen}
 use Rattle.txid_index.specs.Marks.{marks}
