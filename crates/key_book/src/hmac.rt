@@ -1,5 +1,6 @@
-ghost use Rattle.std.specs.Prelude.{◌≡◌, ◌≤◌, length};
+ghost use Rattle.std.specs.Prelude.{◌≡◌, ◌≤◌, ℕ, List, length};
 ghost use Rattle.key_book.specs.Hmac.{hmac, key_xor, padded_key};
+ghost use Rattle.key_book.specs.Pads.{AreHashedPads};
 
 use sha2::{Digest, Sha256};
 use values::Hash;
@@ -31,17 +32,53 @@ fn key_xor(key: &[u8], pad: u8) -> [u8; BLOCK]
     block
 }
 
+/// Both paddings of a key, hashed once for all messages (RFC 2104, section 4).
+#[derive(Debug, Drop)]
+pub(crate) struct HashedPads {
+    inner: Sha256,
+    outer: Sha256,
+}
+
+fn copy_of(hasher: &Sha256) -> Sha256
+    ensures { result ≡ hasher.now }
+{
+    let Ok(copy) = hasher.clone() else {
+        unreachable!()
+    };
+    copy
+}
+
+impl HashedPads {
+    /// Those of a key of up to 64 bytes.
+    pub(crate) fn new(key: &[u8]) -> HashedPads
+        requires { length key.now ≤ 64 }
+        ensures { AreHashedPads key.now result }
+    {
+        let mut inner = Sha256::new();
+        inner.update(key_xor(key, IPAD));
+        let mut outer = Sha256::new();
+        outer.update(key_xor(key, OPAD));
+        HashedPads { inner, outer }
+    }
+
+    /// The 32 bytes of HMAC-SHA-256 of the message, under the key whose paddings these are. Linear in the message; takes
+    /// no memory, and copies no part of the message but what SHA-256 buffers.
+    pub(crate) fn hmac(&self, message: &[u8]) -> Hash
+        ensures { (key : List ℕ) → AreHashedPads key self.now → result ≡ hmac key message.now }
+    {
+        let mut inner = copy_of(&self.inner);
+        inner.update(message);
+        let mut outer = copy_of(&self.outer);
+        outer.update(inner.finalize());
+        outer.finalize()
+    }
+}
+
 /// The 32 bytes of HMAC-SHA-256 (RFC 2104) of the message, under a key of up to 64 bytes. Linear in
 /// the message; takes no memory, and copies no part of the message but what SHA-256 buffers.
 pub fn hmac_sha256(key: &[u8], message: &[u8]) -> Hash
     requires { length key.now ≤ 64 }
     ensures { result ≡ hmac key.now message.now }
 {
-    let mut inner = Sha256::new();
-    inner.update(key_xor(key, IPAD));
-    inner.update(message);
-    let mut outer = Sha256::new();
-    outer.update(key_xor(key, OPAD));
-    outer.update(inner.finalize());
-    outer.finalize()
+    HashedPads::new(key).hmac(message)
 }

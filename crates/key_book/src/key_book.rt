@@ -1,4 +1,4 @@
-ghost use Rattle.std.specs.Prelude.{◌≡◌, ◌⊎◌, ◌↔◌, List, IsTrue, IfSome, IfOk, IfErr};
+ghost use Rattle.std.specs.Prelude.{◌≡◌, ◌⊎◌, ◌↔◌, List, IsTrue, IfSome, IfOk, IfErr, is_some};
 ghost use Rattle.std.specs.Option.{option_copied, option_map};
 ghost use Rattle.values.specs.Memory.{GivesUnless};
 ghost use Rattle.key_book.specs.BookText.{book_of};
@@ -7,7 +7,6 @@ ghost use Rattle.key_book.specs.Entry.{Entry};
 ghost use Rattle.key_book.specs.Book.{key_in_book, signature_of, accepts};
 
 use crate::fault::KeyBookFault;
-use crate::hmac::hmac_sha256;
 use crate::keyed::Keyed;
 use policy_eval::Verify;
 use std::alloc::Global;
@@ -72,6 +71,13 @@ impl KeyBook {
         })
     }
 
+    /// Whether the identity is in the book, so that it can sign. Linear in the book's entries; takes no memory.
+    pub fn contains(&self, identity: &Identity<'_>) -> bool
+        ensures { result ≡ is_some (key_in_book identity.now self.now) }
+    {
+        entry_of(self.entries.as_slice(), identity).is_some()
+    }
+
     /// The 32 bytes by which the identity signs the message, its HMAC-SHA-256 (RFC 2104) under the
     /// identity's key, or `None` where the identity isn't in the book. Linear in the book's entries
     /// and the message; takes no memory.
@@ -81,7 +87,7 @@ impl KeyBook {
             (λ signed. IsTrue (accepts self.now identity.now message.now signed)) }
     {
         let entry = entry_of(self.entries.as_slice(), identity)?;
-        Some(hmac_sha256(entry.key(), message))
+        Some(entry.sign(message))
     }
 }
 

@@ -1,13 +1,15 @@
-ghost use Rattle.std.specs.Prelude.{◌≡◌, ◌≤◌, length, IfOk};
+ghost use Rattle.std.specs.Prelude.{◌≡◌, IfOk, IfSome, IsTrue};
 ghost use Rattle.key_book.specs.BookText.{key_of_digits};
+ghost use Rattle.key_book.specs.Entry.{is_key};
 
+use crate::hmac::HashedPads;
 use crate::identity_text::read_identity;
 use hex::FromHexError;
 use std::alloc::{AllocError, Global};
 use std::marker::Model;
 use text_lines::first_part;
 use transaction::{Identity, OwnedIdentity};
-use values::Bytes;
+use values::{Bytes, Hash};
 
 // A key has 1 to 64 bytes, of two digits each.
 const MIN_DIGITS: usize = 2;
@@ -15,7 +17,8 @@ const MIN_DIGITS: usize = 2;
 pub(crate) const MAX_DIGITS: usize = 128;
 
 fn read_key(alloc: Global, digits: &[u8]) -> Result<Option<Bytes>, AllocError>
-    ensures { IfOk result (λ key. key ≡ key_of_digits digits.now) }
+    ensures key { IfOk result (λ key. key ≡ key_of_digits digits.now) }
+    ensures size { IfOk result (λ key. IfSome key (λ k. IsTrue (is_key k))) }
 {
     if digits.len() < MIN_DIGITS || digits.len() > MAX_DIGITS {
         return Ok(None);
@@ -32,21 +35,24 @@ fn read_key(alloc: Global, digits: &[u8]) -> Result<Option<Bytes>, AllocError>
 pub struct Keyed {
     identity: OwnedIdentity,
     key: Bytes,
+    pads: HashedPads,
 }
 
 impl Model for Keyed {
     ghost use Rattle.std.specs.Prelude.{IsTrue};
     ghost use Rattle.key_book.specs.Entry.{Entry, is_key};
+    ghost use Rattle.key_book.specs.Pads.{AreHashedPads};
 
     ghost Value = { Entry };
 
     ghost view = { λ k. record { identity = k.identity; key = k.key } };
 
-    ghost invariant = { λ k. IsTrue (is_key k.key) };
+    ghost invariant = { λ k. IsTrue (is_key k.key) × AreHashedPads k.key k.pads };
 }
 
 impl Keyed {
     ghost use Rattle.key_book.specs.BookText.{entry_of};
+    ghost use Rattle.key_book.specs.Hmac.{hmac};
 
     /// The entry that a line `IDENTITY HEXKEY` gives, or `None` where the line has another form.
     pub fn read(alloc: Global, line: &[u8]) -> Result<Option<Keyed>, AllocError>
@@ -59,7 +65,12 @@ impl Keyed {
         let Some(key) = read_key(alloc, digits)? else {
             return Ok(None);
         };
-        Ok(Some(Keyed { identity, key }))
+        let pads = HashedPads::new(key.as_slice());
+        Ok(Some(Keyed {
+            identity,
+            key,
+            pads,
+        }))
     }
 
     pub fn identity(&self) -> Identity<'_>
@@ -68,10 +79,10 @@ impl Keyed {
         self.identity.lend()
     }
 
-    pub fn key(&self) -> &[u8]
-        ensures value { result.now ≡ self.now.key }
-        ensures most { length result.now ≤ 64 }
+    /// HMAC-SHA-256 of a message under the key, whose paddings were hashed when it was read.
+    pub fn sign(&self, message: &[u8]) -> Hash
+        ensures { result ≡ hmac self.now.key message.now }
     {
-        self.key.as_slice()
+        self.pads.hmac(message)
     }
 }
