@@ -1,6 +1,7 @@
 //! What can be said of transactions without the world.
 ghost use Rattle.std.specs.Prelude.{◌≡◌, map, None, IfOk};
 ghost use Rattle.transaction.specs.Decoded.{tx_of};
+ghost use Rattle.transaction.specs.Grammar.{body_bytes};
 ghost use Rattle.transaction.specs.Spelled.{IsSpelled};
 ghost use Rattle.policy_eval.specs.Signers.{signers_of};
 ghost use Rattle.rules.specs.Candidate.{flagged, flagged_or, opened};
@@ -12,7 +13,7 @@ use block_steps::{decoded_tx, origin_fault};
 use candidates::{Candidate, InForm};
 use channel::Channel;
 use policy::Definitions;
-use policy_eval::{Verify, signers};
+use policy_eval::{Verify, signers_with_body};
 use rules::Flag;
 use std::alloc::{AllocError, Global};
 use transaction::{Tx, TxId};
@@ -34,13 +35,15 @@ fn candidate_of<'a, V: Verify>(
     definitions: &Definitions,
     verifier: &V,
     tx: Tx<'a>,
+    body: &[u8],
 ) -> Result<Candidate<'a>, AllocError>
-    requires { IsSpelled tx }
+    requires spelled { IsSpelled tx }
+    requires body { body.now ≡ body_bytes tx }
     ensures { IfOk result (λ c. seen c ≡ flagged_or (sets_fault definitions.now tx.entry) (opened tx.entry (signers_of (V.accepts verifier.now) tx.entry))) }
 {
     match InForm::check(alloc, tx, definitions)? {
         Ok(in_form) => {
-            let signers = signers(alloc, in_form.tx(), verifier)?;
+            let signers = signers_with_body(alloc, in_form.tx(), body, verifier)?;
             Ok(Candidate::Opened(in_form.with_signers(signers)))
         }
         Err(flag) => Ok(Candidate::Flagged(flag)),
@@ -70,9 +73,10 @@ fn take_one<'a, V: Verify>(
     if let Some(flag) = origin_fault(channel, verifier, &tx) {
         return Ok(without_id(flag));
     }
+    let body = tx.body();
     Ok(Taken {
         id: Some(tx.tx().id),
-        candidate: candidate_of(alloc, channel.definitions(), verifier, tx.into_tx())?,
+        candidate: candidate_of(alloc, channel.definitions(), verifier, tx.into_tx(), body)?,
     })
 }
 

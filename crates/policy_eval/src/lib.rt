@@ -15,5 +15,5 @@ pub use assigning::assignment;
 pub use evaluation::satisfied;
 pub use laws::{each_signer_once, flat_gates_are_monotone, one_evaluation};
 pub use signer_list::Signers;
-pub use signing::signers;
+pub use signing::{signers, signers_with_body};
 pub use verify::Verify;

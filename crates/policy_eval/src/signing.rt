@@ -10,6 +10,9 @@ use crate::verify::Verify;
 use std::alloc::{AllocError, Global};
 use transaction::{EncodeFault, Endorsement, Identity, Tx};
 
+// As many as an identity has at most: a message for it is made in one growth.
+const MOST_IDENTITY_BYTES: usize = 322;
+
 /// The bytes of the body, with which each endorser's message begins.
 fn body(alloc: Global, tx: &Tx<'_>) -> Result<Vec<u8>, AllocError>
     requires { IsSpelled tx.now }
@@ -66,6 +69,29 @@ fn has_signed<V: Verify>(
     ))
 }
 
+/// The signers, over a message that has the body so far.
+fn signers_from<'a, V: Verify>(
+    alloc: Global,
+    tx: &Tx<'a>,
+    mut message: Vec<u8>,
+    verifier: &V,
+) -> Result<Signers<'a>, AllocError>
+    requires spelled { IsSpelled tx.now }
+    requires body { message.items ≡ body_bytes tx.now }
+    ensures { IfOk result (λ signers. signers ≡ signers_of (V.accepts verifier.now) tx.now) }
+{
+    let body_len = message.len();
+    let mut identities = Vec::new(alloc);
+    for endorsement in tx.endorsements.as_slice() {
+        if !contains(identities.as_slice(), &endorsement.endorser)
+            && has_signed(endorsement, &mut message, body_len, verifier)?
+        {
+            identities.push(endorsement.endorser.again())?;
+        }
+    }
+    Ok(Signers { identities })
+}
+
 /// The endorsers whose signature over the body and their own identity's bytes the verifier accepts, each
 /// once, in the order of their first accepted signatures.
 ///
@@ -80,15 +106,22 @@ pub fn signers<'a, V: Verify>(
     requires { IsSpelled tx.now }
     ensures { IfOk result (λ signers. signers ≡ signers_of (V.accepts verifier.now) tx.now) }
 {
-    let mut message = body(alloc, tx)?;
-    let body_len = message.len();
-    let mut identities = Vec::new(alloc);
-    for endorsement in tx.endorsements.as_slice() {
-        if !contains(identities.as_slice(), &endorsement.endorser)
-            && has_signed(endorsement, &mut message, body_len, verifier)?
-        {
-            identities.push(endorsement.endorser.again())?;
-        }
-    }
-    Ok(Signers { identities })
+    signers_from(alloc, tx, body(alloc, tx)?, verifier)
+}
+
+/// The same for a transaction whose body's bytes are at hand: they are copied, and not encoded anew.
+pub fn signers_with_body<'a, V: Verify>(
+    alloc: Global,
+    tx: &Tx<'a>,
+    body: &[u8],
+    verifier: &V,
+) -> Result<Signers<'a>, AllocError>
+    requires spelled { IsSpelled tx.now }
+    requires body { body.now ≡ body_bytes tx.now }
+    ensures { IfOk result (λ signers. signers ≡ signers_of (V.accepts verifier.now) tx.now) }
+{
+    let room = body.len().saturating_add(MOST_IDENTITY_BYTES);
+    let mut message = Vec::with_capacity(alloc, room)?;
+    message.extend_from_slice(body)?;
+    signers_from(alloc, tx, message, verifier)
 }

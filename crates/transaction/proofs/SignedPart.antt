@@ -1,10 +1,11 @@
 -- The signed part is the front of a transaction's bytes, all but the creator's signature.
 use Rattle.std.proofs.Common.{◌≡◌, ℕ, ◌+◌, ◌-◌, List, ◌++◌, length, take, drop, sym, ap, ◌∙◌, append_assoc, arith}
 use Rattle.std.proofs.lemmas.List.{take_at, drop_at, length-append}
+use Rattle.std.specs.List.{flat_map}
 use Rattle.byteorder.specs.Endian.{big_bytes}
 use Rattle.transaction.specs.declared.transaction.Tx.{Tx}
 use Rattle.transaction.specs.Limits.{id_bytes}
-use Rattle.transaction.specs.Grammar.{counted, listed, identity_bytes, namespace_bytes, endorsement_bytes, signed_bytes, SpellsTx, SpellsSigned}
+use Rattle.transaction.specs.Grammar.{counted, listed, identity_bytes, namespace_bytes, endorsement_bytes, body_bytes, signed_bytes, SpellsTx, SpellsSigned}
 
 whole_length : (front signature : List ℕ) → length (front ++ counted 2 signature) ≡ length front + (2 + length signature)
 whole_length front signature =
@@ -19,6 +20,17 @@ signed-from_whole tx bytes part s e =
     let same : part ≡ signed_bytes tx =
     e ∙ ap (λ (b : List ℕ). take (length bytes - 2 - length tx.signature) b) s.fields ∙ take_at (signed_bytes tx) (counted 2 tx.signature) (length bytes - 2 - length tx.signature) len in
     record { fits = s.fits.signed; fields = same; short = omega (arith, ap length same, len, s.short) }
+
+-- ---- the body is its front, all but the endorsements
+
+pub body-from_signed : (tx : Tx) (signed : List ℕ) (n : ℕ) → signed ≡ signed_bytes tx → n ≡ length (flat_map endorsement_bytes tx.endorsements)
+    → take (length signed - (1 + n)) signed ≡ body_bytes tx
+body-from_signed tx signed n fields size =
+    let behind : List ℕ = listed 1 endorsement_bytes tx.endorsements in
+    let all : length signed ≡ length (body_bytes tx) + (1 + length (flat_map endorsement_bytes tx.endorsements)) =
+    ap length fields ∙ length-append (body_bytes tx) behind
+    ∙ ap (λ (m : ℕ). length (body_bytes tx) + m) (length-append (big_bytes 1 (length tx.endorsements)) (flat_map endorsement_bytes tx.endorsements)) in
+    ap (take (length signed - (1 + n))) fields ∙ take_at (body_bytes tx) behind (length signed - (1 + n)) (omega (arith, all, size))
 
 -- ---- the creator's identity bytes stand behind the channel and the id
 

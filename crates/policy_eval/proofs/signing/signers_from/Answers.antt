@@ -1,7 +1,7 @@
 use Rattle.std.proofs.Common.{◌∷◌, [], ◌∙◌, arith, length-append}
 use Rattle.policy_eval.proofs.Once.{signed_already, signed_newly, not_signed, accepted_is, found_is}
-use Rattle.policy_eval.proofs.signing.signers.Goals as goal
-use Rattle.policy_eval.proofs.signing.signers.Goals.{then-not-contains+in_ok-has_signed+then-branch+in_ok-push, else-not-contains, else-not-contains-via-then-not-contains+in_ok-has_signed+else-branch, else-not-contains-via-else-not-contains}
+use Rattle.policy_eval.proofs.signing.signers_from.Goals as goal
+use Rattle.policy_eval.proofs.signing.signers_from.Goals.{then-not-contains+in_ok-has_signed+then-branch+in_ok-push, else-not-contains, else-not-contains-via-then-not-contains+in_ok-has_signed+else-branch, else-not-contains-via-else-not-contains}
 
 pub loop-endorsement-preserved : goal.loop-endorsement-preserved
 loop-endorsement-preserved g c =

@@ -1,7 +1,7 @@
 use Rattle.std.proofs.Common.{◌≡◌, ◌≤◌, length, take}
 use Rattle.transaction.specs.Grammar.{body_bytes}
 use Rattle.policy_eval.proofs.Once.{signed_by}
-use Rattle.policy_eval.proofs.signing.signers.Given as goal
+use Rattle.policy_eval.proofs.signing.signers_from.Given as goal
 
 abbrev pub invariant-loop-endorsement : goal.invariant-loop-endorsement
 invariant-loop-endorsement g l = record {
