@@ -5,10 +5,14 @@ ghost use Rattle.rules.specs.History as history;
 
 use rules::{HistoryEntry, NewEntry};
 use std::alloc::{AllocError, Global};
-use transaction::{NsSet, Tx, Version, Write};
-use values::{Bytes, NameRef, Shared, Slice};
+use transaction::{NsSet, Tx, TxId, Version};
+use values::{Bytes, KeyRef, NameRef, Shared, Slice};
 
-fn copy_value(alloc: Global, value: &Option<Slice<'_>>) -> Result<Option<Shared<Bytes>>, AllocError>
+/// The value of a write, copied for all who keep it.
+pub fn copy_value(
+    alloc: Global,
+    value: &Option<Slice<'_>>,
+) -> Result<Option<Shared<Bytes>>, AllocError>
     ensures { IfOk result (λ copied. copied ≡ value.now) }
 {
     match value {
@@ -17,23 +21,22 @@ fn copy_value(alloc: Global, value: &Option<Slice<'_>>) -> Result<Option<Shared<
     }
 }
 
-fn entry_of(
+/// The history entry of a write or delete of a key, by the transaction of this place and id. Copies the namespace and the
+/// key.
+pub fn new_entry(
     alloc: Global,
     version: Version,
-    tx: &Tx<'_>,
+    id: TxId,
     namespace: &NameRef<'_>,
-    write: &Write<'_>,
+    key: &KeyRef<'_>,
+    value: Option<Shared<Bytes>>,
 ) -> Result<Shared<NewEntry>, AllocError>
-    ensures { IfOk result (λ e. e ≡ record { namespace = namespace.now; key = write.now.key; entry = record { version = version; id = tx.now.id; value = write.now.value } }) }
+    ensures { IfOk result (λ e. e ≡ record { namespace = namespace.now; key = key.now; entry = record { version = version; id = id; value = value } }) }
 {
     let entry = NewEntry {
         namespace: namespace.copy(alloc)?,
-        key: write.key.copy(alloc)?,
-        entry: HistoryEntry {
-            version,
-            id: tx.id,
-            value: copy_value(alloc, &write.value)?,
-        },
+        key: key.copy(alloc)?,
+        entry: HistoryEntry { version, id, value },
     };
     Shared::new(alloc, entry)
 }
@@ -48,7 +51,8 @@ fn add_entries(
     ensures { OnOk result (entries_in entries.new.items ≡ entries_in entries.old.items ++ map (λ w. ((set.now.name, w.key), record { version = version; id = tx.now.id; value = w.value })) set.now.writes) }
 {
     for write in set.writes.as_slice() {
-        entries.push(entry_of(alloc, version, tx, &set.name, write)?)?;
+        let value = copy_value(alloc, &write.value)?;
+        entries.push(new_entry(alloc, version, tx.id, &set.name, &write.key, value)?)?;
     }
     Ok(())
 }

@@ -12,9 +12,9 @@ mod rows;
 mod uses;
 
 pub use change::change_to;
-pub use entries::entries_of;
+pub use entries::{copy_value, entries_of, new_entry};
 pub use kept_block::kept;
-pub use linking::{check_linked, data_hash, decoded};
+pub use linking::{check_linked, decoded};
 pub use origin::{decoded_tx, origin_fault};
 pub use rows::{policy_kept, share_policy, share_row, with_policy};
 pub use uses::uses_of;

@@ -6,10 +6,9 @@ ghost use Rattle.rules.specs.World as world;
 ghost use Rattle.rules.specs.Linked.{IsLinked, IsUnlinked, IsRefused};
 
 use block::{Block, BlockFault, Previous, decode_block};
-use header_hash::DataHasher;
 use rules::Refused;
 use std::alloc::Global;
-use values::{Hash, Slice};
+use values::Hash;
 
 /// The block that the bytes spell, or why they spell none.
 pub fn decoded(alloc: Global, bytes: &[u8]) -> Result<Block<'_>, Refused>
@@ -20,17 +19,6 @@ pub fn decoded(alloc: Global, bytes: &[u8]) -> Result<Block<'_>, Refused>
         Err(BlockFault::Memory) => Err(Refused::Memory),
         Err(fault) => Err(Refused::Malformed(fault)),
     }
-}
-
-/// The data hash of a block with these transactions. Linear in their bytes, and no memory.
-pub fn data_hash(txs: &[Slice<'_>]) -> Hash
-    ensures { result ≡ data_hash_of txs.now }
-{
-    let mut hasher = DataHasher::new();
-    for tx in txs {
-        hasher.add(tx.as_slice());
-    }
-    hasher.finish()
 }
 
 /// What the next block has as its previous hash.

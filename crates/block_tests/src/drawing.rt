@@ -5,38 +5,28 @@ use crate::cases::{
     RowCase, Rule, SetCase, Signed, TXS, TxCase, UNUSED_SET,
 };
 use crate::sure::KnownCase;
+use random_numbers::Random;
 use rules::Flag;
 use transaction::Version;
 
 /// Keys of a namespace that transactions use; the others have rows at most.
 const USED_KEYS: usize = 3;
 
-/// A linear congruence.
+/// What is drawn, the same in each run.
 #[derive(Drop)]
-pub struct Random {
-    state: u64,
+pub struct Drawing {
+    random: Random,
 }
 
-impl Random {
-    pub fn new() -> Random {
-        Random { state: 20261123 }
-    }
-
-    fn next(&mut self) -> u64 {
-        self.state = self
-            .state
-            .wrapping_mul(6364136223846793005)
-            .wrapping_add(1442695040888963407);
-        self.state >> 33
-    }
-
-    // Yes once in so many times.
-    fn once_in(&mut self, times: u64) -> bool {
-        self.next() % times.max(1) == 0
+impl Drawing {
+    pub fn new() -> Drawing {
+        Drawing {
+            random: Random::new(20261123),
+        }
     }
 
     fn rule(&mut self) -> Rule {
-        match self.next() % 4 {
+        match self.random.below(4) {
             0 => Rule::First,
             1 => Rule::Second,
             2 => Rule::Both,
@@ -45,14 +35,14 @@ impl Random {
     }
 
     fn row(&mut self) -> Option<RowCase> {
-        if self.once_in(3) {
+        if self.random.one_of(3) {
             return None;
         }
         let version = Version {
             block: 0,
-            tx: (self.next() % 2) as u32,
+            tx: self.random.below(2) as u32,
         };
-        let policy = if self.once_in(2) {
+        let policy = if self.random.one_of(2) {
             Some(self.rule())
         } else {
             None
@@ -62,11 +52,11 @@ impl Random {
 
     // Mostly that of the row; else absent, or one of the block.
     fn version(&mut self, row: Option<RowCase>) -> Option<Version> {
-        match self.next() % 6 {
+        match self.random.below(6) {
             0 => None,
             1 | 2 => Some(Version {
                 block: BLOCK,
-                tx: (self.next() % 6) as u32,
+                tx: self.random.below(6) as u32,
             }),
             _ => match row {
                 None => None,
@@ -76,7 +66,7 @@ impl Random {
     }
 
     fn value(&mut self) -> Option<NewValue> {
-        match self.next() % 8 {
+        match self.random.below(8) {
             0 | 1 => Some(NewValue::Put),
             2 => Some(NewValue::Delete),
             _ => None,
@@ -84,7 +74,7 @@ impl Random {
     }
 
     fn policy(&mut self) -> Option<Option<Rule>> {
-        match self.next() % 10 {
+        match self.random.below(10) {
             0 => Some(None),
             1 => Some(Some(self.rule())),
             _ => None,
@@ -93,7 +83,7 @@ impl Random {
 
     fn key_use(&mut self, row: Option<RowCase>) -> KeyUse {
         KeyUse {
-            read: if self.once_in(4) {
+            read: if self.random.one_of(4) {
                 Some(self.version(row))
             } else {
                 None
@@ -105,7 +95,7 @@ impl Random {
 
     // A bound at a key, between two, or none.
     fn bound(&mut self) -> Option<u8> {
-        match self.next() % 8 {
+        match self.random.below(8) {
             0 | 1 => None,
             2 => Some(b'a'),
             3 => Some(b'b'),
@@ -121,11 +111,11 @@ impl Random {
         let mut query = Query {
             start: self.bound(),
             end: self.bound(),
-            exhausted: self.once_in(2),
+            exhausted: self.random.one_of(2),
             results: [None; KEYS],
         };
         for k in 0..KEYS {
-            if query.is_in_bounds(LETTERS[k]) && !self.once_in(12) {
+            if query.is_in_bounds(LETTERS[k]) && !self.random.one_of(12) {
                 query.results[k] = self.result(rows[k]);
             }
         }
@@ -133,7 +123,7 @@ impl Random {
     }
 
     fn result(&mut self, row: Option<RowCase>) -> Option<Version> {
-        if self.once_in(6) {
+        if self.random.one_of(6) {
             return self.version(row);
         }
         match row {
@@ -147,7 +137,7 @@ impl Random {
         for k in 0..USED_KEYS {
             set.uses[k] = self.key_use(rows[k]);
         }
-        if self.once_in(3) {
+        if self.random.one_of(3) {
             set.query = Some(self.query(rows));
         }
         set
@@ -155,10 +145,10 @@ impl Random {
 
     fn tx(&mut self, rows: &[[Option<RowCase>; KEYS]; NAMESPACES]) -> TxCase {
         let mut tx = FLAGGED;
-        tx.is_open = !self.once_in(8);
+        tx.is_open = !self.random.one_of(8);
         tx.signed = Signed {
-            first: !self.once_in(4),
-            second: !self.once_in(4),
+            first: !self.random.one_of(4),
+            second: !self.random.one_of(4),
         };
         for n in 0..NAMESPACES {
             tx.sets[n] = self.set(&rows[n]);
@@ -173,7 +163,7 @@ impl Random {
                 case.rows[n][k] = self.row();
             }
         }
-        case.count = 1 + (self.next() % 6) as usize;
+        case.count = 1 + self.random.below(6) as usize;
         for i in 0..TXS {
             if i < case.count {
                 case.txs[i] = self.tx(&case.rows);
@@ -183,7 +173,7 @@ impl Random {
     }
 
     fn flag(&mut self) -> Flag {
-        match self.next() % 6 {
+        match self.random.below(6) {
             0 => Flag::EndorsementPolicyFailure,
             1 => Flag::MvccReadConflict,
             2 => Flag::PhantomReadConflict,
@@ -193,16 +183,16 @@ impl Random {
 
     /// What is known: all, much or little.
     pub fn known(&mut self) -> KnownCase {
-        let unknown = 4 * (self.next() % 4);
+        let unknown = 4 * self.random.below(4);
         let mut known = KnownCase {
             endorsed: [None; TXS],
             flags: [None; TXS],
         };
         for h in 0..TXS {
-            if self.next() % 16 >= unknown {
-                known.endorsed[h] = Some(!self.once_in(3));
+            if self.random.below(16) >= unknown {
+                known.endorsed[h] = Some(!self.random.one_of(3));
             }
-            if self.next() % 16 >= unknown {
+            if self.random.below(16) >= unknown {
                 known.flags[h] = Some(self.flag());
             }
         }
@@ -211,6 +201,6 @@ impl Random {
 
     /// One of the keys that transactions use.
     pub fn place(&mut self) -> KeyPlace {
-        KeyPlace::new((self.next() % 3) as usize, (self.next() % 3) as usize)
+        KeyPlace::new(self.random.below(3) as usize, self.random.below(3) as usize)
     }
 }

@@ -2,7 +2,7 @@
 
 use crate::asking::{Answers, Said, ask};
 use crate::cases::{JobCase, KeyPlace, TXS, TxCase};
-use crate::drawing::Random;
+use crate::drawing::Drawing;
 use crate::failed::Failed;
 use crate::sure::{KnownCase, is_right_of_endorsement, is_right_of_reads, is_right_of_version};
 use key_chains::Decision;
@@ -93,11 +93,11 @@ struct Question {
 }
 
 impl Question {
-    fn draw(random: &mut Random) -> Question {
+    fn draw(drawing: &mut Drawing) -> Question {
         Question {
-            case: random.job(),
-            known: random.known(),
-            place: random.place(),
+            case: drawing.job(),
+            known: drawing.known(),
+            place: drawing.place(),
         }
     }
 
@@ -132,10 +132,10 @@ impl Question {
 
 #[test]
 fn all_assignments(rt: HostRuntime) -> Result<(), Failed> {
-    let mut random = Random::new();
+    let mut drawing = Drawing::new();
     let mut times = NONE;
     for number in 0..JOBS {
-        let question = Question::draw(&mut random);
+        let question = Question::draw(&mut drawing);
         assert!(rt;
             question.is_answered(rt.alloc(), &mut times)?,
             "job {number}"

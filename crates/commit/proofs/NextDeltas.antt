@@ -12,13 +12,12 @@ use Rattle.rules.specs.Candidate.{used_id}
 use Rattle.rules.specs.Commit.{txs_of, job_of, committed_of}
 use Rattle.rules.specs.Delta.{applied, IsDelta}
 use Rattle.rules.specs.FirstUses.{with_uses}
-use Rattle.rules.specs.History.{with_entries}
 use Rattle.rules.specs.Job.{Job}
 use Rattle.rules.specs.Step.{Step}
 use Rattle.rules.specs.World.{World, height_of}
 use Rattle.rules.proofs.Candidates.{length-candidates_from}
 use Rattle.rules.proofs.Deltas.{committed-is_delta}
-use Rattle.commit.specs.Changed.{Changes}
+use Rattle.commit.specs.Changes.{Changes}
 use Rattle.commit.specs.NextDelta.{IsNextDelta}
 
 module _ (channel : Configuration) (accepts : Accepts) (w : World) where
@@ -36,7 +35,7 @@ module _ (channel : Configuration) (accepts : Accepts) (w : World) where
       subst (λ (k : Job). Changes k ids bytes header_hash d) job_is changes)) in
       record {
         state = own.state;
-        history = ap (with_entries w.history) own.entries;
+        history = own.history w.history;
         first_uses = ap (with_uses w.first_uses) own.uses;
         block = own.block;
       }

@@ -1,4 +1,4 @@
-pub mod Changed
+pub mod Changes
 pub mod Contents
 pub mod NextDelta
 pub mod Submissions

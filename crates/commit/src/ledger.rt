@@ -7,8 +7,9 @@ ghost use Rattle.commit.specs.NextDelta.{IsNextDelta};
 ghost use Rattle.commit.specs.Submissions.{submissions};
 
 use crate::next_delta::delta_of_linked;
-use block_steps::{check_linked, data_hash, decoded};
+use block_steps::{check_linked, decoded};
 use channel::Channel;
+use header_hash::data_hash;
 use policy_eval::Verify;
 use rules::{Accepted, Delta, Refused};
 use std::alloc::{AllocError, Global};
@@ -58,7 +59,8 @@ impl Ledger {
         &self.world
     }
 
-    /// What the block of these bytes would change, or why it would be refused. Changes nothing itself.
+    /// What the block of these bytes would change, or why it would be refused. Changes nothing itself. Costs what
+    /// `submit_one` does, but for what that adds to the ledger.
     pub fn delta<V: Verify>(&self, bytes: &[u8], verifier: &V) -> Result<Delta, Refused>
         ensures { MatchResult result (IsNextDelta self.now.channel (V.accepts verifier.now) self.now.world bytes.now) (IsRefused self.now.world bytes.now) }
     {

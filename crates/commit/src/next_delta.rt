@@ -7,12 +7,12 @@ ghost use Rattle.rules.specs.Commit as commit;
 ghost use Rattle.rules.specs.Commit.{txs_of, committed_of};
 ghost use Rattle.rules.specs.Delta.{IsDelta};
 ghost use Rattle.rules.specs.Fold as fold;
-ghost use Rattle.commit.specs.Changed.{Changes};
+ghost use Rattle.commit.specs.Changes.{Changes};
 
 use block::Block;
 use block_steps::{kept, uses_of};
 use channel::Channel;
-use effects::{changes, entries};
+use effects::effects_of;
 use header_hash::header_hash;
 use intake::{candidates_of, ids_of, take_in};
 use key_chains::Job;
@@ -64,12 +64,11 @@ pub(crate) fn delta_of(
     requires few { length ids.now ≤ max_txs }
     ensures { IfOk result (λ d. Changes job.now ids.now bytes.now header_hash d) }
 {
-    let changes = changes(alloc, job, flags.as_slice())?;
-    let entries = entries(alloc, job, flags.as_slice())?;
+    let effects = effects_of(alloc, job, flags.as_slice())?;
     let uses = uses_of(alloc, job.number(), ids, flags.as_slice())?;
     Ok(Delta {
-        changes: Items::from_vec(changes),
-        entries: Items::from_vec(entries),
+        changes: Items::from_vec(effects.changes),
+        entries: Items::from_vec(effects.entries),
         uses: Items::from_vec(uses),
         block: kept(alloc, bytes, header_hash, Items::from_vec(flags))?,
     })

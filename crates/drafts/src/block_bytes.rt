@@ -3,24 +3,13 @@ ghost use Rattle.std.specs.Prelude.{◌≡◌, ◌+◌, ◌<◌, ◌≤◌, ◌^
 ghost use Rattle.std.specs.List.{AllByRecursion};
 ghost use Rattle.block.specs.Grammar.{IsTx, Spells};
 ghost use Rattle.block.specs.Limits.{max_txs};
-ghost use Rattle.header_hash.specs.Hashes.{data_hash_of};
 ghost use Rattle.drafts.specs.DraftBlock as spec;
 
 use block::{Block, Header, Previous, encode_block};
-use header_hash::{DataHasher, header_hash};
+use header_hash::{data_hash, header_hash};
 use std::alloc::{AllocError, Global};
 use transaction::EncodeFault;
-use values::{Bytes, Hash, Items, Slice};
-
-fn data_hash(txs: &[Bytes]) -> Hash
-    ensures { result ≡ data_hash_of txs.now }
-{
-    let mut hasher = DataHasher::new();
-    for tx in txs {
-        hasher.add(tx.as_slice());
-    }
-    hasher.finish()
-}
+use values::{Bytes, Items, Slice};
 
 fn lend_txs<'a>(alloc: Global, txs: &'a [Bytes]) -> Result<Items<Slice<'a>>, AllocError>
     ensures { IfOk result (λ lent. lent ≡ txs.now) }
@@ -32,7 +21,7 @@ fn lend_txs<'a>(alloc: Global, txs: &'a [Bytes]) -> Result<Items<Slice<'a>>, All
     Ok(lent)
 }
 
-fn header_after(previous: Option<Header>, txs: &[Bytes]) -> Header
+fn header_after(previous: Option<Header>, txs: &[Slice<'_>]) -> Header
     requires { IfSome previous (λ h. h.number + 1 < 2 ^ 64) }
     ensures { result ≡ (spec.block_after previous txs.now).header }
 {
@@ -62,9 +51,10 @@ pub(crate) fn block_bytes(
     ensures bytes { IfOk result (λ bytes. bytes ≡ spec.block_bytes (spec.block_after previous txs.now)) }
     ensures spelled { IfOk result (λ bytes. Spells bytes (spec.block_after previous txs.now)) }
 {
+    let lent = lend_txs(alloc, txs)?;
     let block = Block {
-        header: header_after(previous, txs),
-        txs: lend_txs(alloc, txs)?,
+        header: header_after(previous, lent.as_slice()),
+        txs: lent,
     };
     match encode_block(alloc, &block) {
         Ok(bytes) => Ok(bytes),

@@ -21,7 +21,7 @@ use Rattle.rules.proofs.Bridge.{valid}
 use Rattle.rules.proofs.Net.{CoversWrites, final_state-by_keys}
 use Rattle.key_chains.specs.Job.{keys_of, written_by}
 use Rattle.effects.specs.Rows.{ShowRows, change_at, changes_at}
-use Rattle.effects.proofs.NextStates.{KeepKeys}
+use Rattle.effects.proofs.EntryOrder.{KeepKeys}
 
 -- ---- the keys that have a change
 

@@ -1,3 +1,4 @@
+mod EntryOrder
 mod FinalChanges
 mod FlagLists
 mod NextStates

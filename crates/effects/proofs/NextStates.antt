@@ -1,9 +1,14 @@
--- The rows that a state has once the next candidate is taken.
+-- The rows that a state has once the next candidate is taken, and the history that its entries make.
 use Rattle.std.proofs.Common.{◌≡◌, ℕ, suc, ◌+◌, Bool, true, false, cond, List, [], ◌++◌, Option, refl, sym, ap, ◌∙◌, arith}
 use Rattle.std.specs.Prelude.{if◌then◌else◌}
 use Rattle.std.specs.FinMap.{get}
 use Rattle.std.proofs.lemmas.List.{append-nil}
 use Rattle.transaction.specs.declared.transaction.Tx.{Tx}
+use Rattle.transaction.specs.declared.transaction.Version.{Version}
+use Rattle.rules.specs.declared.delta.NewEntry.{NewEntry}
+use Rattle.rules.specs.Delta.{entries_in}
+use Rattle.rules.specs.History.{History, entries_of, with_entries}
+use Rattle.rules.proofs.HistoryEntries.{with_entries-append}
 use Rattle.rules.specs.declared.row.Row.{Row}
 use Rattle.rules.specs.Flags.{is_valid}
 use Rattle.rules.specs.State.{StateKey, State, is_among}
@@ -16,15 +21,13 @@ use Rattle.rules.proofs.Effects.{effect_at-unwritten}
 use Rattle.rules.proofs.PerKey.{get-state_by}
 use Rattle.candidates.specs.declared.open_tx.OpenTx.{OpenTx}
 use Rattle.candidates.specs.declared.written_key.WrittenKey.{WrittenKey}
-use Rattle.candidates.specs.Written.{keys_in_order, AreWritesOf}
+use Rattle.candidates.specs.Written.{AreWritesOf}
 use Rattle.key_chains.specs.Job.{IsOpened, IsFlagged}
+use Rattle.effects.specs.Entries.{entries_written, MakeHistory}
 use Rattle.effects.specs.Rows.{ShowRows}
 use Rattle.effects.specs.WrittenRow.{with_writes}
+use Rattle.effects.proofs.EntryOrder.{KeepKeys, Rise, written_history}
 use Rattle.effects.proofs.WrittenKeys.{get-with_writes}
-
--- keys in order are the same keys
-abbrev pub KeepKeys : Type 0
-KeepKeys = (k : StateKey) (ks : List StateKey) → is_among k (keys_in_order ks) ≡ is_among k ks
 
 module _ (j : Job) (i : ℕ) where
   one_on : suc i ≡ i + 1
@@ -80,10 +83,27 @@ module _ (j : Job) (i : ℕ) where
   pub entries-opened : (o : OpenTx) → is_valid (flag j i) ≡ true → IsOpened j i o → entries_to j i ++ entries_by (version_of j i) (opened o.tx o.signers) ≡ entries_to j (i + 1)
   entries-opened o e is = ap (λ (c : Candidate). entries_to j i ++ entries_by (version_of j i) c) (sym is) ∙ entries-next true e
 
+  pub makes-invalid : (es : List NewEntry) → is_valid (flag j i) ≡ false → MakeHistory j es i → MakeHistory j es (i + 1)
+  makes-invalid es e makes h = makes h ∙ ap (with_entries h) (entries-invalid e)
+
+  pub makes-flagged : (es : List NewEntry) → is_valid (flag j i) ≡ true → IsFlagged j i → MakeHistory j es i → MakeHistory j es (i + 1)
+  makes-flagged es e is makes h = makes h ∙ ap (with_entries h) (entries-flagged e is)
+
+  pub makes-opened : (before after : List NewEntry) (o : OpenTx) → KeepKeys → Rise → is_valid (flag j i) ≡ true → IsOpened j i o
+      → entries_in after ≡ entries_in before ++ entries_written (version_of j i) o.tx.id o.written.items → MakeHistory j before i → MakeHistory j after (i + 1)
+  makes-opened before after o keep rise e is more makes h =
+      let v : Version = version_of j i in
+      let written = entries_written v o.tx.id o.written.items in
+      ap (with_entries h) more ∙ with_entries-append h (entries_in before) written
+      ∙ written_history keep rise v o.tx o.written.items o.in_form o.writes (with_entries h (entries_in before))
+      ∙ ap (λ (g : History). with_entries g (entries_of v o.tx)) (makes h)
+      ∙ sym (with_entries-append h (entries_to j i) (entries_of v o.tx))
+      ∙ ap (with_entries h) (entries-opened o e is)
+
 pub shows-first : (j : Job) (rows : List (Option (Option Row))) → ShowRows j rows j.state → ShowRows j rows (running j 0).state
 unfolding running
 shows-first j rows h = h
 
-pub entries-first : (j : Job) → entries_to j 0 ≡ []
+pub makes-first : (j : Job) (es : List NewEntry) → es ≡ [] → MakeHistory j es 0
 unfolding entries_to
-entries-first j = refl
+makes-first j es none h = ap (λ (l : List NewEntry). with_entries h (entries_in l)) none

@@ -1,13 +1,16 @@
 -- What the writes of one transaction make of the state, key by key.
 use Rattle.std.proofs.Common.{◌≡◌, ℕ, zero, suc, ◌+◌, ◌<◌, Bool, true, false, cond, ◌||◌, List, [], ◌∷◌, ◌++◌, length, take, get_or, map, All, arith, Option, Some, None, refl, sym, ap, ◌∙◌}
 use Rattle.std.specs.Prelude.{option_map, slice_get}
-use Rattle.std.proofs.lemmas.List.{take_more}
+use Rattle.std.proofs.lemmas.List.{append-nil, append_assoc, take_more}
+use Rattle.std.proofs.lemmas.List.Concat.{flat_map-cons}
+use Rattle.std.proofs.lemmas.Grind.{flat_map-append}
 use Rattle.std.specs.FinMap.{get}
 use Rattle.std.proofs.lemmas.List.Elements.{All-head, All-tail}
 use Rattle.transaction.specs.declared.transaction.Version.{Version}
 use Rattle.transaction.specs.declared.transaction.Write.{Write}
 use Rattle.transaction.specs.declared.transaction.PolicyWrite.{PolicyWrite}
 use Rattle.transaction.specs.declared.transaction.Tx.{Tx}
+use Rattle.rules.specs.declared.history.HistoryEntry.{HistoryEntry}
 use Rattle.rules.specs.declared.row.Row.{Row}
 use Rattle.rules.specs.State.{StateKey, State, is_same_key, is_among}
 use Rattle.rules.specs.Effect.{write_of, policy_write_of, policy_left, row_after, effect_at}
@@ -19,6 +22,7 @@ use Rattle.key_chains.specs.Job.{IsOpened, written_by}
 use Rattle.candidates.specs.declared.open_tx.OpenTx.{OpenTx}
 use Rattle.candidates.specs.declared.written_key.WrittenKey.{WrittenKey}
 use Rattle.candidates.specs.Written.{IsWriteOf}
+use Rattle.effects.specs.Entries.{entry_written, entries_written}
 use Rattle.effects.specs.WrittenRow.{row_by_parts, row_written, with_write, with_writes}
 
 parts_are : (v : Version) (w : Option Write) (p : Option PolicyWrite) (row : Option Row) → row_by_parts v (option_map (λ x. x.value) w) (option_map policy_left p) row ≡ row_after v w p row
@@ -83,6 +87,18 @@ next_written v w s ws xs n x same are lt is =
     ap (λ u. with_write u (with_writes w s (take n ws)) x) same ∙ sym (with_writes-push w s (take n ws) x)
     ∙ ap (λ l. with_writes w s (take n l ++ x ∷ [])) (sym are)
     ∙ ap (with_writes w s) (ap (λ y. take n xs ++ y ∷ []) is ∙ sym (take_more xs n x lt)) ∙ ap (λ l. with_writes w s (take (n + 1) l)) are
+
+-- and its entry stands behind those before it
+pub next_entries : (v w : Version) (id : List ℕ) (es : List (StateKey × HistoryEntry)) (ws xs : List WrittenKey) (n : ℕ) (x : WrittenKey) → v ≡ w → xs ≡ ws → n < length xs → x ≡ get_or xs n x
+    → (es ++ entries_written w id (take n ws)) ++ entry_written v id x ≡ es ++ entries_written w id (take (n + 1) ws)
+next_entries v w id es ws xs n x same are lt is =
+    append_assoc es (entries_written w id (take n ws)) (entry_written v id x)
+    ∙ ap (λ l. es ++ l)
+    (ap (λ u. entries_written w id (take n ws) ++ entry_written u id x) same
+    ∙ ap (λ l. entries_written w id (take n ws) ++ l) (sym (append-nil (entry_written w id x)) ∙ sym (flat_map-cons (entry_written w id) x []))
+    ∙ sym (flat_map-append (entry_written w id) (take n ws) (x ∷ []))
+    ∙ ap (λ l. entries_written w id (take n l ++ x ∷ [])) (sym are)
+    ∙ ap (entries_written w id) (ap (λ y. take n xs ++ y ∷ []) is ∙ sym (take_more xs n x lt)) ∙ ap (λ l. entries_written w id (take (n + 1) l)) are)
 
 at_place : {A B : Type 0} (f : A → B) (xs : List A) (n : ℕ) (d : A) → n < length xs → slice_get (map f xs) n ≡ Some (f (get_or xs n d))
 at_place f [] n d lt = absurd (omega arith)

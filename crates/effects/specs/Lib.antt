@@ -1,2 +1,3 @@
 pub mod WrittenRow
 pub mod Rows
+pub mod Entries

@@ -1,10 +1,9 @@
 //! What the valid transactions of a block change: the rows of the keys that they write, and the histories.
 #![tactic(auto)]
 
-mod change_list;
-mod entry_list;
+mod block_effects;
+mod changes;
+mod writing;
 mod written_row;
-mod written_rows;
 
-pub use change_list::changes;
-pub use entry_list::entries;
+pub use block_effects::{Effects, effects_of};

@@ -1,15 +1,14 @@
 //! What the writes of one key make of its row.
 ghost use Rattle.std.specs.Prelude.{◌≡◌, IfOk};
 ghost use Rattle.std.specs.Option.{option_copied};
-ghost use Rattle.effects.specs.WrittenRow.{policy_beside, row_written};
+ghost use Rattle.effects.specs.WrittenRow.{policy_beside, row_by_parts};
 
 use block_steps::{policy_kept, share_policy, share_row, with_policy};
-use candidates::WrittenKey;
 use policy::Policy;
 use rules::Row;
-use std::alloc::{AllocError, Global};
+use std::alloc::AllocError;
 use transaction::Version;
-use values::{Shared, Slice};
+use values::{Bytes, Shared};
 
 /// The policy beside a written value.
 fn policy_beside(
@@ -24,33 +23,34 @@ fn policy_beside(
     }
 }
 
+/// The row of a written value, which gets one more owner. Takes no memory.
 fn with_value(
-    alloc: Global,
     version: Version,
-    value: &Slice<'_>,
+    value: &Shared<Bytes>,
     policy: &Option<Option<Shared<Policy>>>,
     row: Option<&Row>,
 ) -> Result<Row, AllocError>
     ensures { IfOk result (λ after. after ≡ record { value = value.now; version = version; policy = policy_beside policy.now (option_copied row.entry) }) }
 {
     Ok(Row {
-        value: Shared::new(alloc, value.copy(alloc)?)?,
+        value: value.share()?,
         version,
         policy: policy_beside(policy, row)?,
     })
 }
 
-/// The row once these writes are made, or none where there is none then. Copies a written value, and shares the rest.
+/// The row once this value and this policy are written, or none where there is none then. They get one more owner.
+/// Takes no memory.
 pub(crate) fn row_after(
-    alloc: Global,
     version: Version,
-    written: &WrittenKey<'_>,
+    value: &Option<Option<Shared<Bytes>>>,
+    policy: &Option<Option<Shared<Policy>>>,
     row: Option<&Row>,
 ) -> Result<Option<Row>, AllocError>
-    ensures { IfOk result (λ after. after ≡ row_written version written.now (option_copied row.entry)) }
+    ensures { IfOk result (λ after. after ≡ row_by_parts version value.now policy.now (option_copied row.entry)) }
 {
-    match (&written.value, &written.policy) {
-        (Some(Some(value)), policy) => { Ok(Some(with_value(alloc, version, value, policy, row)?)) }
+    match (value, policy) {
+        (Some(Some(value)), policy) => Ok(Some(with_value(version, value, policy, row)?)),
         (Some(None), _) => Ok(None),
         (None, Some(policy)) => with_policy(version, share_policy(policy)?, row),
         (None, None) => share_row(row),

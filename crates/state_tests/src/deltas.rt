@@ -5,46 +5,38 @@ use crate::fixture::{key, name};
 use crate::noted::{IDS, KEYS, NAMESPACE, Noted, id_of, key_of, use_at};
 use crate::pages::{numbered, row};
 use policy::Policy;
+use random_numbers::Random;
 use rules::{Change, CommittedBlock, Delta, HistoryEntry, KeyedRow, NewEntry, NewUse, Row};
 use std::alloc::Global;
 use transaction::Version;
 use values::{Bytes, Items, Shared};
 
-/// Numbers at random, by Marsaglia's xorshift.
+/// What is drawn, the same in each run.
 #[derive(Drop)]
-pub struct Random {
-    state: u64,
+pub struct Drawing {
+    random: Random,
     // how many puts, entries and uses were made
     made: u32,
 }
 
-impl Random {
-    pub fn new() -> Random {
-        Random {
-            state: 88172645463325252,
+impl Drawing {
+    pub fn new() -> Drawing {
+        Drawing {
+            random: Random::new(88172645463325252),
             made: 0,
         }
     }
 
-    /// A number below 256.
-    fn next(&mut self) -> usize {
-        self.state ^= self.state << 13;
-        self.state ^= self.state >> 7;
-        self.state ^= self.state << 17;
-        let [_, _, _, byte, ..] = self.state.to_be_bytes();
-        byte as usize
-    }
-
     pub fn key(&mut self) -> usize {
-        self.next() % KEYS
+        self.random.below(KEYS as u8) as usize
     }
 
     pub fn id(&mut self) -> usize {
-        self.next() % IDS
+        self.random.below(IDS as u8) as usize
     }
 
     pub fn up_to(&mut self, most: u8) -> usize {
-        self.next() % (most as usize + 1)
+        self.random.below(most.saturating_add(1)) as usize
     }
 
     fn number(&mut self) -> u32 {
@@ -64,15 +56,15 @@ fn policy(alloc: Global, number: u32) -> Result<Option<Shared<Policy>>, Failed> 
     }
 }
 
-fn change(alloc: Global, random: &mut Random, noted: &mut Noted) -> Result<Change, Failed> {
+fn change(alloc: Global, drawing: &mut Drawing, noted: &mut Noted) -> Result<Change, Failed> {
     let namespace = name(alloc, NAMESPACE)?;
-    let at = random.key();
+    let at = drawing.key();
     let key = key_of(alloc, at)?;
-    if random.up_to(2) == 0 {
+    if drawing.up_to(2) == 0 {
         noted.set(at, None);
         return Ok(Change::Remove(namespace, key));
     }
-    let number = random.number();
+    let number = drawing.number();
     noted.set(at, Some(number));
     let row = Row {
         value: Shared::new(alloc, Bytes::from_vec(Vec::new(alloc)))?,
@@ -88,11 +80,11 @@ fn change(alloc: Global, random: &mut Random, noted: &mut Noted) -> Result<Chang
 
 fn entry(
     alloc: Global,
-    random: &mut Random,
+    drawing: &mut Drawing,
     noted: &mut Noted,
 ) -> Result<Shared<NewEntry>, Failed> {
-    let at = random.key();
-    let number = random.number();
+    let at = drawing.key();
+    let number = drawing.number();
     noted.entries.push((at, number))?;
     let entry = NewEntry {
         namespace: name(alloc, NAMESPACE)?,
@@ -139,23 +131,23 @@ pub fn six_hundred_puts(alloc: Global) -> Result<Delta, Failed> {
 /// A delta of changes in any order, with keys and ids that repeat: of each list up to so many.
 pub fn delta(
     alloc: Global,
-    random: &mut Random,
+    drawing: &mut Drawing,
     noted: &mut Noted,
     most: u8,
     hash: [u8; 32],
 ) -> Result<Delta, Failed> {
     let mut changes = Items::new(alloc);
-    for _ in 0..random.up_to(most) {
-        changes.push(change(alloc, random, noted)?)?;
+    for _ in 0..drawing.up_to(most) {
+        changes.push(change(alloc, drawing, noted)?)?;
     }
     let mut entries = Items::new(alloc);
-    for _ in 0..random.up_to(most) {
-        entries.push(entry(alloc, random, noted)?)?;
+    for _ in 0..drawing.up_to(most) {
+        entries.push(entry(alloc, drawing, noted)?)?;
     }
     let mut uses = Items::new(alloc);
-    for _ in 0..random.up_to(most) {
-        let id = random.id();
-        let number = random.number();
+    for _ in 0..drawing.up_to(most) {
+        let id = drawing.id();
+        let number = drawing.number();
         noted.add_use(id, number);
         uses.push(NewUse {
             id: id_of(id),

@@ -1,4 +1,4 @@
-use crate::deltas::{Random, delta, six_hundred_puts};
+use crate::deltas::{Drawing, delta, six_hundred_puts};
 use crate::failed::Failed;
 use crate::fixture::{bound, name};
 use crate::noted::{IDS, KEYS, NAMESPACE, Noted, id_of, key_of, use_at};
@@ -134,12 +134,12 @@ fn is_behind(world: &World, block: u32) -> bool {
 // Ranges between two keys at random, in any order.
 fn ranges_are_noted(
     alloc: Global,
-    random: &mut Random,
+    drawing: &mut Drawing,
     world: &World,
     noted: &Noted,
 ) -> Result<bool, Failed> {
-    let start = random.up_to(KEYS as u8);
-    let end = random.up_to(KEYS as u8);
+    let start = drawing.up_to(KEYS as u8);
+    let end = drawing.up_to(KEYS as u8);
     for limit in [0, 1, 5, 100] {
         if !range_is_noted(alloc, world, noted, (start, end), limit)? {
             return Ok(false);
@@ -151,7 +151,7 @@ fn ranges_are_noted(
 /// A world, one of plain lists, and what both are to hold.
 #[derive(Drop)]
 struct Worlds {
-    random: Random,
+    drawing: Drawing,
     noted: Noted,
     world: World,
     plain: plain::World,
@@ -160,7 +160,7 @@ struct Worlds {
 impl Worlds {
     fn new(alloc: Global) -> Result<Worlds, Failed> {
         Ok(Worlds {
-            random: Random::new(),
+            drawing: Drawing::new(),
             noted: Noted::new(alloc)?,
             world: World::new(alloc),
             plain: plain::World::new(alloc),
@@ -171,7 +171,7 @@ impl Worlds {
     fn apply_next(&mut self, alloc: Global, most: u8, block: u32) -> Result<(), Failed> {
         let next = delta(
             alloc,
-            &mut self.random,
+            &mut self.drawing,
             &mut self.noted,
             most,
             hash_of(block),
@@ -183,7 +183,7 @@ impl Worlds {
     // The same; where memory is refused nothing is to have changed, and it is applied once more.
     fn apply_at_last(&mut self, alloc: Global, most: u8, block: u32) -> Result<(), Failed> {
         let mut after = self.noted.copy(alloc)?;
-        let next = delta(alloc, &mut self.random, &mut after, most, hash_of(block))?;
+        let next = delta(alloc, &mut self.drawing, &mut after, most, hash_of(block))?;
         if self.world.apply(&next).is_err() {
             if !is_noted(alloc, &self.world, &self.noted)? || self.world.height() != block as u64 {
                 return Err(Failed::Missing("the world as it was"));
@@ -197,13 +197,13 @@ impl Worlds {
     // Whether the worlds hold what they are to hold behind a block: all ids, a key and ranges at random. The slow world
     // is asked behind each sixteenth.
     fn are_right(&mut self, alloc: Global, block: u32) -> Result<bool, Failed> {
-        let at = self.random.key();
+        let at = self.drawing.key();
         Ok(
             is_behind(&self.world, block)
                 && ids_are_noted(&self.world, &self.noted)
                 && key_is_noted(alloc, &self.world, &self.noted, at)?
                 && (block % 16 != 0 || key_is_alike(alloc, &self.world, &self.plain, at)?)
-                && ranges_are_noted(alloc, &mut self.random, &self.world, &self.noted)?,
+                && ranges_are_noted(alloc, &mut self.drawing, &self.world, &self.noted)?,
         )
     }
 

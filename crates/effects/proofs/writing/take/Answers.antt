@@ -1,0 +1,34 @@
+use Rattle.std.proofs.Common.{sym, ap, ◌∙◌}
+use Rattle.std.proofs.lemmas.Result.{IfOk-weaker}
+use Rattle.rules.specs.Flags.{is_valid}
+use Rattle.effects.proofs.NextStates.{shows-invalid, shows-flagged, shows-opened, makes-invalid, makes-flagged, makes-opened}
+use Rattle.effects.proofs.writing.take.Goals as goal
+
+pub returns-then-not-is_valid-clause-rows : goal.returns-then-not-is_valid-clause-rows
+returns-then-not-is_valid-clause-rows c =
+    shows-invalid c.args.job.now c.args.i c.args.rows.now.items (ap is_valid (sym c.requires.flag) ∙ sym c.is_valid.ensures ∙ c.if-not-is_valid.true)
+
+pub returns-in-None-clause-rows : goal.returns-in-None-clause-rows
+returns-in-None-clause-rows c =
+    shows-flagged c.args.job.now c.args.i c.args.rows.now.items (ap is_valid (sym c.requires.flag) ∙ sym c.is_valid.ensures ∙ c.if-not-is_valid.false) c.in-None.ensures.tx
+
+pub returns-in-Some-clause-rows : goal.returns-in-Some-clause-rows
+returns-in-Some-clause-rows c =
+    IfOk-weaker c.write_all.result _ _
+    (λ _ step. shows-opened c.args.job.now c.args.i c.args.rows.now.items c.write_all.new.rows.items c.in-Some.open_tx.now c.keys_have_one_order.ensures.members (ap is_valid (sym c.requires.flag) ∙ sym c.is_valid.ensures ∙ c.if-not-is_valid.false) c.in-Some.ensures.tx step)
+    c.write_all.ensures.rows
+
+pub returns-then-not-is_valid-clause-entries : goal.returns-then-not-is_valid-clause-entries
+returns-then-not-is_valid-clause-entries c =
+    makes-invalid c.args.job.now c.args.i c.args.entries.now.items (ap is_valid (sym c.requires.flag) ∙ sym c.is_valid.ensures ∙ c.if-not-is_valid.true)
+
+pub returns-in-None-clause-entries : goal.returns-in-None-clause-entries
+returns-in-None-clause-entries c =
+    makes-flagged c.args.job.now c.args.i c.args.entries.now.items (ap is_valid (sym c.requires.flag) ∙ sym c.is_valid.ensures ∙ c.if-not-is_valid.false) c.in-None.ensures.tx
+
+pub returns-in-Some-clause-entries : goal.returns-in-Some-clause-entries
+returns-in-Some-clause-entries c =
+    let order = c.keys_have_one_order.ensures in
+    IfOk-weaker c.write_all.result _ _
+    (λ _ more. makes-opened c.args.job.now c.args.i c.args.entries.now.items c.write_all.new.entries.items c.in-Some.open_tx.now order.members order.rising (ap is_valid (sym c.requires.flag) ∙ sym c.is_valid.ensures ∙ c.if-not-is_valid.false) c.in-Some.ensures.tx more)
+    c.write_all.ensures.entries

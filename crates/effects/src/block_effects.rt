@@ -1,0 +1,43 @@
+//! What the valid transactions of a block make of the state and of the history.
+ghost use Rattle.std.specs.Prelude.{◌≡◌, length, map, IfOk};
+ghost use Rattle.std.specs.List.Sorted.{IsStrictlySortedBy};
+ghost use Rattle.rules.specs.State.{key_cmp, with_changes};
+ghost use Rattle.rules.specs.History as history;
+ghost use Rattle.rules.specs.History.{with_entries};
+ghost use Rattle.rules.specs.Delta.{changes_in, entries_in};
+ghost use Rattle.rules.specs.Fold as fold;
+ghost use Rattle.rules.specs.Fold.{final_state, entries_to};
+
+use crate::changes::changes_to_rows;
+use crate::writing::write_block;
+use candidates::keys_have_one_order;
+use key_chains::Job;
+use rules::{Change, Flag, NewEntry};
+use std::alloc::{AllocError, Global};
+use values::Shared;
+
+/// What a block changes, but for the ids that it uses.
+#[derive(Drop)]
+pub struct Effects {
+    /// One for each key that a valid transaction writes, in the keys' order, with what the key has behind all of them.
+    pub changes: Vec<Change>,
+    /// One for each value write or delete of a valid transaction: transaction by transaction, and in each in the keys'
+    /// order.
+    pub entries: Vec<Shared<NewEntry>>,
+}
+
+/// The effects of a block whose flags these are. Each written value is copied once, and shared by row and history; each
+/// key is copied once for its row and once for each entry.
+pub fn effects_of(alloc: Global, job: &Job<'_>, flags: &[Flag]) -> Result<Effects, AllocError>
+    requires { flags.now ≡ fold.flags job.now }
+    ensures state { IfOk result (λ e. with_changes job.now.state (changes_in e.changes.items) ≡ final_state job.now) }
+    ensures keys { IfOk result (λ e. IsStrictlySortedBy key_cmp (map (λ c. c.0) (changes_in e.changes.items))) }
+    ensures history { IfOk result (λ e. (h : history.History) → with_entries h (entries_in e.entries.items) ≡ with_entries h (entries_to job.now (length job.now.candidates))) }
+{
+    keys_have_one_order();
+    let written = write_block(alloc, job, flags)?;
+    Ok(Effects {
+        changes: changes_to_rows(alloc, job.keys(), written.rows)?,
+        entries: written.entries,
+    })
+}

@@ -1,0 +1,202 @@
+//! What a block writes, transaction by transaction: the rows of its keys, and the history entries.
+ghost use Rattle.std.specs.Prelude.{◌≡◌, ◌<◌, ◌+◌, ◌++◌, ℕ, None, Some, length, replicate, IfOk, OnOk, unwrap_or, slice_get};
+ghost use Rattle.std.specs.Option.{option_copied};
+ghost use Rattle.std.specs.List.Sorted.{IsStrictlySortedBy};
+ghost use Rattle.rules.specs.State.{State, key_cmp};
+ghost use Rattle.rules.specs.Delta.{entries_in};
+ghost use Rattle.rules.specs.Job.{version_of};
+ghost use Rattle.rules.specs.Fold as fold;
+ghost use Rattle.rules.specs.Fold.{running, final_state};
+ghost use Rattle.key_chains.specs.Job.{IsOpened, keys_of};
+ghost use Rattle.effects.specs.Entries.{entry_at, entry_written, entries_written, MakeHistory};
+ghost use Rattle.effects.specs.Rows.{ShowRows};
+ghost use Rattle.effects.specs.WrittenRow.{with_write, with_writes};
+
+use crate::written_row::row_after;
+use block_steps::{copy_value, new_entry};
+use candidates::{OpenTx, StateKey, WrittenKey, keys_have_one_order};
+use key_chains::Job;
+use rules::{Flag, NewEntry, Row};
+use std::alloc::{AllocError, Global};
+use transaction::{TxId, Version};
+use values::{Bytes, Shared};
+
+/// What the valid transactions so far made of a key's row, `Some(None)` where they removed it; `None` where none of
+/// them wrote the key.
+pub(crate) type WrittenRow = Option<Option<Row>>;
+
+/// What the valid transactions of a block write.
+#[derive(Drop)]
+pub(crate) struct Written {
+    /// Those of the keys that the block writes, each at its key's place.
+    pub(crate) rows: Vec<WrittenRow>,
+    pub(crate) entries: Vec<Shared<NewEntry>>,
+}
+
+fn row_now<'r>(written: &'r WrittenRow, before: Option<&'r Row>) -> Option<&'r Row>
+    ensures { option_copied result ≡ unwrap_or written.now (option_copied before.entry) }
+{
+    match written {
+        Some(row) => row.as_ref(),
+        None => before,
+    }
+}
+
+/// What is written at a key's value, copied once for the row and the history.
+fn new_value(
+    alloc: Global,
+    written: &WrittenKey<'_>,
+) -> Result<Option<Option<Shared<Bytes>>>, AllocError>
+    ensures { IfOk result (λ value. value ≡ written.now.value) }
+{
+    match &written.value {
+        None => Ok(None),
+        Some(value) => Ok(Some(copy_value(alloc, value)?)),
+    }
+}
+
+fn share_value(value: &Option<Shared<Bytes>>) -> Result<Option<Shared<Bytes>>, AllocError>
+    ensures { IfOk result (λ shared. shared ≡ value.now) }
+{
+    match value {
+        None => Ok(None),
+        Some(value) => Ok(Some(value.share()?)),
+    }
+}
+
+/// Adds the history entry of a key whose value is written.
+fn add_entry(
+    alloc: Global,
+    entries: &mut Vec<Shared<NewEntry>>,
+    version: Version,
+    id: TxId,
+    key: &StateKey<'_>,
+    value: &Option<Option<Shared<Bytes>>>,
+) -> Result<(), AllocError>
+    ensures { OnOk result (entries_in entries.new.items ≡ entries_in entries.old.items ++ entry_at version id key.now value.now) }
+{
+    if let Some(value) = value {
+        let value = share_value(value)?;
+        entries.push(new_entry(alloc, version, id, &key.namespace(), &key.key(), value)?)?;
+    }
+    Ok(())
+}
+
+/// Makes what is written at the key that stands at this place.
+fn write_one(
+    alloc: Global,
+    rows: &mut Vec<WrittenRow>,
+    entries: &mut Vec<Shared<NewEntry>>,
+    job: &Job<'_>,
+    version: Version,
+    id: TxId,
+    number: u32,
+    written: &WrittenKey<'_>,
+) -> Result<(), AllocError>
+    requires rising { IsStrictlySortedBy key_cmp (keys_of job.now) }
+    requires place { slice_get (keys_of job.now) number ≡ Some written.now.key }
+    requires count { length rows.old.items ≡ length (keys_of job.now) }
+    ensures rows { OnOk result ((s : State) → ShowRows job.now rows.old.items s → ShowRows job.now rows.new.items (with_write version s written.now)) }
+    ensures count { OnOk result (length rows.new.items ≡ length rows.old.items) }
+    ensures entries { OnOk result (entries_in entries.new.items ≡ entries_in entries.old.items ++ entry_written version id written.now) }
+{
+    let value = new_value(alloc, written)?;
+    add_entry(alloc, entries, version, id, &written.key, &value)?;
+    let now = row_now(&rows[number as usize], job.row(&written.key));
+    let row = row_after(version, &value, &written.policy, now)?;
+    rows[number as usize] = Some(row);
+    Ok(())
+}
+
+/// Makes all that candidate i writes.
+fn write_all(
+    alloc: Global,
+    rows: &mut Vec<WrittenRow>,
+    entries: &mut Vec<Shared<NewEntry>>,
+    job: &Job<'_>,
+    i: u32,
+    open_tx: &OpenTx<'_>,
+) -> Result<(), AllocError>
+    requires rising { IsStrictlySortedBy key_cmp (keys_of job.now) }
+    requires opened { IsOpened job.now i open_tx.now }
+    requires count { length rows.old.items ≡ length (keys_of job.now) }
+    ensures rows { OnOk result ((s : State) → ShowRows job.now rows.old.items s → ShowRows job.now rows.new.items (with_writes (version_of job.now i) s open_tx.now.written.items)) }
+    ensures count { OnOk result (length rows.new.items ≡ length rows.old.items) }
+    ensures entries { OnOk result (entries_in entries.new.items ≡ entries_in entries.old.items ++ entries_written (version_of job.now i) open_tx.now.tx.id open_tx.now.written.items) }
+{
+    let version = Version {
+        block: job.number(),
+        tx: i,
+    };
+    for (place, written) in open_tx.written.as_slice().iter().enumerate() {
+        let number = job.key_number_of(i, place);
+        write_one(
+            alloc,
+            rows,
+            entries,
+            job,
+            version,
+            open_tx.tx.id,
+            number,
+            written,
+        )?;
+    }
+    Ok(())
+}
+
+/// Takes candidate i, whose flag this is.
+fn take(
+    alloc: Global,
+    rows: &mut Vec<WrittenRow>,
+    entries: &mut Vec<Shared<NewEntry>>,
+    job: &Job<'_>,
+    i: u32,
+    flag: Flag,
+) -> Result<(), AllocError>
+    requires place { i < length job.now.candidates }
+    requires flag { flag ≡ fold.flag job.now i }
+    requires count { length rows.old.items ≡ length (keys_of job.now) }
+    ensures rows { OnOk result (ShowRows job.now rows.old.items (running job.now i).state → ShowRows job.now rows.new.items (running job.now (i + 1)).state) }
+    ensures count { OnOk result (length rows.new.items ≡ length rows.old.items) }
+    ensures entries { OnOk result (MakeHistory job.now entries.old.items i → MakeHistory job.now entries.new.items (i + 1)) }
+{
+    if !flag.is_valid() {
+        return Ok(());
+    }
+    keys_have_one_order();
+    match job.open_tx(i) {
+        None => Ok(()),
+        Some(open_tx) => write_all(alloc, rows, entries, job, i, open_tx),
+    }
+}
+
+/// Rows of so many keys that nobody wrote.
+fn unwritten(alloc: Global, count: usize) -> Result<Vec<WrittenRow>, AllocError>
+    ensures { IfOk result (λ rows. rows.items ≡ replicate count None) }
+{
+    let mut rows = Vec::with_capacity(alloc, count)?;
+    for _key in 0..count {
+        rows.push(None)?;
+    }
+    Ok(rows)
+}
+
+/// What all candidates of a job write, whose flags these are: the rows behind them, and the history entries. Linear in
+/// what the valid ones write.
+pub(crate) fn write_block(
+    alloc: Global,
+    job: &Job<'_>,
+    flags: &[Flag],
+) -> Result<Written, AllocError>
+    requires { flags.now ≡ fold.flags job.now }
+    ensures rows { IfOk result (λ w. ShowRows job.now w.rows.items (final_state job.now)) }
+    ensures count { IfOk result (λ w. length w.rows.items ≡ length (keys_of job.now)) }
+    ensures entries { IfOk result (λ w. MakeHistory job.now w.entries.items (length job.now.candidates)) }
+{
+    let mut rows = unwritten(alloc, job.keys().len())?;
+    let mut entries = Vec::new(alloc);
+    for i in 0..job.len() {
+        take(alloc, &mut rows, &mut entries, job, i, flags[i as usize])?;
+    }
+    Ok(Written { rows, entries })
+}
