@@ -4,7 +4,8 @@
 Run as `bench/block.py` from anywhere, on a quiet machine that has the kit; it needs 2 GB under TMPDIR. It builds a
 program over the repository's crates in a scratch folder. Each transaction has two endorsements, which its policy asks for;
 values are of 100 bytes, keys of 16. Beside each time stands that of the hashing which can't be avoided, by the same sha2
-in the same run: the data hash, the ids, and the HMAC-SHA-256 of what creators and endorsers sign.
+in the same run: the data hash, the ids, and the HMAC-SHA-256 of what creators and endorsers sign, each from the key on
+(the key book hashes the paddings of a key but once, and so has two blocks of SHA-256 less to hash for each).
 
 - `small` and `large`: blocks of 1 to 4,096 transactions of two reads and two writes over 1,000 and 1,000,000 keys.
 - `typical`: blocks of 500 of the same over 1,000 keys.
