@@ -1,0 +1,4 @@
+mod Words
+mod Found
+mod Steps
+mod Crossing

@@ -1,0 +1,12 @@
+use Rattle.std.proofs.Common.{◌≡◌, ◌<◌, ◌*◌, ℕ, length, map}
+use Rattle.std.specs.List.{range_with_len}
+use Rattle.rules.specs.Fold.{flag}
+use Rattle.check_workers.specs.Cells.{IsKnown}
+use Rattle.check_workers.proofs.gathering.flags.Given as goal
+
+abbrev pub invariant-loop-i : goal.invariant-loop-i
+invariant-loop-i l = record {
+  job : l.seat.job ≡ l.job;
+  known : (k : ℕ) → k < 2 * length l.job.candidates → IsKnown l.seat.known k;
+  flags : l.flags.items ≡ map (flag l.job) (range_with_len 0 l.i);
+}

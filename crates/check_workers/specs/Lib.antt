@@ -1,0 +1,4 @@
+pub mod Cells
+pub mod Words
+pub mod Seats
+pub mod Laws

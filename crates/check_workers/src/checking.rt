@@ -1,0 +1,75 @@
+ghost use Rattle.std.specs.Prelude.{◌≡◌, ◌*◌, ◌≤◌, [], length, replicate, IfOk};
+ghost use Rattle.rules.specs.Fold as fold;
+ghost use Rattle.check_workers.specs.Words.{fresh};
+
+use crate::gate::Gate;
+use crate::gathering::{flags, gather};
+use crate::rule::{Place, Words};
+use crate::seat::VerdictSeat;
+use crate::turns::Turns;
+use crate::workers::run;
+use key_chains::Job;
+use rules::Flag;
+use std::alloc::{AllocError, Global};
+use std::sync::Wait;
+use std::thread::Threads;
+
+/// What the workers found.
+#[derive(Drop)]
+pub struct Checked {
+    /// The flag of each candidate.
+    pub flags: Vec<Flag>,
+    /// How many verdicts no worker had found, out of two for each candidate.
+    pub gathered: u32,
+}
+
+fn zero_words(alloc: Global, count: usize) -> Result<Vec<u64>, AllocError>
+    ensures { IfOk result (λ words. words.items ≡ replicate count 0) }
+{
+    vec![in alloc; 0; count]
+}
+
+/// The words of a job, all unknown, and the first seat.
+fn open<'a>(alloc: Global, job: &Job<'a>) -> Result<(Words<'a>, Place), AllocError>
+    ensures key { IfOk result (λ t. t.0.shared.key ≡ job.now) }
+    ensures words { IfOk result (λ t. t.0.shared.table_id.words ≡ 2 * length job.now.candidates) }
+    ensures table { IfOk result (λ t. t.1.table_id ≡ t.0.shared.table_id) }
+    ensures fresh { IfOk result (λ t. t.1.me ≡ (fresh job.now, [])) }
+{
+    let zeros = zero_words(alloc, 2 * job.len() as usize)?;
+    Words::of_words(alloc, zeros.as_slice(), job)
+}
+
+/// The flags of a job's candidates, found by so many workers in threads of their own, in whatever order they come to the
+/// checks. Each passes the gate before each check.
+///
+/// No more workers are started than there are candidates, since the two checks of one come one after the other. One that
+/// can't be started is done without; what no worker has found is found here, in order. Takes two words for each
+/// candidate, a desk of tasks, and what threads take. Costs what the checks cost, each tried again once for each time
+/// that it was blocked.
+pub fn check_all<R: Threads + Wait + Sync, G: Gate + Sync>(
+    rt: &R,
+    alloc: Global,
+    job: &Job<'_>,
+    workers: usize,
+    gate: &G,
+) -> Result<Checked, AllocError>
+    requires workers { (1 ≤ workers) × (workers ≤ 64) }
+    ensures { IfOk result (λ c. c.flags.items ≡ fold.flags job.now) }
+{
+    let count = job.len();
+    if count == 0 {
+        return Ok(Checked {
+            flags: Vec::new(alloc),
+            gathered: 0,
+        });
+    }
+    let (words, place) = open(alloc, job)?;
+    let turns = Turns::new(alloc, count)?;
+    let steps = &words.shared;
+    run(rt, job, steps, &turns, workers.min(count as usize), gate);
+    let mut seat = VerdictSeat::first(steps, place);
+    let gathered = gather(job, &mut seat);
+    let flags = flags(alloc, job, &mut seat)?;
+    Ok(Checked { flags, gathered })
+}

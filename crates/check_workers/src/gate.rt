@@ -1,0 +1,25 @@
+/// What a worker is about to do with a transaction.
+#[derive(Clone, Copy, Debug, PartialEq, Eq)]
+pub enum Phase {
+    /// To take it in, before any check.
+    Intake,
+    /// To check its endorsements.
+    Endorse,
+    /// To check its reads.
+    Reads,
+}
+
+/// What workers pass before each check, also before one that is tried again: no verdict has been looked at for it then,
+/// and no lock is held. It can hold a worker back, and changes no verdict.
+pub trait Gate {
+    /// A worker is about to do this with the transaction at `index` of the block.
+    fn at(&self, phase: Phase, index: u32);
+}
+
+/// A gate that holds nobody back.
+#[derive(Clone, Copy, Debug)]
+pub struct Open;
+
+impl Gate for Open {
+    fn at(&self, _phase: Phase, _index: u32) {}
+}

@@ -1,0 +1,22 @@
+//! The verdicts of one block, found by workers in threads of their own, in whatever order they come to them.
+//!
+//! Each verdict has a word, which all workers read and write. Whatever they do and when, a word is unknown or the verdict
+//! of the candidates taken one by one.
+#![tactic(auto)]
+
+mod cells;
+mod checking;
+mod gate;
+mod gathering;
+mod reverse;
+mod rule;
+mod seat;
+mod turns;
+mod view;
+mod workers;
+
+pub use checking::{Checked, check_all};
+pub use gate::{Gate, Open, Phase};
+pub use reverse::Reverse;
+pub use seat::VerdictSeat;
+pub use view::View;

@@ -1,0 +1,40 @@
+//! The words of one job, their rule and their steps.
+use crate::view::View;
+use atomic_table::{Play, Seat, Shared, Table, TableRule};
+use key_chains::Job;
+use std::alloc::Global;
+
+/// Each word is unknown or the fold's verdict.
+pub struct IsFound;
+
+impl<'a> TableRule<u8, View, Job<'a>> for IsFound {
+    ghost use Rattle.check_workers.specs.Words as words;
+
+    ghost holds = { words.IsFound };
+
+    ghost first = { words.fresh };
+}
+
+/// A load or a store.
+pub(crate) struct Sees;
+
+impl Play<u8, View> for Sees {
+    ghost use Rattle.check_workers.specs.Words.{sees};
+
+    ghost then = { sees };
+}
+
+/// A new seat.
+pub(crate) struct Begins;
+
+impl Play<u8, View> for Begins {
+    ghost use Rattle.check_workers.specs.Words.{begins};
+
+    ghost then = { begins };
+}
+
+pub(crate) type Words<'a> = Table<u8, View, Job<'a>, IsFound, Global>;
+
+pub(crate) type Steps<'a> = Shared<u8, View, Job<'a>, IsFound>;
+
+pub(crate) type Place = Seat<u8, View>;
