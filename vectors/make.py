@@ -13,12 +13,14 @@ sys.dont_write_bytecode = True
 import chain
 import headers
 import sample
+import scripts
 import signatures
 
 CRATES = pathlib.Path(__file__).resolve().parent.parent / "crates"
 CHAIN = CRATES / "ledger_tests/src/vectors"
 HEADERS = CRATES / "bytes_tests/src/header_hashes"
 SAMPLE = CRATES / "fabcommit"
+SCRIPTS = CRATES / "draft_tests/src/drafting"
 SIGNATURES = CRATES / "command_line_tests/src/signatures"
 
 
@@ -29,6 +31,7 @@ def files():
         (CHAIN, chain.files()),
         (HEADERS, headers.files()),
         (SAMPLE, sample.files(keys)),
+        (SCRIPTS, scripts.files()),
         (SIGNATURES, signatures.files(keys)),
     ):
         for name, content in made:

@@ -2,22 +2,39 @@
 
 WIDTH = 92
 PLACED = {ord('"'): '\\"', ord("\\"): "\\\\", 0: "\\0"}
+NAMED = {'"': '\\"', "\\": "\\\\", "\n": "\\n", "\r": "\\r"}
 
 
 def rust_char(octet):
     return PLACED.get(octet) or (chr(octet) if 32 <= octet < 127 else f"\\x{octet:02x}")
 
 
-def rust_string(octets):
-    """A byte string, broken into lines."""
+def rust_text_char(char):
+    if char in NAMED:
+        return NAMED[char]
+    return char if 32 <= ord(char) < 127 else f"\\u{{{ord(char):x}}}"
+
+
+def quoted(chars):
+    """A string of these characters, broken into lines."""
     lines, line = [], ""
-    for char in map(rust_char, octets):
+    for char in chars:
         if len(line) + len(char) > WIDTH:
             lines.append(line)
             line = "\\x20" if char == " " else char
         else:
             line += char
-    return 'b"' + "\\\n    ".join(lines + [line]) + '"'
+    return '"' + "\\\n    ".join(lines + [line]) + '"'
+
+
+def rust_string(octets):
+    """A byte string."""
+    return "b" + quoted(map(rust_char, octets))
+
+
+def rust_text(text):
+    """A string."""
+    return quoted(map(rust_text_char, text))
 
 
 def rust_octets(octets):

@@ -1,0 +1,56 @@
+//! The bytes of blocks that scripts draft.
+
+mod vectors;
+
+use crate::failed::Failed;
+use crate::fixture::drafted;
+use block::{Header, Previous};
+use key_book::KeyBook;
+use std::alloc::Global;
+use vectors::{drafts, keys};
+
+/// A script with the number of the header that it stands behind, and its first faulty line or else the bytes of its
+/// block.
+#[derive(Clone, Copy)]
+pub struct DraftCase {
+    script: &'static str,
+    after: Option<u64>,
+    line: Option<u64>,
+    block: &'static [u8],
+}
+
+fn header(number: u64) -> Header {
+    Header {
+        number,
+        previous: if number == 0 {
+            Previous::Empty
+        } else {
+            Previous::Hash([7; 32])
+        },
+        data_hash: [9; 32],
+    }
+}
+
+fn is_drafted(alloc: Global, keys: &KeyBook, case: &DraftCase) -> Result<bool, Failed> {
+    match drafted(alloc, keys, case.after.map(header), case.script)? {
+        Ok(block) => Ok(case.line.is_none() && block.as_slice() == case.block),
+        Err(line) => Ok(case.line == Some(line)),
+    }
+}
+
+// How many cases are drafted so, up to the first that isn't.
+fn drafted_so(alloc: Global, cases: &[DraftCase]) -> Result<usize, Failed> {
+    let keys = KeyBook::read(alloc, keys())?;
+    for (count, case) in cases.iter().enumerate() {
+        if !is_drafted(alloc, &keys, case)? {
+            return Ok(count);
+        }
+    }
+    Ok(cases.len())
+}
+
+#[test]
+fn blocks_of_scripts(rt: HostRuntime) -> Result<(), Failed> {
+    assert!(rt; drafted_so(rt.alloc(), drafts())? == drafts().len());
+    Ok(())
+}

@@ -1,0 +1,16 @@
+//! Tests of draft scripts and the blocks that they make. Bytes come from a reader in Python, faulty lines were counted by
+//! hand.
+#![tactic(auto)]
+
+#[cfg(test)]
+mod drafting;
+#[cfg(test)]
+mod failed;
+#[cfg(test)]
+mod faults;
+#[cfg(test)]
+mod fixture;
+#[cfg(test)]
+mod lengths;
+#[cfg(test)]
+mod reading;
