@@ -1,0 +1,208 @@
+//! From a script to the job of its block.
+
+use crate::failed::Failed;
+use block::{Header, MAX_TXS, Previous, decode_block};
+use drafts::draft;
+use key_book::KeyBook;
+use key_chains::{Candidate, Job};
+use policy::{Definitions, Policy};
+use policy_eval::signers;
+use rules::{Flag, Row};
+use state_db::{Batch, StateDb};
+use std::alloc::{AllocError, Global};
+use transaction::{TxFault, Version, decode_tx};
+use values::{Bytes, Key, Name, Shared, is_key, is_name};
+
+const KEYS: &str = "Org1:client:c0 11\nOrg1:peer:p0 22\nOrg2:peer:q0 33\n";
+
+const POLICY: &[u8] = b"OR('Org1.peer','Org2.peer')";
+
+/// The number of the block.
+pub const BLOCK: u64 = 1;
+
+/// The version of each key before the block.
+pub const BEFORE: Version = Version { block: 0, tx: 0 };
+
+/// A key of `cc` that has a row before the block, perhaps with a policy of its own.
+#[derive(Clone, Copy)]
+pub struct RowCase<'a> {
+    pub key: &'a [u8],
+    pub policy: Option<&'a [u8]>,
+}
+
+fn name(alloc: Global, bytes: &[u8]) -> Result<Name, Failed> {
+    if !is_name(bytes) {
+        return Err(Failed::Missing("a name"));
+    }
+    Ok(Name::from_slice(alloc, bytes)?)
+}
+
+fn key(alloc: Global, bytes: &[u8]) -> Result<Key, Failed> {
+    if !is_key(bytes) {
+        return Err(Failed::Missing("a key"));
+    }
+    Ok(Key::from_slice(alloc, bytes)?)
+}
+
+fn shared_policy(alloc: Global, text: Option<&[u8]>) -> Result<Option<Shared<Policy>>, Failed> {
+    match text {
+        None => Ok(None),
+        Some(text) => {
+            let policy = Policy::parse_bytes(alloc, text)?;
+            Ok(Some(Shared::new(alloc, policy)?))
+        }
+    }
+}
+
+fn row_of(alloc: Global, case: &RowCase<'_>) -> Result<Row, Failed> {
+    Ok(Row {
+        value: Shared::new(alloc, Bytes::from_slice(alloc, b"before")?)?,
+        version: BEFORE,
+        policy: shared_policy(alloc, case.policy)?,
+    })
+}
+
+fn put_row(alloc: Global, batch: &mut Batch, case: &RowCase<'_>) -> Result<(), Failed> {
+    let row = row_of(alloc, case)?;
+    Ok(batch.put(name(alloc, b"cc")?, key(alloc, case.key)?, row)?)
+}
+
+fn batch_of(alloc: Global, rows: &[RowCase<'_>]) -> Result<Batch, Failed> {
+    let mut batch = Batch::new(alloc);
+    for row in rows {
+        put_row(alloc, &mut batch, row)?;
+    }
+    Ok(batch)
+}
+
+// Each key that is read has the version that is read.
+fn batch_of_chain(alloc: Global, count: u32) -> Result<Batch, Failed> {
+    let mut batch = Batch::new(alloc);
+    for i in 0..count {
+        let key = format!(in alloc; "k{i}")?;
+        let row = RowCase {
+            key: key.as_bytes(),
+            policy: None,
+        };
+        put_row(alloc, &mut batch, &row)?;
+    }
+    Ok(batch)
+}
+
+fn put_link(alloc: Global, script: &mut String, i: u32, next: u32) -> Result<(), AllocError> {
+    let link = format!(in alloc;
+        "tx Org1:client:c0 n{i} cc\nns cc\nread k{i} 0 0\nwrite k{next} v\nendorse Org1:peer:p0\n"
+    )?;
+    script.push_str(link.as_str())
+}
+
+fn script_of_chain(alloc: Global, count: u32) -> Result<String, AllocError> {
+    let mut script = String::new(alloc);
+    for i in 0..count {
+        put_link(alloc, &mut script, i, i + 1)?;
+    }
+    Ok(script)
+}
+
+fn applied(alloc: Global, batch: &Batch) -> Result<StateDb, AllocError> {
+    let mut state = StateDb::new(alloc);
+    state.apply(batch)?;
+    Ok(state)
+}
+
+fn definitions(alloc: Global) -> Result<Definitions, Failed> {
+    let mut definitions = Definitions::new(alloc);
+    let name = name(alloc, b"cc")?;
+    definitions.set(&name, Policy::parse_bytes(alloc, POLICY)?)?;
+    Ok(definitions)
+}
+
+// The block before; its hashes are asked for by nobody.
+const PREVIOUS: Header = Header {
+    number: BLOCK - 1,
+    previous: Previous::Empty,
+    data_hash: [0; 32],
+};
+
+fn block_of(alloc: Global, keys: &KeyBook, script: &str) -> Result<Bytes, Failed> {
+    let channel = name(alloc, b"ch")?;
+    Ok(draft(alloc, &channel, keys, Some(PREVIOUS), script)?)
+}
+
+fn candidate_of<'a>(
+    alloc: Global,
+    definitions: &Definitions,
+    keys: &KeyBook,
+    bytes: &'a [u8],
+) -> Result<Candidate<'a>, AllocError> {
+    match decode_tx(alloc, bytes) {
+        Ok(tx) => {
+            let tx = tx.into_tx();
+            let signers = signers(alloc, &tx, keys)?;
+            Candidate::open(alloc, tx, signers, definitions)
+        }
+        Err(TxFault::Form) => Ok(Candidate::Flagged(Flag::BadPayload)),
+        Err(TxFault::Memory) => Err(AllocError),
+    }
+}
+
+fn candidates_of<'a>(
+    alloc: Global,
+    definitions: &Definitions,
+    keys: &KeyBook,
+    block: &'a [u8],
+) -> Result<Vec<Candidate<'a>>, Failed> {
+    let block = decode_block(alloc, block)?;
+    let mut candidates = Vec::new(alloc);
+    for tx in block.txs.as_slice() {
+        candidates.push(candidate_of(alloc, definitions, keys, tx.as_slice())?)?;
+    }
+    Ok(candidates)
+}
+
+/// What a job lends from.
+#[derive(Drop)]
+pub struct Ground {
+    keys: KeyBook,
+    block: Bytes,
+    definitions: Definitions,
+    state: StateDb,
+}
+
+impl Ground {
+    fn over(alloc: Global, rows: &Batch, script: &str) -> Result<Ground, Failed> {
+        let keys = KeyBook::read(alloc, KEYS)?;
+        Ok(Ground {
+            block: block_of(alloc, &keys, script)?,
+            keys,
+            definitions: definitions(alloc)?,
+            state: applied(alloc, rows)?,
+        })
+    }
+
+    /// That of the block of a script behind a state of these rows.
+    pub fn of(alloc: Global, rows: &[RowCase<'_>], script: &str) -> Result<Ground, Failed> {
+        let batch = batch_of(alloc, rows)?;
+        Ground::over(alloc, &batch, script)
+    }
+
+    /// That of a block in which each of so many transactions reads a key, and writes the key that the next one reads.
+    pub fn of_chain(alloc: Global, count: u32) -> Result<Ground, Failed> {
+        let batch = batch_of_chain(alloc, count)?;
+        let script = script_of_chain(alloc, count)?;
+        Ground::over(alloc, &batch, script.as_str())
+    }
+
+    pub fn job(&self, alloc: Global) -> Result<Job<'_>, Failed> {
+        let candidates = candidates_of(
+            alloc,
+            &self.definitions,
+            &self.keys,
+            self.block.as_slice(),
+        )?;
+        if candidates.as_slice().len() > MAX_TXS {
+            return Err(Failed::Missing("a job"));
+        }
+        Ok(Job::build(alloc, BLOCK, &self.state, &self.definitions, candidates)?)
+    }
+}

@@ -1,0 +1,155 @@
+//! Calls of a desk, one after the other, and what they answer.
+
+use std::alloc::AllocError;
+use task_desk::Desk;
+
+#[derive(Clone, Copy)]
+enum Call {
+    Take,
+    Hand,
+    Start(u32),
+    Park(u32, u32),
+    Done(u32),
+    AllDone,
+    Out,
+}
+
+#[derive(Clone, Copy, PartialEq, Eq)]
+enum Answer {
+    Task(Option<u32>),
+    Is(bool),
+    Count(u32),
+}
+
+fn answer_of(desk: &mut Desk, call: Call) -> Answer {
+    match call {
+        Call::Take => Answer::Task(desk.take()),
+        Call::Hand => Answer::Task(desk.hand()),
+        Call::Start(task) => Answer::Is(desk.start(task)),
+        Call::Park(task, h) => Answer::Is(desk.park(task, h)),
+        Call::Done(task) => Answer::Is(desk.done(task)),
+        Call::AllDone => Answer::Is(desk.all_done()),
+        Call::Out => Answer::Count(desk.out()),
+    }
+}
+
+// How many of the calls are answered so, up to the first that isn't.
+fn answered(desk: &mut Desk, calls: &[(Call, Answer)]) -> usize {
+    let mut count: usize = 0;
+    for (call, wanted) in calls {
+        if answer_of(desk, *call) != *wanted {
+            return count;
+        }
+        count = count.saturating_add(1);
+    }
+    count
+}
+
+// Behind two takes.
+fn parking() -> &'static [(Call, Answer)] {
+    &PARKING
+}
+
+static PARKING: [(Call, Answer); 23] = [
+    (Call::Out, Answer::Count(2)),
+    (Call::Take, Answer::Task(None)),
+    (Call::Park(1, 1), Answer::Is(false)),
+    (Call::Park(1, 2), Answer::Is(false)),
+    (Call::Park(1, 0), Answer::Is(true)),
+    (Call::Out, Answer::Count(1)),
+    (Call::Park(1, 0), Answer::Is(false)),
+    (Call::Done(1), Answer::Is(false)),
+    (Call::Take, Answer::Task(None)),
+    (Call::Done(0), Answer::Is(true)),
+    (Call::Out, Answer::Count(0)),
+    (Call::Take, Answer::Task(Some(1))),
+    // a task that is parked on one that is done is ready
+    (Call::Park(1, 0), Answer::Is(true)),
+    (Call::Take, Answer::Task(Some(1))),
+    (Call::Park(0, 1), Answer::Is(false)),
+    (Call::Done(0), Answer::Is(false)),
+    (Call::Done(2), Answer::Is(false)),
+    (Call::AllDone, Answer::Is(false)),
+    (Call::Done(1), Answer::Is(true)),
+    (Call::AllDone, Answer::Is(true)),
+    (Call::Out, Answer::Count(0)),
+    (Call::Take, Answer::Task(None)),
+    (Call::Hand, Answer::Task(None)),
+];
+
+#[test]
+fn tasks_that_are_taken(rt: HostRuntime) -> Result<(), AllocError> {
+    let mut desk = Desk::new(rt.alloc(), 1)?;
+    let taken = [desk.take(), desk.take()];
+    assert!(rt; taken == [Some(0), Some(1)] || taken == [Some(1), Some(0)]);
+    assert!(rt; answered(&mut desk, parking()) == parking().len());
+    Ok(())
+}
+
+fn handing() -> &'static [(Call, Answer)] {
+    &HANDING
+}
+
+static HANDING: [(Call, Answer); 18] = [
+    (Call::Hand, Answer::Task(Some(0))),
+    (Call::Hand, Answer::Task(Some(1))),
+    (Call::Hand, Answer::Task(None)),
+    (Call::Out, Answer::Count(0)),
+    (Call::Start(0), Answer::Is(true)),
+    (Call::Start(0), Answer::Is(false)),
+    (Call::Start(1), Answer::Is(true)),
+    (Call::Out, Answer::Count(2)),
+    (Call::Park(1, 0), Answer::Is(true)),
+    (Call::Hand, Answer::Task(None)),
+    (Call::Start(1), Answer::Is(false)),
+    (Call::Done(0), Answer::Is(true)),
+    (Call::Hand, Answer::Task(Some(1))),
+    (Call::Hand, Answer::Task(None)),
+    (Call::Start(2), Answer::Is(false)),
+    // one that was handed can still be taken
+    (Call::Take, Answer::Task(Some(1))),
+    (Call::Done(1), Answer::Is(true)),
+    (Call::AllDone, Answer::Is(true)),
+];
+
+#[test]
+fn tasks_that_are_handed(rt: HostRuntime) -> Result<(), AllocError> {
+    let mut desk = Desk::new(rt.alloc(), 1)?;
+    assert!(rt; answered(&mut desk, handing()) == handing().len());
+    Ok(())
+}
+
+const NOTHING: [(Call, Answer); 7] = [
+    (Call::AllDone, Answer::Is(true)),
+    (Call::Take, Answer::Task(None)),
+    (Call::Hand, Answer::Task(None)),
+    (Call::Start(0), Answer::Is(false)),
+    (Call::Park(1, 0), Answer::Is(false)),
+    (Call::Done(0), Answer::Is(false)),
+    (Call::Out, Answer::Count(0)),
+];
+
+#[test]
+fn no_tasks(rt: HostRuntime) -> Result<(), AllocError> {
+    let mut desk = Desk::new(rt.alloc(), 0)?;
+    assert!(rt; answered(&mut desk, &NOTHING) == 7);
+    Ok(())
+}
+
+// How many of so many tasks are handed in order, started and done, up to the first call that is answered otherwise.
+fn worked_through(desk: &mut Desk, tasks: u32) -> u32 {
+    for task in 0..tasks {
+        if desk.hand() != Some(task) || !desk.start(task) || !desk.done(task) {
+            return task;
+        }
+    }
+    tasks
+}
+
+#[test]
+fn as_many_tasks_as_can_be(rt: HostRuntime) -> Result<(), AllocError> {
+    let mut desk = Desk::new(rt.alloc(), 4096)?;
+    assert!(rt; worked_through(&mut desk, 8192) == 8192);
+    assert!(rt; desk.all_done());
+    Ok(())
+}
