@@ -2,6 +2,7 @@
 
 use crate::failed::Failed;
 use crate::fixture::{book, faulty_line};
+use key_book::KeyBook;
 use std::alloc::Global;
 
 // How many of the scripts have this first faulty line, up to the first that hasn't.
@@ -15,176 +16,163 @@ fn faulty_so(alloc: Global, scripts: &[(&str, u64)]) -> Result<usize, Failed> {
     Ok(scripts.len())
 }
 
-// How many of the lines are fine behind others, up to the first that isn't.
-fn fine_behind(alloc: Global, front: &str, lines: &[&str]) -> Result<usize, Failed> {
-    let keys = book(alloc)?;
-    for (count, line) in lines.iter().enumerate() {
-        let script = format!(in alloc; "{front}{line}")?;
-        if faulty_line(alloc, &keys, script.as_str())?.is_some() {
-            return Ok(count);
-        }
-    }
-    Ok(lines.len())
+fn faulty_line_behind(
+    alloc: Global,
+    keys: &KeyBook,
+    front: &str,
+    line: &str,
+) -> Result<Option<u64>, Failed> {
+    let script = format!(in alloc; "{front}{line}\nendorse Org1:peer:p0\nno line\n")?;
+    faulty_line(alloc, keys, script.as_str())
 }
 
-// How many of the lines are faulty as the fifth behind four others, up to the first that isn't.
-fn faulty_fifth(alloc: Global, front: &str, lines: &[&str]) -> Result<usize, Failed> {
+// The first of the lines behind which another one is the first faulty line; none is such a line.
+fn first_other<'a>(
+    alloc: Global,
+    front: &str,
+    lines: &'a str,
+    wanted: u64,
+) -> Result<Option<&'a str>, Failed> {
     let keys = book(alloc)?;
-    for (count, line) in lines.iter().enumerate() {
-        let script = format!(in alloc; "{front}{line}\nno line\n")?;
-        if faulty_line(alloc, &keys, script.as_str())? != Some(5) {
-            return Ok(count);
+    for line in lines.split('\n') {
+        if faulty_line_behind(alloc, &keys, front, line)? != Some(wanted) {
+            return Ok(Some(line));
         }
     }
-    Ok(lines.len())
+    Ok(None)
 }
 
 const FOUR_LINES: &str =
     "tx Org1:client:c0 n cc\nns cc\n# the range of the results\nrange a z all\n";
 
-fn fine_lines() -> &'static [&'static str] {
-    &FINE_LINES
+fn fine_lines() -> &'static str {
+    FINE_LINES
 }
 
-static FINE_LINES: [&str; 32] = [
-    "",
-    "   ",
-    "#",
-    "  # a comment",
-    "\r\n",
-    "tx Org1:client:c0 n cc",
-    "  tx   Org1:client:c0   %   cc  ",
-    "raw",
-    "raw 00fF",
-    "ns dd",
-    "ns cc",
-    "ns A-._9",
-    "endorse Org1:peer:p0",
-    "endorse Org1:peer:%70%30",
-    "endorse Org1:client:c0",
-    "read k absent",
-    "read k 0 0",
-    "read absent absent",
-    "read k 18446744073709551615 4294967295",
-    "read k 00000000000000000001 00000000000000000001",
-    "range % % all",
-    "range z a part",
-    "result k 0 0",
-    "result k 0 0\nresult k 0 0\nresult a 0 0",
-    "write k %",
-    "write k #v",
-    "write %00 %fF",
-    "delete k",
-    "policy k AND(",
-    "policy k  two  words",
-    "policy k \u{e9}",
-    "nopolicy k",
-];
+// Behind each of them a transaction is open.
+static FINE_LINES: &str = "
+\x20\x20\x20
+#
+  # a comment
+tx Org1:client:c0 n cc
+  tx   Org1:client:c0   %   cc\x20\x20
+ns dd
+ns cc
+ns A-._9
+endorse Org1:peer:p0
+endorse Org1:peer:%70%30
+endorse Org1:client:c0
+read k absent
+read k 0 0
+read absent absent
+read k 18446744073709551615 4294967295
+read k 00000000000000000001 00000000000000000001
+range % % all
+range z a part
+result k 0 0
+write k %
+write k #v
+write %00 %fF
+delete k
+policy k AND(
+policy k  two  words
+policy k \u{e9}
+nopolicy k";
 
 #[test]
 fn lines_that_are_fine(rt: HostRuntime) -> Result<(), Failed> {
-    let lines = fine_lines();
-    assert!(rt; fine_behind(rt.alloc(), FOUR_LINES, lines)? == lines.len());
+    assert!(rt; first_other(rt.alloc(), FOUR_LINES, fine_lines(), 7)?.is_none());
     Ok(())
 }
 
-fn faulty_lines() -> &'static [&'static str] {
-    &FAULTY_LINES
+fn faulty_lines() -> &'static str {
+    FAULTY_LINES
 }
 
-static FAULTY_LINES: [&str; 79] = [
-    // no such word
-    "x",
-    "TX Org1:client:c0 n cc",
-    "ns\tcc",
-    "\r\r",
-    "\u{feff}ns cc",
-    "readk absent",
-    // transactions
-    "tx",
-    "tx Org1:client:c0",
-    "tx Org1:client:c0 n",
-    "tx Org1:client:c0 n cc cc",
-    "tx Org1:client:c0 n c/c",
-    "tx Org1:client:c0 %n cc",
-    "tx Org1:client:c0 n% cc",
-    "tx Org1:client:c1 n cc",
-    "tx Org1:peer:c0 n cc",
-    "tx Org2:client:c0 n cc",
-    "tx Org1:boss:c0 n cc",
-    "tx Org1:client n cc",
-    "tx Org1:client: n cc",
-    "tx :client:c0 n cc",
-    "raw 0",
-    "raw 0g",
-    "raw 00 00",
-    "raw %00",
-    // namespaces
-    "ns",
-    "ns c c",
-    "ns c%63",
-    "ns c\u{e9}",
-    // reads
-    "read",
-    "read k",
-    "read % absent",
-    "read k Absent",
-    "read k absent absent",
-    "read k 0",
-    "read k 0 0 0",
-    "read k 0 absent",
-    "read k -1 0",
-    "read k +1 0",
-    "read k 0x1 0",
-    "read k 1_0 0",
-    "read k 18446744073709551616 0",
-    "read k 0 4294967296",
-    "read k 000000000000000000001 0",
-    "read k 0 000000000000000000001",
-    // ranges and results
-    "range",
-    "range a",
-    "range a b",
-    "range a b All",
-    "range a b all all",
-    "range a b 1",
-    "range a %% all",
-    "result k",
-    "result k absent",
-    "result k 0",
-    "result % 0 0",
-    "result k 0 0 0",
-    // writes
-    "write",
-    "write k",
-    "write % v",
-    "write k v v",
-    "write k %0",
-    "write k %0g",
-    "write k \u{e9}",
-    "write k\tv v",
-    "delete",
-    "delete %",
-    "delete k v",
-    "policy",
-    "policy k",
-    "policy % AND(",
-    "policy k%1 AND(",
-    "nopolicy",
-    "nopolicy k k",
-    "nopolicy %",
-    // endorsers
-    "endorse",
-    "endorse Org2:peer:p0",
-    "endorse Org1:peer:p1",
-    "endorse Org1:peer:p0 n",
-    "endorse Org1:peer:",
-];
+// By word: unknown ones, `tx`, `raw`, `ns`, `read`, `range`, `result`, `write`, `delete`, `policy`, `nopolicy`, `endorse`.
+static FAULTY_LINES: &str = "x
+TX Org1:client:c0 n cc
+ns\tcc
+\r\r
+\u{feff}ns cc
+readk absent
+tx
+tx Org1:client:c0
+tx Org1:client:c0 n
+tx Org1:client:c0 n cc cc
+tx Org1:client:c0 n c/c
+tx Org1:client:c0 %n cc
+tx Org1:client:c0 n% cc
+tx Org1:client:c1 n cc
+tx Org1:peer:c0 n cc
+tx Org2:client:c0 n cc
+tx Org1:boss:c0 n cc
+tx Org1:client n cc
+tx Org1:client: n cc
+tx :client:c0 n cc
+raw 0
+raw 0g
+raw 00 00
+raw %00
+ns
+ns c c
+ns c%63
+ns c\u{e9}
+read
+read k
+read % absent
+read k Absent
+read k absent absent
+read k 0
+read k 0 0 0
+read k 0 absent
+read k -1 0
+read k +1 0
+read k 0x1 0
+read k 1_0 0
+read k 18446744073709551616 0
+read k 0 4294967296
+read k 000000000000000000001 0
+read k 0 000000000000000000001
+range
+range a
+range a b
+range a b All
+range a b all all
+range a b 1
+range a %% all
+result k
+result k absent
+result k 0
+result % 0 0
+result k 0 0 0
+write
+write k
+write % v
+write k v v
+write k %0
+write k %0g
+write k \u{e9}
+write k\tv v
+delete
+delete %
+delete k v
+policy
+policy k
+policy % AND(
+policy k%1 AND(
+nopolicy
+nopolicy k k
+nopolicy %
+endorse
+endorse Org2:peer:p0
+endorse Org1:peer:p1
+endorse Org1:peer:p0 n
+endorse Org1:peer:";
 
 #[test]
 fn lines_that_are_faulty(rt: HostRuntime) -> Result<(), Failed> {
-    let lines = faulty_lines();
-    assert!(rt; faulty_fifth(rt.alloc(), FOUR_LINES, lines)? == lines.len());
+    assert!(rt; first_other(rt.alloc(), FOUR_LINES, faulty_lines(), 5)?.is_none());
     Ok(())
 }
 
@@ -193,7 +181,9 @@ fn scripts() -> &'static [(&'static str, u64)] {
 }
 
 // Nothing is open for a line, or one line goes before another.
-static SCRIPTS: [(&str, u64); 17] = [
+static SCRIPTS: [(&str, u64); 19] = [
+    ("raw\nns cc\n", 2),
+    ("raw 00fF\nraw\n\r\n  # one\nendorse Org1:peer:p0", 5),
     ("ns cc\n", 1),
     ("\n \n# ns\nread k absent\n", 4),
     ("endorse Org1:peer:p0\n", 1),
