@@ -1,47 +1,54 @@
+use crate::draft::Draft;
+use crate::fault::Fault;
+use crate::files::Files;
+use crate::get::Get;
+use crate::history::History;
+use crate::run::Run;
+use crate::scan::Scan;
 use clap::error::ErrorKind;
-use clap::{Arg, ArgAction, ArgMatches, Command, Error};
+use clap::{ArgMatches, Command, Error};
 use std::alloc::{AllocError, Global};
 use std::convert::AsStr;
+use std::io::Write;
 
 const NAME: &str = "fabcommit";
 
-/// What `run` was asked for: paths, the blocks' in their order.
+const EXAMPLE: &str = "\
+Example, from a script to what its block leaves behind:
+  fabcommit draft --channel channel.txt --keys keys.txt script.txt block0.blk
+  fabcommit run --channel channel.txt --keys keys.txt block0.blk
+  fabcommit get --channel channel.txt --keys keys.txt --ns cc --key car1 block0.blk
+
+The ledger lives in memory: each call hands its blocks in anew, from block 0 on.
+
+Exit status:
+  0  all went well
+  1  a block was refused
+  2  the words are no command
+  3  a file can't be read or written, or has a fault
+  4  memory ran out";
+
+/// What the words ask for.
 #[derive(Debug, Drop)]
-pub(crate) struct Run<'a> {
-    pub(crate) channel: &'a str,
-    pub(crate) keys: &'a str,
-    pub(crate) blocks: Vec<&'a str>,
-}
-
-fn file_option<'a>(alloc: Global, name: &'a str, help: &'a str) -> Arg<'a> {
-    Arg::new(alloc, name)
-        .long(name)
-        .value_name("FILE")
-        .required(true)
-        .action(ArgAction::Set)
-        .help(help)
-}
-
-fn run_command<'a>(alloc: Global) -> Result<Command<'a>, AllocError> {
-    let blocks = Arg::new(alloc, "blocks")
-        .value_name("BLOCK")
-        .required(true)
-        .num_args(1..)
-        .action(ArgAction::Append)
-        .help("Block files, in the order in which they are handed in");
-    Command::new(alloc, "run")
-        .about("Hands blocks in, one by one, and prints what is answered to each")
-        .arg(file_option(alloc, "channel", "The channel's configuration"))?
-        .arg(file_option(alloc, "keys", "The keys that signatures are checked with"))?
-        .arg(blocks)
+pub(crate) enum Asked<'a> {
+    Draft(Draft<'a>),
+    Run(Run<'a>),
+    Get(Get<'a>),
+    Scan(Scan<'a>),
+    History(History<'a>),
 }
 
 fn command<'a>(alloc: Global) -> Result<Command<'a>, AllocError> {
     Command::new(alloc, NAME)
         .bin_name(NAME)?
         .about("A committing peer of one Hyperledger Fabric channel")
+        .after_help(EXAMPLE)
         .subcommand_required(true)
-        .subcommand(run_command(alloc)?)
+        .subcommand(Draft::command(alloc)?)?
+        .subcommand(Run::command(alloc)?)?
+        .subcommand(Get::command(alloc)?)?
+        .subcommand(Scan::command(alloc)?)?
+        .subcommand(History::command(alloc)?)
 }
 
 /// The mistake of words that aren't UTF-8.
@@ -50,37 +57,52 @@ pub(crate) fn not_text(alloc: Global) -> Result<Error, AllocError> {
     command(alloc)?.error(ErrorKind::ValueValidation, text)
 }
 
-impl<'a> Run<'a> {
+impl<'a> Asked<'a> {
     /// What the words ask for, of which the first is the program's name; else why they are no
     /// command, or the help that they ask for.
-    pub(crate) fn from_words<S: AsStr>(alloc: Global, words: &'a [S]) -> Result<Run<'a>, Error> {
+    pub(crate) fn from_words<S: AsStr>(alloc: Global, words: &'a [S]) -> Result<Asked<'a>, Error> {
         let mut command = command(alloc)?;
         let matches = command.try_get_matches_from_mut(words)?;
-        match Run::from_matches(alloc, &matches)? {
-            Some(run) => Ok(run),
-            // No words lead here, since what is read is required.
-            None => Err(command.error(ErrorKind::MissingRequiredArgument, "incomplete command")?),
+        match Asked::from_matches(alloc, &matches)? {
+            Some(asked) => Ok(asked),
+            // All else is required, or looked at by clap.
+            None => {
+                let text = "a number is written with digits alone";
+                Err(command.error(ErrorKind::ValueValidation, text)?)
+            }
         }
     }
 
     fn from_matches(
         alloc: Global,
         matches: &ArgMatches<'a>,
-    ) -> Result<Option<Run<'a>>, AllocError> {
-        let Some((_, matches)) = matches.subcommand() else {
+    ) -> Result<Option<Asked<'a>>, AllocError> {
+        let Some((name, matches)) = matches.subcommand() else {
             return Ok(None);
         };
-        let (Some(channel), Some(keys), Some(blocks)) = (
-            matches.get_str("channel"),
-            matches.get_str("keys"),
-            matches.get_strs("blocks"),
-        ) else {
-            return Ok(None);
-        };
-        Ok(Some(Run {
-            channel,
-            keys,
-            blocks: Vec::from_slice(alloc, blocks)?,
-        }))
+        Ok(match name {
+            "draft" => Draft::from_matches(matches).map(Asked::Draft),
+            "run" => Run::from_matches(alloc, matches)?.map(Asked::Run),
+            "get" => Get::from_matches(alloc, matches)?.map(Asked::Get),
+            "scan" => Scan::from_matches(alloc, matches)?.map(Asked::Scan),
+            "history" => History::from_matches(alloc, matches)?.map(Asked::History),
+            _ => None,
+        })
+    }
+
+    /// Does what is asked for. Returns what the process ends with, unless a fault ends it before.
+    pub(crate) fn perform<F: Files, W: Write>(
+        &self,
+        alloc: Global,
+        files: &F,
+        out: &mut W,
+    ) -> Result<u8, Fault<'a>> {
+        match self {
+            Asked::Draft(draft) => draft.perform(alloc, files),
+            Asked::Run(run) => run.perform(alloc, files, out),
+            Asked::Get(get) => get.perform(alloc, files, out),
+            Asked::Scan(scan) => scan.perform(alloc, files, out),
+            Asked::History(history) => history.perform(alloc, files, out),
+        }
     }
 }

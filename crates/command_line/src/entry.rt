@@ -1,7 +1,6 @@
-use crate::command::{Run, not_text};
+use crate::command::{Asked, not_text};
 use crate::fault::Fault;
 use crate::files::Files;
-use crate::run::run;
 use crate::status::{ACCEPTED, USAGE};
 use clap::error::ErrorKind;
 use std::alloc::Global;
@@ -39,13 +38,14 @@ fn status_of<E: Write>(ended: Result<u8, Fault<'_>>, err: &mut E) -> u8 {
 }
 
 /// The program `fabcommit` on these words, of which the first is its own name. Returns what the
-/// process is to end with: 0 where every block was accepted and for help, 1 where one was refused,
-/// 2 where the words are no command, 3 where a file or `out` is at fault, and 4 where memory ran
-/// out.
+/// process is to end with: 0 where every block was accepted or one was drafted and for help, 1 where a
+/// block was refused, 2 where the words are no command, 3 where a file or `out` is at fault, and 4
+/// where memory ran out.
 ///
-/// The words are read first, then all files, and then the blocks are handed in one by one. Lines
-/// and help go to `out`, and a fault's line to `err`, where a write that fails changes nothing. The
-/// memory is the files' bytes, what the ledger keeps and what one block takes.
+/// The words are read first, then all files, and then the blocks are handed in one by one, or one is
+/// drafted. Lines and help go to `out`, and a fault's line to `err`, where a write that fails changes
+/// nothing. The memory is the files' bytes, what the ledger keeps, what one block takes, and a buffer
+/// of a fixed size.
 pub fn program<R: AllocGlobal, S: AsStr, F: Files, O: Write, E: Write>(
     rt: &R,
     words: &[S],
@@ -53,8 +53,8 @@ pub fn program<R: AllocGlobal, S: AsStr, F: Files, O: Write, E: Write>(
     out: &mut O,
     err: &mut E,
 ) -> u8 {
-    let ended = match Run::from_words(rt.alloc(), words) {
-        Ok(asked) => run(rt.alloc(), files, &asked, out),
+    let ended = match Asked::from_words(rt.alloc(), words) {
+        Ok(asked) => asked.perform(rt.alloc(), files, out),
         Err(error) => tell(&error, out, err),
     };
     status_of(ended, err)

@@ -2,11 +2,13 @@ ghost use Rattle.std.specs.Prelude.{◌≡◌, ◌↔◌};
 ghost use Rattle.channel.specs.declared.fault.ChannelFault.TheVariants as channel_fault;
 ghost use Rattle.command_line.specs.declared.fault.Fault.TheVariants.{Memory};
 ghost use Rattle.command_line.specs.declared.files.FileFault.TheVariants as file_fault;
+ghost use Rattle.drafts.specs.declared.fault.DraftFault.TheVariants as draft_fault;
 ghost use Rattle.key_book.specs.declared.fault.KeyBookFault.TheVariants as key_book_fault;
 
 use crate::files::FileFault;
-use crate::status::{FILE_FAULT, MEMORY};
+use crate::status::{FILE_FAULT, MEMORY, USAGE};
 use channel::ChannelFault;
+use drafts::DraftFault;
 use key_book::KeyBookFault;
 use std::alloc::{AllocError, AllocFailed};
 use std::io;
@@ -15,15 +17,24 @@ use thiserror::Error;
 /// What ends the program before its work is done. Its text is the line for standard error.
 #[derive(Clone, Copy, Debug, PartialEq, Eq, Error)]
 pub enum Fault<'a> {
+    /// What should be a word, a name or the word of a key isn't.
+    #[error("bad word")]
+    Word,
     /// The file of this path can't be read.
     #[error("cannot read {0}")]
     Unreadable(&'a str),
+    /// The file of this path can't be written.
+    #[error("cannot write {0}")]
+    Unwritable(&'a str),
     /// This line, from 1, of the text in the file of this path has a fault.
     #[error("{0} line {1}")]
     Line(&'a str, u64),
     /// The channel text in the file of this path names no channel.
     #[error("{0} no channel")]
     NoChannel(&'a str),
+    /// The file of this path holds no block that another one can follow.
+    #[error("{0} not a block")]
+    NotABlock(&'a str),
     #[error("cannot write standard output")]
     Output,
     #[error("out of memory")]
@@ -34,6 +45,7 @@ impl<'a> Fault<'a> {
     /// What the process ends with.
     pub fn status(&self) -> u8 {
         match self {
+            Fault::Word => USAGE,
             Fault::Memory => MEMORY,
             _ => FILE_FAULT,
         }
@@ -45,6 +57,16 @@ impl<'a> Fault<'a> {
     {
         match fault {
             FileFault::Inaccessible => Fault::Unreadable(path),
+            FileFault::Memory => Fault::Memory,
+        }
+    }
+
+    /// The fault of writing the file of this path.
+    pub(crate) fn of_write(path: &'a str, fault: FileFault) -> Fault<'a>
+        ensures { result ≡ Memory ↔ fault ≡ file_fault.Memory }
+    {
+        match fault {
+            FileFault::Inaccessible => Fault::Unwritable(path),
             FileFault::Memory => Fault::Memory,
         }
     }
@@ -70,6 +92,16 @@ impl<'a> Fault<'a> {
         match fault {
             KeyBookFault::Line(line) => Fault::Line(path, line),
             KeyBookFault::Memory => Fault::Memory,
+        }
+    }
+
+    /// The fault of the script in the file of this path.
+    pub(crate) fn of_draft(path: &'a str, fault: DraftFault) -> Fault<'a>
+        ensures { result ≡ Memory ↔ fault ≡ draft_fault.Memory }
+    {
+        match fault {
+            DraftFault::Line(line) => Fault::Line(path, line),
+            DraftFault::Memory => Fault::Memory,
         }
     }
 }

@@ -1,28 +1,39 @@
-use crate::command::Run;
+//! What the files hold, each read and checked before the next.
 use crate::fault::Fault;
 use crate::files::Files;
+use crate::options::{ConfigurationPaths, LedgerPaths};
 use channel::Channel;
 use key_book::KeyBook;
 use std::alloc::Global;
 use text_lines::text_of;
 use values::Bytes;
 
-/// What the files of a run hold.
+/// What each subcommand begins with.
 #[derive(Drop)]
-pub(crate) struct Inputs {
+pub(crate) struct Configuration {
     pub(crate) channel: Channel,
     pub(crate) keys: KeyBook,
+}
+
+/// What a ledger is made of.
+#[derive(Drop)]
+pub(crate) struct Inputs {
+    pub(crate) configuration: Configuration,
     pub(crate) blocks: Vec<Bytes>,
 }
 
-fn read_file<'a, F: Files>(alloc: Global, files: &F, path: &'a str) -> Result<Bytes, Fault<'a>> {
+pub(crate) fn read_file<'a, F: Files>(
+    alloc: Global,
+    files: &F,
+    path: &'a str,
+) -> Result<Bytes, Fault<'a>> {
     files
         .read(alloc, path)
         .map_err(|fault| Fault::of_file(path, fault))
 }
 
-// A line that isn't UTF-8 goes before every other fault of the text.
-fn text_in<'a, 'b>(path: &'a str, bytes: &'b Bytes) -> Result<&'b str, Fault<'a>> {
+/// The text in the file of this path. A line that isn't UTF-8 goes before every other fault of it.
+pub(crate) fn text_in<'a, 'b>(path: &'a str, bytes: &'b Bytes) -> Result<&'b str, Fault<'a>> {
     text_of(bytes.as_slice()).map_err(|line| Fault::Line(path, line))
 }
 
@@ -40,23 +51,33 @@ fn read_keys<'a, F: Files>(alloc: Global, files: &F, path: &'a str) -> Result<Ke
     KeyBook::read(alloc, text_in(path, &bytes)?).map_err(|fault| Fault::of_key_book(path, fault))
 }
 
-impl Inputs {
-    /// Reads the channel, the keys and the blocks, each file to its end before the next. The memory
-    /// is linear in the files' bytes.
+impl Configuration {
+    /// Reads the channel and then the keys. The memory is linear in the files' bytes.
     pub(crate) fn read<'a, F: Files>(
         alloc: Global,
         files: &F,
-        run: &Run<'a>,
+        paths: &ConfigurationPaths<'a>,
+    ) -> Result<Configuration, Fault<'a>> {
+        let channel = read_channel(alloc, files, paths.channel)?;
+        let keys = read_keys(alloc, files, paths.keys)?;
+        Ok(Configuration { channel, keys })
+    }
+}
+
+impl Inputs {
+    /// Reads the channel, the keys and the blocks. The memory is linear in the files' bytes.
+    pub(crate) fn read<'a, F: Files>(
+        alloc: Global,
+        files: &F,
+        paths: &LedgerPaths<'a>,
     ) -> Result<Inputs, Fault<'a>> {
-        let channel = read_channel(alloc, files, run.channel)?;
-        let keys = read_keys(alloc, files, run.keys)?;
+        let configuration = Configuration::read(alloc, files, &paths.configuration)?;
         let mut blocks = Vec::new(alloc);
-        for path in &run.blocks {
+        for path in &paths.blocks {
             blocks.push(read_file(alloc, files, path)?)?;
         }
         Ok(Inputs {
-            channel,
-            keys,
+            configuration,
             blocks,
         })
     }

@@ -1,17 +1,29 @@
-//! The program `fabcommit`: takes block files of a Fabric channel one by one, and says of each what a
-//! committing peer makes of it.
+//! The program `fabcommit`: drafts blocks of a Fabric channel, takes blocks one by one and says of each
+//! what a committing peer makes of it, and answers what the ledger behind them holds.
 #![tactic(auto)]
 
 mod command;
+mod committed;
+mod draft;
 mod entry;
 mod fault;
 mod files;
+mod get;
+mod history;
 mod inputs;
+mod laws;
 mod lines;
+mod options;
+mod rows;
 mod run;
+mod scan;
 mod status;
+mod word;
+mod words;
 
 pub use entry::{program, without_words};
 pub use fault::Fault;
 pub use files::{DiskFiles, FileFault, Files};
+pub use laws::printed_words_are_read_back;
 pub use lines::write_answers;
+pub use word::Word;

@@ -1,4 +1,4 @@
-//! The lines of standard output.
+//! The lines for blocks, and how lines are written.
 
 ghost use Rattle.std.specs.Prelude.{◌≡◌, ◌↔◌, ◌⊎◌, IsErr};
 ghost use Rattle.std.specs.Iterator.{IsFinite};
@@ -95,6 +95,22 @@ fn write_each<'a, A: Iterator<Item = Result<Accepted, Refused>> + Drop, W: Write
     Ok(status)
 }
 
+/// Ends lines that were written through a buffer: what is left in it is written, unless a write has
+/// failed. Behind a failed write nothing is written.
+pub(crate) fn finish<'a, T: Drop, W: Write + Drop>(
+    mut lines: BufWriter<W>,
+    ended: Result<T, Fault<'a>>,
+) -> Result<T, Fault<'a>> {
+    let written = match ended {
+        Err(Fault::Output) => Ok(()),
+        _ => lines.flush(),
+    };
+    // To drop the buffer would write what a failed write left in it.
+    let (_, _) = lines.into_parts();
+    written?;
+    ended
+}
+
 /// Writes a line for each answer to a block, in the order in which they were handed in:
 /// `accepted NUMBER HASH` and the flags, or `refused PLACE FAULT`. Returns what the process ends
 /// with, unless a fault ends it before: want of memory, behind the lines of the answers before it, or
@@ -110,12 +126,5 @@ pub fn write_answers<'a, A: Iterator<Item = Result<Accepted, Refused>> + Drop, W
 {
     let mut lines = BufWriter::new(alloc, out)?;
     let ended = write_each(&mut lines, answers);
-    let written = match ended {
-        Err(Fault::Output) => Ok(()),
-        _ => lines.flush(),
-    };
-    // To drop the buffer would write what a failed write left in it.
-    let (_, _) = lines.into_parts();
-    written?;
-    ended
+    finish(lines, ended)
 }

@@ -1,30 +1,59 @@
-use crate::command::Run;
 use crate::fault::Fault;
 use crate::files::Files;
-use crate::inputs::Inputs;
+use crate::inputs::{Configuration, Inputs};
 use crate::lines::write_answers;
+use crate::options::{ConfigurationPaths, LedgerPaths};
+use clap::{ArgMatches, Command};
 use commit::Ledger;
-use std::alloc::Global;
+use std::alloc::{AllocError, Global};
 use std::io::Write;
 
-/// Reads the files of a run, hands its blocks in to a new ledger, and writes a line for each.
-/// Returns what the process ends with, unless a fault ends it before. The memory is the files'
-/// bytes, of which each block's are let go when it is done, what the ledger keeps, what one block
-/// takes, and a buffer of a fixed size.
-pub(crate) fn run<'a, F: Files, W: Write>(
-    alloc: Global,
-    files: &F,
-    asked: &Run<'a>,
-    out: &mut W,
-) -> Result<u8, Fault<'a>> {
-    let Inputs {
-        channel,
-        keys,
-        blocks,
-    } = Inputs::read(alloc, files, asked)?;
-    let mut ledger = Ledger::open(alloc, channel);
-    let answers = blocks
-        .into_iter()
-        .map(|bytes| ledger.submit_one(bytes.as_slice(), &keys));
-    write_answers(alloc, answers, out)
+const EXAMPLE: &str = "\
+Example:
+  fabcommit run --channel channel.txt --keys keys.txt block0.blk block1.blk
+
+  accepted NUMBER HASH FLAG ..  the header's hash, and a flag for each transaction: 0 is valid
+  refused PLACE FAULT           the file's place among the blocks, from 1; the next one is still tried";
+
+/// Blocks in, and a line for each out.
+#[derive(Debug, Drop)]
+pub(crate) struct Run<'a> {
+    paths: LedgerPaths<'a>,
+}
+
+impl<'a> Run<'a> {
+    pub(crate) fn command(alloc: Global) -> Result<Command<'a>, AllocError> {
+        let command = Command::new(alloc, "run")
+            .about("Hands blocks in, one by one, and prints what is answered to each")
+            .after_help(EXAMPLE);
+        ConfigurationPaths::options(alloc, command)?.arg(LedgerPaths::blocks(alloc, 1))
+    }
+
+    pub(crate) fn from_matches(
+        alloc: Global,
+        matches: &ArgMatches<'a>,
+    ) -> Result<Option<Run<'a>>, AllocError> {
+        Ok(LedgerPaths::from_matches(alloc, matches)?.map(|paths| Run { paths }))
+    }
+
+    /// Reads the files, hands the blocks in to a new ledger, and writes a line for each. The memory
+    /// is the files' bytes, of which each block's are let go when it is done, what the ledger keeps,
+    /// what one block takes, and a buffer of a fixed size.
+    pub(crate) fn perform<F: Files, W: Write>(
+        &self,
+        alloc: Global,
+        files: &F,
+        out: &mut W,
+    ) -> Result<u8, Fault<'a>> {
+        let Inputs {
+            configuration,
+            blocks,
+        } = Inputs::read(alloc, files, &self.paths)?;
+        let Configuration { channel, keys } = configuration;
+        let mut ledger = Ledger::open(alloc, channel);
+        let answers = blocks
+            .into_iter()
+            .map(|bytes| ledger.submit_one(bytes.as_slice(), &keys));
+        write_answers(alloc, answers, out)
+    }
 }

@@ -1,6 +1,6 @@
 //! What the process ends with.
 
-/// Every block was accepted, or help was asked for.
+/// Every block was accepted, a block was drafted, or help was asked for.
 pub(crate) const ACCEPTED: u8 = 0;
 
 /// A block was refused.

@@ -10,10 +10,22 @@ const COMMAND: &str = "Usage: fabcommit <COMMAND>\n";
 
 const RUN: &str = "Usage: fabcommit run --channel <FILE> --keys <FILE> <BLOCK>...\n";
 
+const DRAFT: &str =
+    "Usage: fabcommit draft [OPTIONS] --channel <FILE> --keys <FILE> <SCRIPT> <OUT>\n";
+
+const GET: &str =
+    "Usage: fabcommit get --channel <FILE> --keys <FILE> --ns <NAME> --key <WORD> [BLOCK]...\n";
+
+const SCAN: &str =
+    "Usage: fabcommit scan [OPTIONS] --channel <FILE> --keys <FILE> --ns <NAME> [BLOCK]...\n";
+
+const HISTORY: &str =
+    "Usage: fabcommit history --channel <FILE> --keys <FILE> --ns <NAME> --key <WORD> [BLOCK]...\n";
+
 // Words behind the program's name, and two texts that what is said of them has.
 type Row = (&'static [&'static str], &'static str, &'static str);
 
-const MISTAKES: [Row; 8] = [
+const MISTAKES: [Row; 16] = [
     (
         &[],
         "'fabcommit' requires a subcommand but one was not provided",
@@ -42,11 +54,69 @@ const MISTAKES: [Row; 8] = [
         "'--keys <FILE>' cannot be used multiple times",
         RUN,
     ),
+    (
+        &["draft", "--channel", "c", "--keys", "k", "s"],
+        "\n  <OUT>\n",
+        "fabcommit draft",
+    ),
+    (
+        &["draft", "--channel", "c", "--keys", "k", "s", "o", "p"],
+        "unexpected argument 'p' found",
+        "fabcommit draft",
+    ),
+    (
+        &["get", "--channel", "c", "--keys", "k", "--ns", "cc"],
+        "\n  --key <WORD>\n",
+        "fabcommit get",
+    ),
+    (
+        &["scan", "--channel", "c", "--keys", "k", "b"],
+        "\n  --ns <NAME>\n",
+        "fabcommit scan",
+    ),
+    (
+        &["history", "--channel", "c", "--keys", "k", "--key", "k"],
+        "\n  --ns <NAME>\n",
+        "fabcommit history",
+    ),
+    (
+        &["scan", "--limit", "0"],
+        "invalid value '0' for '--limit <N>': 0 is not in 1..=65535",
+        "--help",
+    ),
+    (
+        &["scan", "--limit", "65536"],
+        "invalid value '65536' for '--limit <N>': 65536 is not in 1..=65535",
+        "--help",
+    ),
+    (
+        &[
+            "scan",
+            "--channel",
+            "c",
+            "--keys",
+            "k",
+            "--ns",
+            "n",
+            "--limit",
+            "+2",
+        ],
+        "a number is written with digits alone",
+        COMMAND,
+    ),
 ];
 
-const HELP: [Row; 4] = [
-    (&["--help"], "\nCommands:\n  run ", COMMAND),
-    (&["help"], "\nCommands:\n  run ", COMMAND),
+const HELP: [Row; 8] = [
+    (&["--help"], "\nCommands:\n  draft ", COMMAND),
+    (&["help"], "\nExample, from a script to what", COMMAND),
+    (&["draft", "-h"], "\nExample:\n  fabcommit draft ", DRAFT),
+    (&["get", "--help"], "\nExample:\n  fabcommit get ", GET),
+    (&["help", "scan"], "[default: 100]\n", SCAN),
+    (
+        &["history", "-h"],
+        "\nExample:\n  fabcommit history ",
+        HISTORY,
+    ),
     (
         &["run", "--help"],
         "\nOptions:\n      --channel <FILE>",

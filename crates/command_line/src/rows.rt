@@ -1,0 +1,46 @@
+//! The lines in which the ledger's contents are told.
+use crate::fault::Fault;
+use crate::word::{ValueWord, Word};
+use rules::{HistoryEntry, Row};
+use std::alloc::Global;
+use std::io;
+use std::io::Write;
+use world::World;
+
+/// Writes `height H`. Takes no memory.
+pub(crate) fn write_height<W: Write>(out: &mut W, world: &World) -> io::Result<()> {
+    let height = world.height();
+    writeln!(out, "height {height}")
+}
+
+/// Writes `row KEY BLOCK TX VALUE POLICY`: words, numbers, and the canonical text of the key's own
+/// policy or `-`. The memory is that text, which is made before any of the line is written.
+pub(crate) fn write_row<'a, W: Write>(
+    alloc: Global,
+    out: &mut W,
+    key: &[u8],
+    row: &Row,
+) -> Result<(), Fault<'a>> {
+    let (block, tx) = (row.version.block, row.version.tx);
+    let (key, value) = (Word(key), Word(row.value.get().as_slice()));
+    match &row.policy {
+        Some(policy) => {
+            let policy = policy.get().text(alloc)?;
+            writeln!(out, "row {key} {block} {tx} {value} {policy}")?;
+        }
+        None => writeln!(out, "row {key} {block} {tx} {value} -")?,
+    }
+    Ok(())
+}
+
+/// Writes `entry BLOCK TX ID VALUE`, or `deleted` in the value's place. Takes no memory.
+pub(crate) fn write_entry<W: Write>(out: &mut W, entry: &HistoryEntry) -> io::Result<()> {
+    let (block, tx, id) = (entry.version.block, entry.version.tx, Word(&entry.id));
+    match &entry.value {
+        Some(value) => {
+            let value = ValueWord(value.get().as_slice());
+            writeln!(out, "entry {block} {tx} {id} {value}")
+        }
+        None => writeln!(out, "entry {block} {tx} {id} deleted"),
+    }
+}
