@@ -1,5 +1,6 @@
 """A serial committer: one transaction after the other, over whole maps. It says why each has its flag."""
 
+from collections.abc import Callable
 from dataclasses import dataclass, field
 
 from encoding import (
@@ -9,13 +10,15 @@ from encoding import (
     header_hash,
     read_block,
     read_tx,
+    spelled_body,
+    spelled_signed,
     tx_id,
 )
 from policies import canonical, is_policy, read_policy, satisfied
 from words import at, bounds, known_as, named, word
 
 
-def accepts(signature):
+def is_ok(identity, message, signature):
     """The verifier of the tests."""
     return signature == b"ok"
 
@@ -24,6 +27,7 @@ def accepts(signature):
 class World:
     channel: bytes
     definitions: dict  # chaincode to policy
+    accepts: Callable = is_ok  # of a spelled identity, a message and a signature
     state: dict = field(default_factory=dict)  # (namespace, key) to (value, version, policy or None)
     history: dict = field(default_factory=dict)  # (namespace, key) to [(version, id, value or None)], oldest first
     first_uses: dict = field(default_factory=dict)  # id to (block, place, flag)
@@ -92,10 +96,10 @@ def undefined(tx, definitions):
     return next((name for name in [tx.chaincode] + written if name not in definitions), None)
 
 
-def signers_of(tx):
+def signers_of(tx, accepts):
     signers = []
     for endorser, signature in tx.endorsements:
-        if accepts(signature) and endorser not in signers:
+        if accepts(endorser, spelled_body(tx) + endorser, signature) and endorser not in signers:
             signers.append(endorser)
     return signers
 
@@ -115,7 +119,7 @@ class BlockRun:
             return 2, "the bytes spell no transaction"
         if tx.channel != self.world.channel:
             return 14, f"channel {word(tx.channel)}"
-        if not accepts(tx.signature):
+        if not self.world.accepts(tx.creator, spelled_signed(tx), tx.signature):
             return 4, "the creator's signature is bad"
         if tx.id != tx_id(tx.nonce, tx.creator):
             return 8, "the id isn't that of nonce and creator"
@@ -145,7 +149,7 @@ class BlockRun:
 
     def lacking_endorsement(self, tx):
         """What the signers don't satisfy, or the key whose policy was written earlier in the block."""
-        signers = signers_of(tx)
+        signers = signers_of(tx, self.world.accepts)
         who = " and ".join(known_as(signer) for signer in signers)
         said = f"isn't satisfied by {who}" if who else "has no signer"
         for ns in tx.namespaces:

@@ -11,13 +11,15 @@ import sys
 sys.dont_write_bytecode = True
 
 import chain
+import drafted
 import headers
 import sample
-import scripts
+import script_cases
 import signatures
 
 CRATES = pathlib.Path(__file__).resolve().parent.parent / "crates"
 CHAIN = CRATES / "ledger_tests/src/vectors"
+DRAFTED = CRATES / "command_line_tests/src/drafted"
 HEADERS = CRATES / "bytes_tests/src/header_hashes"
 SAMPLE = CRATES / "fabcommit"
 SCRIPTS = CRATES / "draft_tests/src/drafting"
@@ -29,9 +31,10 @@ def files():
     keys = (SAMPLE / "data/keys.txt").read_text()
     for folder, made in (
         (CHAIN, chain.files()),
+        (DRAFTED, drafted.files(keys.encode())),
         (HEADERS, headers.files()),
-        (SAMPLE, sample.files(keys)),
-        (SCRIPTS, scripts.files()),
+        (SAMPLE, sample.files(SAMPLE / "data")),
+        (SCRIPTS, script_cases.files()),
         (SIGNATURES, signatures.files(keys)),
     ):
         for name, content in made:

@@ -1,6 +1,7 @@
 // What the tests run the program over.
 use command_line::{FileFault, Files, program};
 use std::alloc::{AllocError, Global};
+use std::cell::Cell;
 use std::io;
 use std::io::{ErrorKind, Write};
 use std::process::Abort;
@@ -44,6 +45,28 @@ impl Files for MemoryFiles<'_> {
 
     fn write(&self, _path: &str, _bytes: &[u8]) -> Result<(), FileFault> {
         Err(FileFault::Inaccessible)
+    }
+}
+
+/// Files in memory, and a path where exactly these bytes may be written. It counts how often they are.
+#[derive(Drop)]
+pub(crate) struct OneOut<'a> {
+    pub(crate) files: MemoryFiles<'a>,
+    pub(crate) out: File<'a>,
+    pub(crate) written: Cell<u32>,
+}
+
+impl Files for OneOut<'_> {
+    fn read(&self, alloc: Global, path: &str) -> Result<Bytes, FileFault> {
+        self.files.read(alloc, path)
+    }
+
+    fn write(&self, path: &str, bytes: &[u8]) -> Result<(), FileFault> {
+        if (path, bytes) != self.out {
+            return Err(FileFault::Inaccessible);
+        }
+        self.written.set(self.written.get().saturating_add(1));
+        Ok(())
     }
 }
 
@@ -110,6 +133,37 @@ pub(crate) fn expect(
     Ok(())
 }
 
+/// A run: its words but for those of the channel `c` and the keys `k`, apart by spaces, what it has to
+/// end with, and to write to standard output and standard error.
+pub(crate) type Row<'a> = (&'a str, u8, &'a str, &'a str);
+
+/// The program's name, these words, and the options of the channel and the keys.
+pub(crate) fn words_of<'a>(alloc: Global, text: &'a str) -> Result<Vec<&'a str>, AllocError> {
+    let mut words = vec![in alloc; "fabcommit"]?;
+    for word in text.split(' ') {
+        words.push(word)?;
+    }
+    words.extend_from_slice(&["--channel", "c", "--keys", "k"])?;
+    Ok(words)
+}
+
+/// Runs the program as the rows say, and wants what they say.
+pub(crate) fn expect_rows<F: Files>(
+    rt: &(impl Abort + AllocGlobal),
+    files: &F,
+    rows: &[Row<'_>],
+) -> Result<(), Fail> {
+    for (words, status, out, err) in rows {
+        let words = words_of(rt.alloc(), words)?;
+        let (got, said, faults) = end_of(rt, files, &words)?;
+        assert!(rt;
+            (got, said.as_str(), faults.as_str()) == (*status, *out, *err),
+            "{words:?}: {said}{faults}"
+        );
+    }
+    Ok(())
+}
+
 /// Hands these blocks in, of those that there are, and wants this status and these lines.
 pub(crate) fn expect_lines(
     rt: &(impl Abort + AllocGlobal),
@@ -132,11 +186,20 @@ pub(crate) fn ended<R: AllocGlobal, F: Files>(
     files: &F,
     words: &[&str],
 ) -> Result<(u8, String, String), Fail> {
-    let alloc = rt.alloc();
-    let mut all = vec![in alloc; "/usr/bin/anything"]?;
+    let mut all = vec![in rt.alloc(); "/usr/bin/anything"]?;
     all.extend_from_slice(words)?;
+    end_of(rt, files, &all)
+}
+
+// The same of words of which the first is the program's name.
+fn end_of<R: AllocGlobal, F: Files>(
+    rt: &R,
+    files: &F,
+    words: &[&str],
+) -> Result<(u8, String, String), Fail> {
+    let alloc = rt.alloc();
     let (mut out, mut err) = (Vec::new(alloc), Vec::new(alloc));
-    let status = program(rt, all.as_slice(), files, &mut out, &mut err);
+    let status = program(rt, words, files, &mut out, &mut err);
     Ok((
         status,
         String::from_str(alloc, from_utf8(&out)?)?,

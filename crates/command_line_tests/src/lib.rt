@@ -1,6 +1,6 @@
 //! Tests of `command_line` by its public names: the lines and statuses of whole runs, over files in
 //! memory or on disk, and writers that keep or fail. Hashes are those of Python's hashlib over header
-//! bytes made by hand.
+//! bytes made by hand; what scripts come to is that of a reading of them in Python.
 #![tactic(auto)]
 
 #[cfg(test)]
@@ -10,7 +10,11 @@ mod blocks;
 #[cfg(test)]
 mod disk;
 #[cfg(test)]
+mod drafted;
+#[cfg(test)]
 mod fixture;
+#[cfg(test)]
+mod hostile;
 #[cfg(test)]
 mod limits;
 #[cfg(test)]

@@ -1,9 +1,11 @@
 // Which bytes a creator and an endorser have to sign.
 use crate::fixture::{CHANNEL, expect};
-use crate::signatures::vectors::{LINE, block, keys};
+use crate::signatures::vectors::{LINE, block};
 use std::test::Fail;
 
 mod vectors;
+
+pub(crate) use vectors::keys;
 
 #[test]
 fn signatures_over_this_and_that(rt: HostRuntime) -> Result<(), Fail> {

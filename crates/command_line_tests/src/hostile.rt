@@ -1,0 +1,213 @@
+// What is wrong with words, files and scripts, for each subcommand but `run`.
+use crate::fixture::{
+    CHANNEL, File, Full, KEYS, MemoryFiles, Row, empty_block, expect_rows, words_of,
+};
+use command_line::{FileFault, Files, program};
+use std::alloc::Global;
+use std::process::Abort;
+use std::str::from_utf8;
+use std::test::Fail;
+use values::Bytes;
+
+// Of the files the first two can be read, `s` is a script, `b0` a block and `last` the one of the greatest number.
+static ROWS: [Row; 31] = [
+    // Words are looked at before any file.
+    ("get --ns cc --key % no", 2, "", "bad word\n"),
+    ("get --ns cc --key %4 no", 2, "", "bad word\n"),
+    ("get --ns cc --key= no", 2, "", "bad word\n"),
+    ("get --ns c/c --key k no", 2, "", "bad word\n"),
+    ("get --ns= --key k no", 2, "", "bad word\n"),
+    ("history --ns cc --key % no", 2, "", "bad word\n"),
+    ("history --ns cc --key a%zz no", 2, "", "bad word\n"),
+    ("history --ns :cc --key k no", 2, "", "bad word\n"),
+    ("scan --ns c/c no", 2, "", "bad word\n"),
+    ("scan --ns cc --start= no", 2, "", "bad word\n"),
+    ("scan --ns cc --start a% no", 2, "", "bad word\n"),
+    ("scan --ns cc --end= no", 2, "", "bad word\n"),
+    ("scan --ns cc --end é no", 2, "", "bad word\n"),
+    // Then files in their order.
+    ("get --ns cc --key k no s", 3, "", "cannot read no\n"),
+    ("scan --ns cc b0 no", 3, "", "cannot read no\n"),
+    ("history --ns cc --key k no", 3, "", "cannot read no\n"),
+    ("draft no out", 3, "", "cannot read no\n"),
+    ("draft --after no no2 out", 3, "", "cannot read no\n"),
+    ("draft --after s no out", 3, "", "s not a block\n"),
+    ("draft --after last no out", 3, "", "last not a block\n"),
+    ("draft --after b0 no out", 3, "", "cannot read no\n"),
+    ("draft bad out", 3, "", "bad line 1\n"),
+    ("draft --after b0 b0 out", 3, "", "b0 line 1\n"),
+    // Nothing can be written here.
+    ("draft s out", 3, "", "cannot write out\n"),
+    ("draft s s", 3, "", "cannot write s\n"),
+    // What isn't a block is refused, and the status alone says so.
+    ("get --ns cc --key k s", 1, "height 0\nabsent\n", ""),
+    ("scan --ns cc s b0", 1, "height 1\n", ""),
+    ("history --ns cc --key k s c k", 1, "height 0\n", ""),
+    ("history --ns cc --key k", 0, "height 0\n", ""),
+    ("scan --ns cc --limit 65535", 0, "height 0\n", ""),
+    ("scan --ns cc --limit 0001", 0, "height 0\n", ""),
+];
+
+#[test]
+fn words_and_files(rt: HostRuntime) -> Result<(), Fail> {
+    let alloc = rt.alloc();
+    let block = empty_block(alloc, 0, b"")?;
+    let mut last = empty_block(alloc, 0, b"")?;
+    for byte in last.iter_mut().skip(4).take(8) {
+        *byte = 255;
+    }
+    let files = [
+        ("c", CHANNEL),
+        ("k", KEYS),
+        ("s", b"# nothing\n".as_slice()),
+        ("bad", b"read k absent\n".as_slice()),
+        ("b0", block.as_slice()),
+        ("last", last.as_slice()),
+    ];
+    expect_rows(&rt, &MemoryFiles(&files), &ROWS)
+}
+
+// Scripts, and the line that is at fault.
+static SCRIPTS: [(&str, &str); 30] = [
+    ("walk", "s line 1\n"),
+    ("# 1\n\ntx Org1:peer:p0 n", "s line 3\n"),
+    ("tx Org1:peer:p0 n c c", "s line 1\n"),
+    ("tx Org2:peer:p0 n c", "s line 1\n"),
+    ("tx Org1:king:p0 n c", "s line 1\n"),
+    ("tx Org1:peer:p0 n% c", "s line 1\n"),
+    ("raw abc", "s line 1\n"),
+    ("raw\nns cc", "s line 2\n"),
+    ("ns cc", "s line 1\n"),
+    ("tx Org1:peer:p0 % c\nns c/c", "s line 2\n"),
+    ("tx Org1:peer:p0 % c\nread k absent", "s line 2\n"),
+    ("tx Org1:peer:p0 % c\nns c\nread % absent", "s line 3\n"),
+    ("tx Org1:peer:p0 % c\nns c\nread k", "s line 3\n"),
+    ("tx Org1:peer:p0 % c\nns c\nread k 1", "s line 3\n"),
+    ("tx Org1:peer:p0 % c\nns c\nread k +1 0", "s line 3\n"),
+    (
+        "tx Org1:peer:p0 % c\nns c\nread k 18446744073709551616 0",
+        "s line 3\n",
+    ),
+    (
+        "tx Org1:peer:p0 % c\nns c\nread k 0 4294967296",
+        "s line 3\n",
+    ),
+    ("tx Org1:peer:p0 % c\nns c\nrange a b", "s line 3\n"),
+    ("tx Org1:peer:p0 % c\nns c\nrange a b most", "s line 3\n"),
+    ("tx Org1:peer:p0 % c\nns c\nresult k 0 0", "s line 3\n"),
+    (
+        "tx Org1:peer:p0 % c\nns c\nrange a b all\nns d\nresult a 0 0",
+        "s line 5\n",
+    ),
+    ("tx Org1:peer:p0 % c\nns c\nwrite k", "s line 3\n"),
+    ("tx Org1:peer:p0 % c\nns c\nwrite k %4", "s line 3\n"),
+    ("tx Org1:peer:p0 % c\nns c\ndelete k v", "s line 3\n"),
+    ("tx Org1:peer:p0 % c\nns c\npolicy k", "s line 3\n"),
+    (
+        "tx Org1:peer:p0 % c\nns c\nnopolicy k 'A.peer'",
+        "s line 3\n",
+    ),
+    ("endorse Org1:peer:p0", "s line 1\n"),
+    ("tx Org1:peer:p0 % c\nendorse Org1:peer:p1", "s line 2\n"),
+    ("tx Org1:peer:p0 % c\nns\tc", "s line 2\n"),
+    ("tx Org1:peer:p0 % c\nns c\r", "s line 2\n"),
+];
+
+#[test]
+fn faulty_lines(rt: HostRuntime) -> Result<(), Fail> {
+    for (script, err) in &SCRIPTS {
+        let files = [("c", CHANNEL), ("k", KEYS), ("s", script.as_bytes())];
+        expect_rows(&rt, &MemoryFiles(&files), &[("draft s out", 3, "", err)])?;
+    }
+    Ok(())
+}
+
+// Drafts a transaction with a value of so many bytes, which is one of 1,048,576 bytes where they are 1,048,439.
+fn expect_long(
+    rt: &(impl Abort + AllocGlobal),
+    bytes: usize,
+    more: &str,
+    err: &str,
+) -> Result<(), Fail> {
+    let alloc = rt.alloc();
+    let value = "v".repeat(alloc, bytes)?;
+    let script = format!(in alloc; "tx Org1:peer:p0 n cc\nns cc\nwrite k {value}\n{more}")?;
+    let files = [("c", CHANNEL), ("k", KEYS), ("s", script.as_bytes())];
+    expect_rows(rt, &MemoryFiles(&files), &[("draft s out", 3, "", err)])
+}
+
+#[test]
+fn a_transaction_one_byte_too_long(rt: HostRuntime) -> Result<(), Fail> {
+    // The longest is drafted, and then can't be written.
+    expect_long(&rt, 1_048_439, "", "cannot write out\n")?;
+    expect_long(&rt, 1_048_440, "", "s line 1\n")?;
+    // It is known where it ends, before what that line says, and behind faults of its own lines.
+    expect_long(&rt, 1 << 20, "tx", "s line 1\n")?;
+    expect_long(&rt, 1 << 20, "endorse", "s line 4\n")
+}
+
+// Files in memory, but memory runs out at the one that is written.
+#[derive(Drop)]
+struct NoRoom<'a>(MemoryFiles<'a>);
+
+impl Files for NoRoom<'_> {
+    fn read(&self, alloc: Global, path: &str) -> Result<Bytes, FileFault> {
+        self.0.read(alloc, path)
+    }
+
+    fn write(&self, _path: &str, _bytes: &[u8]) -> Result<(), FileFault> {
+        Err(FileFault::Memory)
+    }
+}
+
+#[test]
+fn a_block_for_which_memory_is_missing(rt: HostRuntime) -> Result<(), Fail> {
+    let files = [("c", CHANNEL), ("k", KEYS), ("s", b"".as_slice())];
+    expect_rows(
+        &rt,
+        &NoRoom(MemoryFiles(&files)),
+        &[("draft s out", 4, "", "out of memory\n")],
+    )
+}
+
+// Asks into a writer that takes so many bytes: it has the front of the lines.
+fn expect_cut(
+    rt: &(impl Abort + AllocGlobal),
+    files: &[File<'_>],
+    words: &str,
+    lines: &str,
+    room: usize,
+) -> Result<(), Fail> {
+    let words = words_of(rt.alloc(), words)?;
+    let mut out = Full::after(rt.alloc(), room);
+    let mut err = Vec::new(rt.alloc());
+    let status = program(rt, &words, &MemoryFiles(files), &mut out, &mut err);
+    assert!(rt; from_utf8(&err)? == "cannot write standard output\n");
+    assert!(rt; (status, out.taken.len()) == (3, room));
+    assert!(rt; lines.as_bytes().starts_with(&out.taken));
+    Ok(())
+}
+
+#[test]
+fn standard_output_that_fails(rt: HostRuntime) -> Result<(), Fail> {
+    let block = empty_block(rt.alloc(), 0, b"")?;
+    let files = [("c", CHANNEL), ("k", KEYS), ("b0", block.as_slice())];
+    for room in 0..8 {
+        expect_cut(
+            &rt,
+            &files,
+            "get --ns cc --key k b0",
+            "height 1\nabsent\n",
+            room,
+        )?;
+        expect_cut(&rt, &files, "scan --ns cc b0", "height 1\n", room)?;
+        expect_cut(
+            &rt,
+            &files,
+            "history --ns cc --key k b0",
+            "height 1\n",
+            room,
+        )?;
+    }
+    Ok(())
+}

@@ -1,0 +1,38 @@
+"""The lines that `fabcommit` prints of a world."""
+
+from committer import is_inside, text_of
+from words import word
+
+
+def accepted(world, number):
+    _, header_hash, flags = world.blocks[number]
+    return " ".join(["accepted", str(number), header_hash.hex(), *map(str, flags)]) + "\n"
+
+
+def height(world):
+    return f"height {len(world.blocks)}\n"
+
+
+def row_line(key, row):
+    value, version, _ = row
+    return f"row {word(key)} {version[0]} {version[1]} {word(value)} {text_of(row) or '-'}\n"
+
+
+def entry_line(version, id, value):
+    told = "deleted" if value is None else "%64eleted" if value == b"deleted" else word(value)
+    return f"entry {version[0]} {version[1]} {id.decode()} {told}\n"
+
+
+def get(world, namespace, key):
+    row = world.state.get((namespace, key))
+    return height(world) + (row_line(key, row) if row else "absent\n")
+
+
+def history(world, namespace, key):
+    entries = reversed(world.history.get((namespace, key), []))
+    return height(world) + "".join(entry_line(*entry) for entry in entries)
+
+
+def scan(world, namespace, start, end, limit):
+    rows = sorted((key, row) for (space, key), row in world.state.items() if space == namespace and is_inside(key, start, end))
+    return height(world) + "".join(row_line(*row) for row in rows[:limit]) + ("more\n" if len(rows) > limit else "")

@@ -1,0 +1,100 @@
+"""Two draft scripts, the first of them that of docs/format.md, with their blocks and what is answered of these."""
+
+from functools import partial
+
+import answers
+from committer import World
+from rust import rust_file, rust_string
+from sample import channel_of
+from scripts import accepts, drafted, keys_of
+
+CHANNEL = b"channel ch\nchaincode cc OR('Org1.peer','Org2.peer')\n"
+SCRIPTS = [
+    b"""\
+tx Org1:client:c0 n0 cc
+ns cc
+write k1 v1
+policy k1 AND('Org1.peer','Org2.peer')
+endorse Org1:peer:p0
+""",
+    b"""\
+tx Org1:client:c0 n1 cc
+endorse Org2:peer:p0
+ns cc
+write a%20%25 deleted
+write b %
+write k3 de%6c%FF
+tx Org1:client:c0 n2 cc
+ns cc
+delete a%20%25
+nopolicy b
+endorse Org2:peer:p0
+""",
+]
+
+
+def worlds(keys):
+    """The world behind each block, with the block."""
+    name, definitions = channel_of(CHANNEL)
+    world, before = World(name, definitions, partial(accepts, keys)), None
+    for script in SCRIPTS:
+        before = drafted(name, keys, before, script)
+        world.submit(before)
+        assert set(world.blocks[-1][2]) == {0}
+        yield world, before
+
+
+def rows(keys):
+    """Words behind `--channel` and `--keys`, the status, and what goes to standard output."""
+    name, definitions = channel_of(CHANNEL)
+    blank = World(name, definitions)
+    states = worlds(keys)
+    world, _ = next(states)
+    yield "run b0", 0, answers.accepted(world, 0)
+    for key in (b"k1", b"k2"):
+        yield f"get --ns cc --key {key.decode()} b0", 0, answers.get(world, b"cc", key)
+    yield "get --ns cc --key %6b%31 b0", 0, answers.get(world, b"cc", b"k1")
+    yield "get --ns dd --key k1 b0", 0, answers.get(world, b"dd", b"k1")
+    yield "get --ns cc --key k1", 0, answers.get(blank, b"cc", b"k1")
+    yield "get --ns cc --key k1 b0 b0", 1, answers.get(world, b"cc", b"k1")
+    yield "scan --ns cc --limit 1 b0", 0, answers.scan(world, b"cc", b"", b"", 1)
+    yield "scan --ns cc", 0, answers.scan(blank, b"cc", b"", b"", 1)
+    yield "scan --ns cc b1 b0", 1, answers.scan(world, b"cc", b"", b"", 100)
+    yield "history --ns cc --key k1 b0", 0, answers.history(world, b"cc", b"k1")
+    yield "history --ns cc --key k2 b0", 0, answers.history(world, b"cc", b"k2")
+    yield "history --ns cc --key k1 b0 k", 1, answers.history(world, b"cc", b"k1")
+    world, _ = next(states)
+    yield "run b0 b1", 0, answers.accepted(world, 0) + answers.accepted(world, 1)
+    yield "get --ns cc --key b b0 b1", 0, answers.get(world, b"cc", b"b")
+    yield "history --ns cc --key a%20%25 b0 b1", 0, answers.history(world, b"cc", b"a %")
+    for start, end, limit in (("%", "%", 2), ("%", "%", 3), ("b%00", "k3", 100), ("k1", "k1%00", 2), ("k3", "b", 1)):
+        words = f"scan --ns cc --start {start} --end {end} --limit {limit} b0 b1"
+        bounds = [bound.replace("%00", "\0").strip("%").encode() for bound in (start, end)]
+        yield words, 0, answers.scan(world, b"cc", *bounds, limit)
+
+
+def rust_drafted(keys_text):
+    keys = keys_of(keys_text)
+    yield "//! Two scripts, their blocks, and what is answered of these, made by vectors/drafted.py.\n"
+    yield "use crate::fixture::Row;\n"
+    for name, octets in zip(("first", "second"), SCRIPTS):
+        yield f"pub(crate) fn {name}_script() -> &'static [u8] {{\n    {name.upper()}_SCRIPT\n}}\n"
+        yield f"static {name.upper()}_SCRIPT: &[u8] =\n    {rust_string(octets)};\n"
+    for name, (_, octets) in zip(("first", "second"), worlds(keys)):
+        yield f"pub(crate) fn {name}_block() -> &'static [u8] {{\n    {name.upper()}_BLOCK\n}}\n"
+        yield f"static {name.upper()}_BLOCK: &[u8] =\n    {rust_string(octets)};\n"
+    table = list(rows(keys))
+    yield "/// Words behind those of the channel and the keys."
+    yield "pub(crate) fn answers() -> &'static [Row<'static>] {\n    &ANSWERS\n}\n"
+    yield f"static ANSWERS: [Row<'static>; {len(table)}] = ["
+    for words, status, out in table:
+        parts = [f'"{words}"', str(status), '"{}"'.format(out.replace("\n", "\\n")), '""']
+        if len(", ".join(parts)) <= 60:
+            yield f"    ({', '.join(parts)}),"
+        else:
+            yield "    (\n" + "".join(f"        {part},\n" for part in parts) + "    ),"
+    yield "];"
+
+
+def files(keys_text):
+    yield "vectors.rt", rust_file(rust_drafted(keys_text))

@@ -1,0 +1,298 @@
+#!/usr/bin/env python3
+"""Drafts scripts made at random, and compares what `fabcommit` makes of them with what is read here.
+
+`python3 vectors/scripts_at_random.py [PROGRAM [COUNT [SEED]]]` makes at least COUNT scripts (300) from SEED (1), in
+chains of up to five blocks. Each is drafted by PROGRAM (`./fabcommit`): a good one has to give the block that
+`scripts.py` gives, a faulty one the line that it names, with OUT left as it was. Each chain is then handed to `run`,
+`get`, `history` and `scan`, whose lines have to be those of `committer.py`. It ends with figures: how many scripts,
+calls, flags, and faults of each kind there were, and fails where a kind is missing or anything differs.
+"""
+
+import pathlib
+import random
+import subprocess
+import sys
+import tempfile
+from collections import Counter
+from functools import partial
+
+sys.dont_write_bytecode = True
+
+import answers
+from committer import World, is_inside
+from policies import read_policy
+from scripts import LONGEST, Faulty, accepts, drafted, keys_of, txs_of, word_bytes
+from words import word
+
+TOP = pathlib.Path(__file__).resolve().parent.parent
+ORGS = ("Org1", "Org2")
+CHANNEL = {
+    "cc": "OR('Org1.peer','Org2.peer')",
+    "both": "AND('Org1.peer','Org2.peer')",
+    "any": "OR('Org1.member','Org2.member')",
+    "two.of-3_": "OutOf(2,'Org1.peer','Org2.peer','Org1.admin')",
+}
+SIGNERS = [f"{org}:{role}:{label}" for org in ORGS for role, label in (("peer", "p0"), ("peer", "p%251"), ("client", "c"), ("admin", "%"))]
+STRANGER = "Org3:peer:p0"
+# Words and the same bytes spelled otherwise; the last is the longest key.
+KEYS = ["a", "b", "%61", "b%20b", "%00", "%ff", "%FF%ff", "deleted", "~", "k" * 1024]
+VALUES = ["v", "%", "deleted", "%64eleted", "de%6Ceted", "%00%01", "a%20%25", "x" * 300, "%C3%A9"]
+POLICIES = [*CHANNEL.values(), "and( 'Org1.peer' , OutOf(1,\"Org2.admin\") )", "'Org1.member'", "no policy"]
+BOUNDS = ["%", "a", "b", "b%00", "~", "%ff"]
+
+
+def versions(world):
+    """Versions that rows have, and one that none has."""
+    return [row[1] for row in world.state.values()] + [(99, 7)]
+
+
+def read_line(pick, world, name):
+    key = pick.choice(KEYS[:6])
+    row = world.state.get((name.encode(), word_bytes(key)))
+    if pick.random() < 0.8:
+        return f"read {key} {row[1][0]} {row[1][1]}" if row else f"read {key} absent"
+    return "read {} {} {}".format(key, *pick.choice(versions(world)))
+
+
+def range_lines(pick, world, name):
+    start, end = pick.choice(BOUNDS), pick.choice(BOUNDS)
+    kind = pick.choice(["all", "part"])
+    yield f"range {start}  {end} {kind}"
+    rows = sorted((key, row[1]) for (space, key), row in world.state.items() if space == name.encode())
+    rows = [row for row in rows if is_inside(row[0], word_bytes(start), word_bytes(end))]
+    if kind == "part":
+        rows = rows[: pick.randrange(3)]
+    if pick.random() < 0.2:
+        pick.shuffle(rows)
+    for key, version in rows:
+        yield "result {} {} {}".format(word(key), *version)
+
+
+def entry_lines(pick, world, name):
+    roll = pick.random()
+    key = pick.choice(KEYS)
+    if roll < 0.3:
+        yield read_line(pick, world, name)
+    elif roll < 0.4:
+        yield from range_lines(pick, world, name)
+    elif roll < 0.75:
+        yield f"write {key} {pick.choice(VALUES)}"
+    elif roll < 0.85:
+        yield f"delete {key}"
+    elif roll < 0.95:
+        yield f"policy {key}  {pick.choice(POLICIES)}"
+    else:
+        yield f"nopolicy {key}"
+
+
+def tx_lines(pick, world, nonces):
+    nonce = pick.choice(nonces) if nonces and pick.random() < 0.08 else f"n{len(nonces)}%00"
+    nonces.append(nonce)
+    named = pick.choice(["cc"] * 5 + [*CHANNEL, "undefined"])
+    yield f"tx {pick.choice(SIGNERS)} {nonce} {named}"
+    spaces = pick.sample([*CHANNEL, "undefined"], pick.choice([0, 1, 1, 2])) if pick.random() < 0.5 else [named]
+    if pick.random() < 0.05:
+        spaces = spaces * 2
+    for name in spaces:
+        yield f"ns {name}"
+        for _ in range(pick.randrange(5)):
+            yield from entry_lines(pick, world, name)
+    for signer in pick.sample(SIGNERS, pick.choice([0, 1, 2, 3, 4])) if pick.random() < 0.8 else SIGNERS:
+        yield f"endorse {signer}"
+
+
+def good_lines(pick, world, nonces):
+    for _ in range(pick.randrange(7)):
+        if pick.random() < 0.06:
+            yield f"raw {pick.randbytes(pick.randrange(40)).hex()}".strip()
+        yield from tx_lines(pick, world, nonces)
+        if pick.random() < 0.3:
+            yield pick.choice(["", "# a comment", "   # an indented one", "    "])
+
+
+OPEN, SPACE = "tx Org1:peer:p0 n cc", "ns cc"
+# What is wrong, the lines before it where nothing else is open for it, and the faulty line.
+FAULTS = {
+    "no such word": ([], "walk on"),
+    "word in upper case": ([], "TX Org1:peer:p0 n cc"),
+    "tab": ([OPEN], "ns\tcc"),
+    "tx without name": ([], "tx Org1:peer:p0 n"),
+    "tx with more": ([], "tx Org1:peer:p0 n cc cc"),
+    "tx of a stranger": ([], f"tx {STRANGER} n cc"),
+    "tx of a king": ([], "tx Org1:king:p0 n cc"),
+    "tx without label": ([], "tx Org1:peer: n cc"),
+    "nonce that is no word": ([], "tx Org1:peer:p0 n% cc"),
+    "nonce too long": ([], f"tx Org1:peer:p0 {'n' * 256} cc"),
+    "name too long": ([], f"tx Org1:peer:p0 n {'c' * 65}"),
+    "name with a colon": ([], "tx Org1:peer:p0 n c:c"),
+    "raw of an odd number": ([], "raw abc"),
+    "raw that isn't hexadecimal": ([], "raw xy"),
+    "raw too long": ([], "raw " + "00" * (LONGEST + 1)),
+    "ns before tx": (None, "ns cc"),
+    "ns behind raw": (["raw"], "ns cc"),
+    "ns without name": ([OPEN], "ns"),
+    "ns with a bad name": ([OPEN], "ns c/c"),
+    "read before tx": (None, "read k absent"),
+    "read before ns": ([OPEN], "read k absent"),
+    "read of no key": ([OPEN, SPACE], "read % absent"),
+    "read of a key too long": ([OPEN, SPACE], f"read {'k' * 1025} absent"),
+    "read without version": ([OPEN, SPACE], "read k"),
+    "read of half a version": ([OPEN, SPACE], "read k 1"),
+    "read with more": ([OPEN, SPACE], "read k 1 2 3"),
+    "number of 21 digits": ([OPEN, SPACE], f"read k {'0' * 21} 0"),
+    "number with a sign": ([OPEN, SPACE], "read k +1 0"),
+    "block past 64 bits": ([OPEN, SPACE], f"read k {1 << 64} 0"),
+    "transaction past 32 bits": ([OPEN, SPACE], f"read k 0 {1 << 32}"),
+    "range without end": ([OPEN, SPACE], "range a all"),
+    "range neither all nor part": ([OPEN, SPACE], "range a b some"),
+    "bound too long": ([OPEN, SPACE], f"range % {'b' * 1025} all"),
+    "result without range": ([OPEN, SPACE, "write k v"], "result k 0 0"),
+    "result in the next namespace": ([OPEN, SPACE, "range a b all", SPACE], "result a 0 0"),
+    "result absent": ([OPEN, SPACE, "range a b all"], "result a absent"),
+    "write without value": ([OPEN, SPACE], "write k"),
+    "write of what is no word": ([OPEN, SPACE], "write k %4"),
+    "write with more": ([OPEN, SPACE], "write k v w"),
+    "delete with more": ([OPEN, SPACE], "delete k v"),
+    "delete without key": ([OPEN, SPACE], "delete"),
+    "policy without text": ([OPEN, SPACE], "policy k"),
+    "policy too long": ([OPEN, SPACE], f"policy k {'p' * 65536}"),
+    "nopolicy with text": ([OPEN, SPACE], "nopolicy k 'A.peer'"),
+    "endorse before tx": (None, "endorse Org1:peer:p0"),
+    "endorse by a stranger": ([OPEN], f"endorse {STRANGER}"),
+    "endorse by a king": ([OPEN], "endorse Org1:king:p0"),
+    "65th endorser": ([OPEN] + ["endorse Org1:peer:p0"] * 64, "endorse Org1:peer:p0"),
+    "4,097th transaction": (["raw"] * 4097, "raw"),
+    "65,536th write": ([OPEN, SPACE] + ["delete k"] * 65535, "delete k"),
+    "carriage return at the end": ([OPEN], "ns cc\r"),
+    "not UTF-8": ([], b"# \xff"),
+}
+# The `tx` line of a transaction that is too long is at fault, once it ends.
+TOO_LONG = {
+    "too long, and the last": [],
+    "too long, and then a fault": [OPEN, "walk"],
+    "too long, and then a faulty tx": ["tx"],
+}
+
+
+def faulty_lines(pick, kind):
+    before, line = FAULTS[kind]
+    if before is None:
+        return [line]
+    return ["# before"] * pick.randrange(3) + before + [line]
+
+
+def lines_of_length(keys, length):
+    """A transaction of so many bytes."""
+
+    def lines(value):
+        return ["tx Org1:client:c n cc", "ns cc", f"write k {value}", "endorse Org1:peer:p0"]
+
+    (shortest,) = txs_of(b"ch", keys, "\n".join(lines("%")).encode())
+    return lines("v" * (length - len(shortest)))
+
+
+class Trial:
+    def __init__(self, program, folder, pick):
+        self.program, self.folder, self.pick = program, folder, pick
+        self.calls, self.scripts, self.faults, self.flags = 0, 0, Counter(), Counter()
+        channel = "channel ch\n" + "".join(f"chaincode {name} {policy}\n" for name, policy in CHANNEL.items())
+        book = "".join(f"{who} {pick.randbytes(pick.choice([1, 32, 64])).hex()}\n" for who in SIGNERS)
+        self.keys = keys_of(book.encode())
+        self.definitions = {name.encode(): read_policy(policy.encode()) for name, policy in CHANNEL.items()}
+        self.write("channel", channel.encode())
+        self.write("keys", book.encode())
+
+    def write(self, name, octets):
+        (self.folder / name).write_bytes(octets)
+
+    def call(self, *words):
+        self.calls += 1
+        command = [self.program, words[0], "--channel", "channel", "--keys", "keys", *words[1:]]
+        ended = subprocess.run(command, cwd=self.folder, capture_output=True)
+        return ended.returncode, ended.stdout.decode(), ended.stderr.decode()
+
+    def want(self, status, out, err, *words):
+        got = self.call(*words)
+        assert got == (status, out, err), (words, got, (status, out, err))
+
+    def draft(self, number, blocks, script):
+        """The block, as both have it, or none where both find the same fault."""
+        self.scripts += 1
+        self.write("script", script)
+        self.write("out", b"as it was")
+        after = ["--after", f"block{number - 1}"] if blocks else []
+        words = ["draft", *after, "script", "out"]
+        try:
+            block = drafted(b"ch", self.keys, blocks[-1] if blocks else None, script)
+        except Faulty as fault:
+            self.want(3, "", f"script line {fault}\n", *words)
+            assert (self.folder / "out").read_bytes() == b"as it was"
+            return None
+        self.want(0, "", "", *words)
+        assert (self.folder / "out").read_bytes() == block, script
+        self.write(f"block{number}", block)
+        return block
+
+    def text(self, lines):
+        ending = self.pick.choice([b"\n", b"\r\n"])
+        texts = [line if isinstance(line, bytes) else line.encode() for line in lines]
+        last = ending if self.pick.random() < 0.5 and not (texts and texts[-1].endswith(b"\r")) else b""
+        return ending.join(texts) + last
+
+    def fault(self, kind, number, blocks, lines):
+        assert self.draft(number, blocks, self.text(lines)) is None, kind
+        self.faults[kind] += 1
+
+    def ask(self, world, files):
+        """One key and one range, asked of the chain."""
+        pick = self.pick
+        name, key = pick.choice([*CHANNEL, "undefined"]), pick.choice(KEYS)
+        asked = world, name.encode(), word_bytes(key)
+        self.want(0, answers.get(*asked), "", "get", "--ns", name, "--key", key, *files)
+        self.want(0, answers.history(*asked), "", "history", *files, "--ns", name, f"--key={key}")
+        start, end = pick.choice(BOUNDS + ["k" * 1025, "k" * 1024 + "%00"]), pick.choice(BOUNDS + ["k" * 1025])
+        limit = pick.choice([1, 2, 3, 100])
+        lines = answers.scan(*asked[:2], word_bytes(start), word_bytes(end), limit)
+        bounds = ["--start", start] * (start != "%") + ["--end", end] * (end != "%") + ["--limit", str(limit)] * (limit < 100)
+        self.want(0, lines, "", "scan", "--ns", name, *bounds, *files)
+
+    def chain(self):
+        pick, blocks, nonces = self.pick, [], []
+        world = World(b"ch", self.definitions, partial(accepts, self.keys))
+        for number in range(pick.randrange(1, 6)):
+            kind = min(FAULTS, key=lambda kind: (self.faults[kind], pick.random()))
+            if pick.random() < 0.5:
+                self.fault(kind, number, blocks, faulty_lines(pick, kind))
+            block = self.draft(number, blocks, self.text(list(good_lines(pick, world, nonces))))
+            blocks.append(block)
+            world.submit(block)
+            self.flags.update(world.blocks[-1][2])
+        files = [f"block{number}" for number in range(len(blocks))]
+        lines = "".join(answers.accepted(world, number) for number in range(len(files)))
+        self.want(0, lines, "", "run", *files)
+        for _ in range(3):
+            self.ask(world, files)
+
+    def limits(self):
+        """The longest transaction, and those that are one byte too long."""
+        assert self.draft(0, [], self.text(lines_of_length(self.keys, LONGEST))) is not None
+        for kind, more in TOO_LONG.items():
+            self.fault(kind, 0, [], lines_of_length(self.keys, LONGEST + 1) + more)
+
+
+def main():
+    words = sys.argv[1:] + ["./fabcommit", "300", "1"][len(sys.argv) - 1 :]
+    program, count, seed = str(pathlib.Path(words[0]).resolve()), int(words[1]), int(words[2])
+    with tempfile.TemporaryDirectory() as folder:
+        trial = Trial(program, pathlib.Path(folder), random.Random(seed))
+        trial.limits()
+        while trial.scripts < count or not set(FAULTS) <= set(trial.faults):
+            trial.chain()
+    missing = {0, 2, 9, 10, 11, 12, 22, 25} - set(trial.flags)
+    assert not missing, missing
+    print(f"{trial.scripts} scripts, of which {trial.faults.total()} faulty of {len(trial.faults)} kinds, {trial.calls} calls")
+    print("flags:", ", ".join(f"{flag} {times} times" for flag, times in sorted(trial.flags.items())))
+
+
+if __name__ == "__main__":
+    main()
