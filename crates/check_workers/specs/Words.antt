@@ -1,5 +1,5 @@
 -- The rule that the words of a job keep between any two steps, and what each step tells its seat.
-use Rattle.std.specs.Prelude.{◌≡◌, ℕ, ◌*◌, List, [], length, slice_index, slice_set, replicate}
+use Rattle.std.specs.Prelude.{◌≡◌, ℕ, ◌*◌, List, length, slice_index, slice_set, replicate}
 use mathlib.Core.Option.{some}
 use lib.ListN.{get_elem?}
 use Rattle.atomic_table.specs.Table.{State, Step, Me}

@@ -1,4 +1,4 @@
-use Rattle.std.proofs.Common.{rules, ◌≡◌, ◌∙◌, ◌*◌, [], ℕ, ap, length, replicate}
+use Rattle.std.proofs.Common.{rules, ◌≡◌, ◌*◌, [], length, replicate}
 use Rattle.check_workers.proofs.Steps.{opens}
 use Rattle.check_workers.proofs.checking.open.Goals as goal
 

@@ -1,4 +1,4 @@
-use Rattle.std.proofs.Common.{arith, sym, ◌<◌, ◌≡◌, ◌∙◌, ◌*◌, ap, length, slice_index, get_or-set_same, ℕ, List}
+use Rattle.std.proofs.Common.{arith, sym, ◌<◌, ◌≡◌, ◌∙◌, ◌*◌, ap, length}
 use Rattle.rules.specs.Job.{Job}
 use Rattle.check_workers.specs.declared.view.View.{View}
 use Rattle.check_workers.proofs.Steps.{loads}
