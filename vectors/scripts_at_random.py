@@ -1,7 +1,7 @@
 #!/usr/bin/env python3
 """Drafts scripts made at random, and compares what `fabcommit` makes of them with what is read here.
 
-`python3 vectors/scripts_at_random.py [PROGRAM [COUNT [SEED]]]` makes at least COUNT scripts (300) from SEED (1), in
+`python3 vectors/scripts_at_random.py [PROGRAM [COUNT [SEED]]]` makes at least COUNT scripts (1000) from SEED (1), in
 chains of up to five blocks. Each is drafted by PROGRAM (`./fabcommit`): a good one has to give the block that
 `scripts.py` gives, a faulty one the line that it names, with OUT left as it was. Each chain is then handed to `run`,
 `get`, `history` and `scan`, whose lines have to be those of `committer.py`. It ends with figures: how many scripts,
@@ -281,7 +281,7 @@ class Trial:
 
 
 def main():
-    words = sys.argv[1:] + ["./fabcommit", "300", "1"][len(sys.argv) - 1 :]
+    words = sys.argv[1:] + ["./fabcommit", "1000", "1"][len(sys.argv) - 1 :]
     program, count, seed = str(pathlib.Path(words[0]).resolve()), int(words[1]), int(words[2])
     with tempfile.TemporaryDirectory() as folder:
         trial = Trial(program, pathlib.Path(folder), random.Random(seed))
