@@ -1,4 +1,5 @@
-//! Tests of the desk and of checks in any order. Blocks are drafted from scripts; their flags were worked out by hand.
+//! Tests of the desk and of checks in any order, by one thread and by many. Blocks are drafted from scripts; their flags were
+//! worked out by hand, or are those of the checks in order.
 #![tactic(auto)]
 
 #[cfg(test)]
@@ -8,9 +9,17 @@ mod building;
 #[cfg(test)]
 mod desk;
 #[cfg(test)]
+mod drawing;
+#[cfg(test)]
 mod events;
 #[cfg(test)]
 mod failed;
+#[cfg(test)]
+mod gates;
+#[cfg(test)]
+mod meeting;
+#[cfg(test)]
+mod random_jobs;
 #[cfg(test)]
 mod rows;
 #[cfg(test)]

@@ -1,0 +1,143 @@
+//! Gates that hold workers back, or don't.
+
+use check_workers::{Gate, Phase};
+use std::alloc::{AllocError, Global};
+use std::sync::atomic::{AtomicBool, AtomicU32, AtomicU64, Ordering};
+use std::thread;
+
+/// How often a worker that is held looks whether it may go on.
+const TURNS: u32 = 2_000_000;
+
+/// Holds the first who enters a phase until a second one has entered it.
+#[derive(Drop)]
+pub struct Meeting {
+    phase: Phase,
+    entered: AtomicU32,
+    met: AtomicBool,
+}
+
+impl Meeting {
+    pub fn in_phase(phase: Phase) -> Meeting {
+        Meeting {
+            phase,
+            entered: AtomicU32::new(0),
+            met: AtomicBool::new(false),
+        }
+    }
+
+    /// Whether a second one came before the turns were over.
+    pub fn is_met(&self) -> bool {
+        self.met.load(Ordering::SeqCst)
+    }
+
+    fn hold(&self) {
+        for _ in 0..TURNS {
+            if self.entered.load(Ordering::SeqCst) > 1 {
+                self.met.store(true, Ordering::SeqCst);
+                return;
+            }
+            thread::yield_now();
+        }
+    }
+}
+
+impl Gate for Meeting {
+    fn at(&self, phase: Phase, _index: u32) {
+        if phase == self.phase && self.entered.fetch_add(1, Ordering::SeqCst) == 0 {
+            self.hold();
+        }
+    }
+}
+
+/// Holds the first endorsement check of the first of three transactions until the other five checks were entered.
+#[derive(Drop)]
+pub struct Late {
+    endorsed: [AtomicU32; 3],
+    read: [AtomicU32; 3],
+    let_go: AtomicBool,
+}
+
+fn is_entered(entered: &AtomicU32) -> bool {
+    entered.load(Ordering::SeqCst) > 0
+}
+
+impl Late {
+    pub fn new() -> Late {
+        Late {
+            endorsed: [AtomicU32::new(0), AtomicU32::new(0), AtomicU32::new(0)],
+            read: [AtomicU32::new(0), AtomicU32::new(0), AtomicU32::new(0)],
+            let_go: AtomicBool::new(false),
+        }
+    }
+
+    /// Whether the five came before the turns were over.
+    pub fn is_let_go(&self) -> bool {
+        self.let_go.load(Ordering::SeqCst)
+    }
+
+    /// How often the read check of transaction i was entered.
+    pub fn reads_of(&self, i: usize) -> u32 {
+        match self.read.get(i) {
+            None => 0,
+            Some(entered) => entered.load(Ordering::SeqCst),
+        }
+    }
+
+    fn are_others_entered(&self) -> bool {
+        self.endorsed.iter().skip(1).all(is_entered) && self.read.iter().all(is_entered)
+    }
+
+    fn hold(&self) {
+        for _ in 0..TURNS {
+            if self.are_others_entered() {
+                self.let_go.store(true, Ordering::SeqCst);
+                return;
+            }
+            thread::yield_now();
+        }
+    }
+}
+
+impl Gate for Late {
+    fn at(&self, phase: Phase, index: u32) {
+        let row = match phase {
+            Phase::Intake => return,
+            Phase::Endorse => &self.endorsed,
+            Phase::Reads => &self.read,
+        };
+        let Some(entered) = row.get(index as usize) else {
+            return;
+        };
+        if entered.fetch_add(1, Ordering::SeqCst) == 0 && phase == Phase::Endorse && index == 0 {
+            self.hold();
+        }
+    }
+}
+
+/// Lets others go first, now and then.
+#[derive(Drop)]
+pub struct Yielding {
+    state: AtomicU64,
+}
+
+impl Yielding {
+    pub fn new(seed: u64) -> Yielding {
+        Yielding {
+            state: AtomicU64::new(seed),
+        }
+    }
+}
+
+impl Gate for Yielding {
+    fn at(&self, _phase: Phase, _index: u32) {
+        let drawn = self
+            .state
+            .fetch_add(0x9e37_79b9_7f4a_7c15, Ordering::SeqCst);
+        let mixed = (drawn ^ (drawn >> 31)).wrapping_mul(0xbf58_476d_1ce4_e5b9) >> 59;
+        if mixed < 8 {
+            for _ in 0..mixed {
+                thread::yield_now();
+            }
+        }
+    }
+}

@@ -1,0 +1,88 @@
+//! What workers do at once, and what they try again.
+
+ghost use Rattle.std.specs.Prelude.{◌≤◌};
+
+use crate::building::Ground;
+use crate::failed::Failed;
+use crate::gates::{Late, Meeting};
+use check_workers::{Checked, Gate, Phase, Reverse, check_all};
+use key_chains::Job;
+use rules::Flag;
+use std::alloc::{AllocError, Global};
+use std::sync::Wait;
+use std::thread::Threads;
+
+// Whether each second transaction of a chain is valid, each other one stale, and workers decided all.
+fn are_of_chain(checked: &Checked) -> bool {
+    checked.gathered == 0
+        && checked.flags.iter().enumerate().all(|(i, flag)| *flag
+            == if i % 2 == 0 {
+                Flag::Valid
+            } else {
+                Flag::MvccReadConflict
+            })
+}
+
+fn is_checked<R: Threads + Wait + Sync, G: Gate + Sync>(
+    rt: &R,
+    alloc: Global,
+    job: &Job<'_>,
+    workers: usize,
+    gate: &G,
+) -> Result<bool, AllocError>
+    requires { (1 ≤ workers) × (workers ≤ 64) }
+{
+    let checked = check_all(rt, alloc, job, workers, gate)?;
+    Ok(checked.flags.len() == job.len() as usize && are_of_chain(&checked))
+}
+
+fn is_chain_checked<R: Threads + Wait + Sync, G: Gate + Sync>(
+    rt: &R,
+    alloc: Global,
+    count: u32,
+    workers: usize,
+    gate: &G,
+) -> Result<bool, Failed>
+    requires { (1 ≤ workers) × (workers ≤ 64) }
+{
+    let ground = Ground::of_chain(alloc, count)?;
+    let job = ground.job(alloc)?;
+    Ok(is_checked(rt, alloc, &job, workers, gate)?)
+}
+
+#[test]
+fn two_workers_meet(rt: HostRuntime) -> Result<(), Failed> {
+    for phase in [Phase::Endorse, Phase::Reads] {
+        let gate = Meeting::in_phase(phase);
+        assert!(rt; is_chain_checked(&rt, rt.alloc(), 16, 2, &gate)?);
+        assert!(rt; gate.is_met());
+    }
+    Ok(())
+}
+
+#[test]
+fn a_blocked_check_is_tried_again(rt: HostRuntime) -> Result<(), Failed> {
+    let gate = Late::new();
+    assert!(rt; is_chain_checked(&rt, rt.alloc(), 3, 2, &gate)?);
+    assert!(rt; gate.is_let_go());
+    assert!(rt; gate.reads_of(0) > 1 || gate.reads_of(1) > 1);
+    Ok(())
+}
+
+fn is_reversed<R: Threads + Wait + Sync>(
+    rt: &R,
+    alloc: Global,
+    workers: usize,
+) -> Result<bool, Failed>
+    requires { (1 ≤ workers) × (workers ≤ 64) }
+{
+    let gate = Reverse::new(alloc, 1000)?;
+    is_chain_checked(rt, alloc, 1000, workers, &gate)
+}
+
+#[test]
+fn in_reverse(rt: HostRuntime) -> Result<(), Failed> {
+    assert!(rt; is_reversed(&rt, rt.alloc(), 2)?);
+    assert!(rt; is_reversed(&rt, rt.alloc(), 64)?);
+    Ok(())
+}

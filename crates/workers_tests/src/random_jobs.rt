@@ -1,0 +1,123 @@
+//! Small blocks at random, whose flags any number of workers finds as one thread does in order.
+
+ghost use Rattle.std.specs.Prelude.{◌≤◌};
+
+use crate::building::Ground;
+use crate::drawing::{ROWS, script};
+use crate::failed::Failed;
+use crate::gates::Yielding;
+use check_workers::{Checked, check_all};
+use key_chains::Job;
+use random_numbers::Random;
+use rules::Flag;
+use std::alloc::{AllocError, Global};
+use std::sync::Wait;
+use std::thread::Threads;
+
+const JOBS: u32 = 2_000;
+
+const WORKERS: [usize; 5] = [1, 2, 3, 8, 64];
+
+/// How often each flag was found that a check decides.
+#[derive(Clone, Copy)]
+struct Times {
+    valid: u32,
+    refused: u32,
+    stale: u32,
+    phantom: u32,
+}
+
+fn add_one(times: &mut u32) {
+    *times = times.saturating_add(1);
+}
+
+impl Times {
+    fn count(&mut self, flags: &[Flag]) {
+        for flag in flags {
+            match flag {
+                Flag::Valid => add_one(&mut self.valid),
+                Flag::EndorsementPolicyFailure => add_one(&mut self.refused),
+                Flag::MvccReadConflict => add_one(&mut self.stale),
+                Flag::PhantomReadConflict => add_one(&mut self.phantom),
+                _ => {}
+            }
+        }
+    }
+
+    fn are_all_often(&self) -> bool {
+        [self.valid, self.refused, self.stale, self.phantom]
+            .iter()
+            .all(|times| *times >= 200)
+    }
+}
+
+fn is_same(checked: &Checked, flags: &[Flag]) -> bool {
+    checked.gathered == 0 && checked.flags.as_slice() == flags
+}
+
+fn is_found<R: Threads + Wait + Sync>(
+    rt: &R,
+    alloc: Global,
+    job: &Job<'_>,
+    flags: &[Flag],
+    workers: usize,
+    gate: &Yielding,
+) -> Result<bool, AllocError>
+    requires { (1 ≤ workers) × (workers ≤ 64) }
+{
+    let checked = check_all(rt, alloc, job, workers, gate)?;
+    Ok(is_same(&checked, flags))
+}
+
+fn are_found<R: Threads + Wait + Sync>(
+    rt: &R,
+    alloc: Global,
+    job: &Job<'_>,
+    gate: &Yielding,
+    times: &mut Times,
+) -> Result<bool, AllocError> {
+    let flags = serial_checks::flags(alloc, job)?;
+    times.count(flags.as_slice());
+    for workers in WORKERS {
+        if workers < 1
+            || workers > 64
+            || !is_found(rt, alloc, job, flags.as_slice(), workers, gate)?
+        {
+            return Ok(false);
+        }
+    }
+    Ok(true)
+}
+
+fn is_job_checked<R: Threads + Wait + Sync>(
+    rt: &R,
+    alloc: Global,
+    random: &mut Random,
+    gate: &Yielding,
+    times: &mut Times,
+) -> Result<bool, Failed> {
+    let script = script(alloc, random)?;
+    let ground = Ground::of(alloc, &ROWS, script.as_str())?;
+    let job = ground.job(alloc)?;
+    Ok(are_found(rt, alloc, &job, gate, times)?)
+}
+
+#[test]
+fn any_number_of_workers(rt: HostRuntime) -> Result<(), Failed> {
+    let mut random = Random::new(15);
+    let gate = Yielding::new(15);
+    let mut times = Times {
+        valid: 0,
+        refused: 0,
+        stale: 0,
+        phantom: 0,
+    };
+    for number in 0..JOBS {
+        assert!(rt;
+            is_job_checked(&rt, rt.alloc(), &mut random, &gate, &mut times)?,
+            "job {number}"
+        );
+    }
+    assert!(rt; times.are_all_often());
+    Ok(())
+}
