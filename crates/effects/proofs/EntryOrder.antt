@@ -6,7 +6,6 @@ use Rattle.std.specs.List.{find, list_any, list_all, AllByRecursion}
 use Rattle.std.specs.List.Sorted.{IsStrictlySortedBy}
 use Rattle.std.specs.Ordering.{is_eq}
 use Rattle.std.specs.Str.{bytes_eq}
-use Rattle.std.specs.declared.cmp.Ordering.{Ordering}
 use Rattle.std.specs.declared.cmp.Ordering.TheVariants.{Less}
 use Rattle.std.proofs.lemmas.List.Concat.{flat_map-cons}
 use Rattle.std.proofs.lemmas.Slice.Eq.{bytes_eq-Decides}
@@ -22,7 +21,7 @@ use Rattle.rules.specs.ReadWriteSets.{are_distinct, has_results_in_form, has_pol
 use Rattle.rules.specs.State.{StateKey, key_cmp, is_same_key, is_among}
 use Rattle.rules.proofs.Booleans.{neither}
 use Rattle.rules.proofs.Effects.{same_in_namespace, write_of-unwritten}
-use Rattle.rules.proofs.Keys.{key_cmp_total, key_cmp-IsAntisymmetric, key_ties, same_key_is, same_as_itself}
+use Rattle.rules.proofs.Keys.{key_cmp_total, key_cmp-IsAntisymmetric, key_ties, same_key_is}
 use Rattle.candidates.specs.declared.written_key.WrittenKey.{WrittenKey}
 use Rattle.candidates.specs.Written.{value_at, keys_in_order, IsWriteOf, AreWritesOf}
 use Rattle.candidates.proofs.Rising.{first_holds, second_holds}
