@@ -1,0 +1,260 @@
+#!/usr/bin/env python3
+"""Times `check_workers::check_all` with 1, 2 and 4 workers beside the same checks in a plain loop, `serial_checks::flags`.
+
+Run as `bench/workers.py` from anywhere, on a quiet machine that has the kit and four cores. It builds a program over the
+repository's crates in a scratch folder. Each transaction reads a key and writes one, and has the two endorsements that its
+policy asks for; signatures are verified before anything is timed.
+
+- `independent`: 4,096 transactions, each of which writes the key that it read.
+- `chain`: 4,096 transactions, each of which reads the key that the one before it writes.
+- `one`: a block of one transaction, with 4 workers, beside the starting and joining of 4 scoped threads that do nothing.
+
+Times are the least of five runs, in each of which everything is done ten times. It fails where one worker takes more than
+1.3 times the loop, or four are less than 2.5 times faster than one where transactions are independent.
+"""
+
+import pathlib
+import subprocess
+import sys
+import tempfile
+
+from scratch import RUNS, build
+from encoding import Namespace, Tx, data_hash, header_hash, identity, spelled_block, spelled_tx, tx_id
+from signing import Keys
+
+CRATES = ["values", "transaction", "block", "header_hash", "policy", "policy_eval", "text_lines", "channel", "key_book",
+          "rules", "block_steps", "history_index", "state_db", "txid_index", "world", "candidates", "intake",
+          "key_chains", "endorsement_check", "mvcc", "serial_checks", "effects", "commit", "task_desk", "check_workers"]
+ONE_WORKER, FOUR_WORKERS = 1.3, 2.5
+TIMED = ["loop", "1", "2", "4", "threads"]
+CHANNEL = "channel ch\nchaincode cc AND('Org1.peer','Org2.peer')\n"
+CREATOR, PEERS = "Org1:client:c0", ["Org1:peer:p0", "Org2:peer:q0"]
+KEYS = "".join(f"{who} {number:02x}{'5a' * 31}\n" for number, who in enumerate([CREATOR] + PEERS))
+
+# Takes the first block, and times the checks of the second one: a line of nanoseconds for each time, and last the number
+# of valid transactions and how many verdicts no worker found.
+PROGRAM = r"""
+#![tactic(auto)]
+
+ghost use Rattle.std.specs.Prelude.{◌≤◌};
+
+use anyhow::bail;
+use block::{MAX_TXS, decode_block};
+use channel::Channel;
+use check_workers::{Checked, Open, check_all};
+use commit::Ledger;
+use intake::{candidates_of, take_in};
+use key_book::KeyBook;
+use key_chains::Job;
+use rules::Flag;
+use std::alloc::{AllocError, Global};
+use std::io::Print;
+use std::sync::Wait;
+use std::thread::Threads;
+use std::time::{Clock, Instant};
+use std::{env, fs, thread};
+
+const TIMES: u32 = 10;
+
+fn start_and_join<R: Threads + Wait + Sync>(rt: &R) {
+    thread::scope(
+        thread::scope_env(),
+        rt,
+        |scope| {
+            for _ in 0..4 {
+                if scope.spawn(|| {}).is_err() {
+                    break;
+                }
+            }
+        },
+    );
+}
+
+fn valid(flags: &[Flag]) -> u32 {
+    let mut count = 0u32;
+    for flag in flags {
+        count = count.wrapping_add(u32::from(flag.is_valid()));
+    }
+    count
+}
+
+fn time_loop<R: Clock>(rt: &R, alloc: Global, job: &Job<'_>) -> anyhow::Result<u128> {
+    let start = Instant::now(rt)?;
+    let _flags = serial_checks::flags(alloc, job)?;
+    Ok(start.elapsed(rt)?.as_nanos())
+}
+
+fn checked<R: Threads + Wait + Sync>(
+    rt: &R,
+    alloc: Global,
+    job: &Job<'_>,
+    workers: usize,
+) -> Result<Checked, AllocError>
+    requires { (1 ≤ workers) × (workers ≤ 64) }
+{
+    check_all(rt, alloc, job, workers, &Open)
+}
+
+fn time_workers<R: Clock + Threads + Wait + Sync>(
+    rt: &R,
+    alloc: Global,
+    job: &Job<'_>,
+    workers: usize,
+) -> anyhow::Result<u128>
+    requires { (1 ≤ workers) × (workers ≤ 64) }
+{
+    let start = Instant::now(rt)?;
+    let _checked = checked(rt, alloc, job, workers)?;
+    Ok(start.elapsed(rt)?.as_nanos())
+}
+
+fn time_threads<R: Clock + Threads + Wait + Sync>(rt: &R) -> anyhow::Result<u128> {
+    let start = Instant::now(rt)?;
+    start_and_join(rt);
+    Ok(start.elapsed(rt)?.as_nanos())
+}
+
+fn time_all<R: Clock + Print + Threads + Wait + Sync>(rt: &R, alloc: Global, job: &Job<'_>) -> anyhow::Result<()> {
+    for _ in 0..TIMES {
+        let plain = time_loop(rt, alloc, job)?;
+        let one = time_workers(rt, alloc, job, 1)?;
+        let two = time_workers(rt, alloc, job, 2)?;
+        let four = time_workers(rt, alloc, job, 4)?;
+        let threads = time_threads(rt)?;
+        println!(rt; "{plain} {one} {two} {four} {threads}")?;
+    }
+    let last = checked(rt, alloc, job, 4)?;
+    let valid = valid(last.flags.as_slice());
+    let gathered = last.gathered;
+    println!(rt; "{valid} {gathered}")?;
+    Ok(())
+}
+
+fn time_block<R: Clock + Print + Threads + Wait + Sync>(
+    rt: &R,
+    alloc: Global,
+    channel: &Channel,
+    ledger: &Ledger,
+    keys: &KeyBook,
+    bytes: &[u8],
+) -> anyhow::Result<()> {
+    let Ok(block) = decode_block(alloc, bytes) else {
+        bail!("no block");
+    };
+    let used = vec![in alloc; false; block.txs.len()]?;
+    let taken = take_in(alloc, channel, keys, block.txs.as_slice())?;
+    let candidates = candidates_of(alloc, taken, used.as_slice())?;
+    if candidates.as_slice().len() > MAX_TXS {
+        bail!("too many");
+    }
+    let job = Job::build(alloc, 1, ledger.view().state(), channel.definitions(), candidates)?;
+    time_all(rt, alloc, &job)
+}
+
+fn text(bytes: &[u8]) -> anyhow::Result<&str> {
+    match std::str::from_utf8(bytes) {
+        Ok(text) => Ok(text),
+        Err(_) => bail!("no text"),
+    }
+}
+
+fn channel(alloc: Global, bytes: &[u8]) -> anyhow::Result<Channel> {
+    match Channel::read(alloc, text(bytes)?) {
+        Ok(channel) => Ok(channel),
+        Err(_) => bail!("no channel"),
+    }
+}
+
+fn keys(alloc: Global, bytes: &[u8]) -> anyhow::Result<KeyBook> {
+    match KeyBook::read(alloc, text(bytes)?) {
+        Ok(keys) => Ok(keys),
+        Err(_) => bail!("no key book"),
+    }
+}
+
+fn main(rt: HostRuntime) -> anyhow::Result<()> {
+    let alloc = rt.alloc();
+    let channel_bytes = fs::read(&rt, "channel.txt")?;
+    let key_bytes = fs::read(&rt, "keys.txt")?;
+    let before = fs::read(&rt, "before.blk")?;
+    let keys = keys(alloc, &key_bytes)?;
+    let mut ledger = Ledger::open(alloc, channel(alloc, &channel_bytes)?);
+    if ledger.submit_one(&before, &keys).is_err() {
+        bail!("refused");
+    }
+    let channel = channel(alloc, &channel_bytes)?;
+    for path in env::args(&rt)?.skip(1) {
+        let bytes = fs::read(&rt, path.as_str())?;
+        time_block(&rt, alloc, &channel, &ledger, &keys, &bytes)?;
+    }
+    Ok(())
+}
+"""
+
+
+def key(number):
+    return b"key%013d" % number
+
+
+def tx(keys, number, reads, writes):
+    nonce, creator = b"%d" % number, identity(CREATOR)
+    namespace = Namespace(b"cc", reads=reads, writes=[(name, b"v" * 100) for name in writes])
+    made = Tx(b"ch", tx_id(nonce, creator), creator, nonce, b"cc", [namespace], [], b"")
+    keys.endorse(made, PEERS)
+    keys.sign_whole(made, CREATOR)
+    return spelled_tx(made)
+
+
+def write_files(folder):
+    """Block 0 writes 4,098 keys, half of them in each of its transactions; each other file has a block 1."""
+    keys, half = Keys(KEYS), 2049
+    (folder / "channel.txt").write_text(CHANNEL)
+    (folder / "keys.txt").write_text(KEYS)
+    before = [tx(keys, place, [], [key(n) for n in range(place * half, (place + 1) * half)]) for place in range(2)]
+    (folder / "before.blk").write_bytes(spelled_block(0, b"", data_hash(before), before))
+    previous = header_hash(0, b"", data_hash(before))
+
+    def reading(n, written):
+        return tx(keys, 2 + n, [(key(n), (0, n // half))], [key(written)])
+
+    blocks = {
+        "independent": [reading(n, n) for n in range(4096)],
+        "chain": [reading(n, n + 1) for n in range(4096)],
+        "one": [reading(0, 0)],
+    }
+    for name, txs in blocks.items():
+        (folder / f"{name}.blk").write_bytes(spelled_block(1, previous, data_hash(txs), txs))
+    return {name: len(txs) for name, txs in blocks.items()}
+
+
+def times(program, folder, name):
+    """The least nanoseconds of each thing that is timed."""
+    lines = []
+    for _ in range(RUNS):
+        done = subprocess.run([program, f"{name}.blk"], cwd=folder, capture_output=True, text=True, check=False)
+        run = [tuple(map(int, line.split())) for line in done.stdout.splitlines()]
+        if done.returncode != 0 or not run:
+            sys.exit(f"the run failed: {done.stdout[-300:]}{done.stderr[-300:]}")
+        lines += run[:-1]
+        valid, gathered = run[-1]
+    return dict(zip(TIMED, map(min, zip(*lines)))), valid, gathered
+
+
+def main():
+    with tempfile.TemporaryDirectory() as name:
+        folder = pathlib.Path(name)
+        program = build(folder / "program", "checks", PROGRAM, own=CRATES, kit=["anyhow"])
+        found = {}
+        for name, count in write_files(folder).items():
+            found[name], valid, gathered = times(program, folder, name)
+            told = ", ".join(f"{what} {nanos / 1000:,.0f}" for what, nanos in found[name].items())
+            print(f"{name:>12} {count:>5,} (µs): {told}; valid {valid:,}, gathered {gathered}", flush=True)
+    independent, chain = found["independent"], found["chain"]
+    beside_loop = max(case["1"] / case["loop"] for case in (independent, chain))
+    faster = independent["1"] / independent["4"]
+    print(f"one worker takes {beside_loop:.2f} times the loop, four are {faster:.2f} times faster than one")
+    if beside_loop > ONE_WORKER or faster < FOUR_WORKERS:
+        sys.exit("more than is promised")
+
+
+main()
