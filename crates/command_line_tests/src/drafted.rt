@@ -9,11 +9,11 @@ use std::test::Fail;
 mod vectors;
 
 // Drafts the script of these files, and wants this block written once.
-fn expect_block(
+fn expect_block<'a>(
     rt: &(impl Abort + AllocGlobal),
-    files: &[File<'_>],
+    files: &'a [File<'a>],
     after: &str,
-    block: &[u8],
+    block: &'a [u8],
 ) -> Result<(), Fail> {
     let files = OneOut {
         files: MemoryFiles(files),

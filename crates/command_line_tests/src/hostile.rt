@@ -48,6 +48,22 @@ static ROWS: [Row; 31] = [
     ("scan --ns cc --limit 0001", 0, "height 0\n", ""),
 ];
 
+fn expect_all_rows<'a>(
+    rt: &(impl Abort + AllocGlobal),
+    block: &'a [u8],
+    last: &'a [u8],
+) -> Result<(), Fail> {
+    let files = [
+        ("c", CHANNEL),
+        ("k", KEYS),
+        ("s", b"# nothing\n".as_slice()),
+        ("bad", b"read k absent\n".as_slice()),
+        ("b0", block),
+        ("last", last),
+    ];
+    expect_rows(rt, &MemoryFiles(&files), &ROWS)
+}
+
 #[test]
 fn words_and_files(rt: HostRuntime) -> Result<(), Fail> {
     let alloc = rt.alloc();
@@ -56,15 +72,7 @@ fn words_and_files(rt: HostRuntime) -> Result<(), Fail> {
     for byte in last.iter_mut().skip(4).take(8) {
         *byte = 255;
     }
-    let files = [
-        ("c", CHANNEL),
-        ("k", KEYS),
-        ("s", b"# nothing\n".as_slice()),
-        ("bad", b"read k absent\n".as_slice()),
-        ("b0", block.as_slice()),
-        ("last", last.as_slice()),
-    ];
-    expect_rows(&rt, &MemoryFiles(&files), &ROWS)
+    expect_all_rows(&rt, block.as_slice(), last.as_slice())
 }
 
 // Scripts, and the line that is at fault.
@@ -113,11 +121,16 @@ static SCRIPTS: [(&str, &str); 30] = [
     ("tx Org1:peer:p0 % c\nns c\r", "s line 2\n"),
 ];
 
+// Drafts a script, which ends with this line on standard error.
+fn expect_fault(rt: &(impl Abort + AllocGlobal), script: &str, err: &str) -> Result<(), Fail> {
+    let files = [("c", CHANNEL), ("k", KEYS), ("s", script.as_bytes())];
+    expect_rows(rt, &MemoryFiles(&files), &[("draft s out", 3, "", err)])
+}
+
 #[test]
 fn faulty_lines(rt: HostRuntime) -> Result<(), Fail> {
     for (script, err) in &SCRIPTS {
-        let files = [("c", CHANNEL), ("k", KEYS), ("s", script.as_bytes())];
-        expect_rows(&rt, &MemoryFiles(&files), &[("draft s out", 3, "", err)])?;
+        expect_fault(&rt, script, err)?;
     }
     Ok(())
 }
@@ -132,8 +145,7 @@ fn expect_long(
     let alloc = rt.alloc();
     let value = "v".repeat(alloc, bytes)?;
     let script = format!(in alloc; "tx Org1:peer:p0 n cc\nns cc\nwrite k {value}\n{more}")?;
-    let files = [("c", CHANNEL), ("k", KEYS), ("s", script.as_bytes())];
-    expect_rows(rt, &MemoryFiles(&files), &[("draft s out", 3, "", err)])
+    expect_fault(rt, script.as_str(), err)
 }
 
 #[test]
