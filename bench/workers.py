@@ -24,7 +24,7 @@ from signing import Keys
 
 CRATES = ["values", "transaction", "block", "header_hash", "policy", "policy_eval", "text_lines", "channel", "key_book",
           "rules", "block_steps", "history_index", "state_db", "txid_index", "world", "candidates", "intake",
-          "key_chains", "endorsement_check", "mvcc", "serial_checks", "effects", "commit", "task_desk", "check_workers"]
+          "key_chains", "endorsement_check", "mvcc", "serial_checks", "effects", "commit", "task_desk", "gates", "check_workers"]
 ONE_WORKER, FOUR_WORKERS = 1.3, 2.5
 TIMED = ["loop", "1", "2", "4", "threads"]
 CHANNEL = "channel ch\nchaincode cc AND('Org1.peer','Org2.peer')\n"
@@ -41,7 +41,8 @@ ghost use Rattle.std.specs.Prelude.{◌≤◌};
 use anyhow::bail;
 use block::{MAX_TXS, decode_block};
 use channel::Channel;
-use check_workers::{Checked, Open, check_all};
+use check_workers::{Checked, check_all};
+use gates::Open;
 use commit::Ledger;
 use intake::{candidates_of, take_in};
 use key_book::KeyBook;

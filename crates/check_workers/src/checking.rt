@@ -2,12 +2,12 @@ ghost use Rattle.std.specs.Prelude.{◌≡◌, ◌*◌, ◌≤◌, [], length, r
 ghost use Rattle.rules.specs.Fold as fold;
 ghost use Rattle.check_workers.specs.Words.{fresh};
 
-use crate::gate::Gate;
 use crate::gathering::{flags, gather};
 use crate::rule::{Place, Words};
 use crate::seat::VerdictSeat;
 use crate::turns::Turns;
 use crate::workers::run;
+use gates::Gate;
 use key_chains::Job;
 use rules::Flag;
 use std::alloc::{AllocError, Global};

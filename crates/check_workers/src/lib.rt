@@ -6,9 +6,7 @@
 
 mod cells;
 mod checking;
-mod gate;
 mod gathering;
-mod reverse;
 mod rule;
 mod seat;
 mod turns;
@@ -16,7 +14,5 @@ mod view;
 mod workers;
 
 pub use checking::{Checked, check_all};
-pub use gate::{Gate, Open, Phase};
-pub use reverse::Reverse;
 pub use seat::VerdictSeat;
 pub use view::View;

@@ -1,9 +1,9 @@
 ghost use Rattle.std.specs.Prelude.{◌≡◌, ◌*◌, ◌<◌, length};
 
-use crate::gate::{Gate, Phase};
 use crate::rule::Steps;
 use crate::seat::VerdictSeat;
 use crate::turns::{Settled, Turns};
+use gates::{Gate, Phase};
 use key_chains::Job;
 use std::sync::Wait;
 use std::thread;

@@ -15,7 +15,7 @@ mod events;
 #[cfg(test)]
 mod failed;
 #[cfg(test)]
-mod gates;
+mod holding;
 #[cfg(test)]
 mod meeting;
 #[cfg(test)]

@@ -4,8 +4,9 @@ ghost use Rattle.std.specs.Prelude.{◌≤◌};
 
 use crate::building::Ground;
 use crate::failed::Failed;
-use crate::gates::{Late, Meeting};
-use check_workers::{Checked, Gate, Phase, Reverse, check_all};
+use crate::holding::{Late, Meeting};
+use check_workers::{Checked, check_all};
+use gates::{Gate, Phase, Reverse};
 use key_chains::Job;
 use rules::Flag;
 use std::alloc::{AllocError, Global};

@@ -5,7 +5,7 @@ ghost use Rattle.std.specs.Prelude.{◌≤◌};
 use crate::building::Ground;
 use crate::drawing::{ROWS, script};
 use crate::failed::Failed;
-use crate::gates::Yielding;
+use crate::holding::Yielding;
 use check_workers::{Checked, check_all};
 use key_chains::Job;
 use random_numbers::Random;

@@ -1,6 +1,6 @@
 //! Gates that hold workers back, or don't.
 
-use check_workers::{Gate, Phase};
+use gates::{Gate, Phase};
 use std::alloc::{AllocError, Global};
 use std::sync::atomic::{AtomicBool, AtomicU32, AtomicU64, Ordering};
 use std::thread;
