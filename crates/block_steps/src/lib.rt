@@ -14,7 +14,7 @@ mod uses;
 pub use change::change_to;
 pub use entries::{copy_value, entries_of, new_entry};
 pub use kept_block::kept;
-pub use linking::{check_linked, decoded};
+pub use linking::{check_data_hash, check_place, decoded};
 pub use origin::{decoded_tx, origin_fault};
 pub use rows::{policy_kept, share_policy, share_row, with_policy};
 pub use uses::uses_of;

@@ -3,7 +3,7 @@ ghost use Rattle.std.specs.Prelude.{◌≡◌, MatchResult};
 ghost use Rattle.block.specs.Grammar.{Spells};
 ghost use Rattle.header_hash.specs.Hashes.{data_hash_of};
 ghost use Rattle.rules.specs.World as world;
-ghost use Rattle.rules.specs.Linked.{IsLinked, IsUnlinked, IsRefused};
+ghost use Rattle.rules.specs.Linked.{HasNumber, HasPrevious, IsLinked, IsUnlinked, IsRefused};
 
 use block::{Block, BlockFault, Previous, decode_block};
 use rules::Refused;
@@ -31,16 +31,14 @@ fn previous_from(last_header_hash: Option<Hash>) -> Previous
     }
 }
 
-/// Whether the block is the next one of any world of this height and last header hash; else the first reason why it
-/// isn't. Its data hash is made beforehand, since that takes all of its bytes.
-pub fn check_linked(
+/// Whether the block stands at the place of the next one of any world of this height and last header hash: by its number,
+/// and then its previous hash. Constant time.
+pub fn check_place(
     height: u64,
     last_header_hash: Option<Hash>,
     block: &Block<'_>,
-    data_hash: Hash,
 ) -> Result<(), Refused>
-    requires { data_hash ≡ data_hash_of block.now.txs }
-    ensures { (w : world.World) → world.height_of w ≡ height → world.last_header_hash w ≡ last_header_hash → MatchResult result (λ _. IsLinked w block.now) (IsUnlinked w block.now) }
+    ensures { (w : world.World) → world.height_of w ≡ height → world.last_header_hash w ≡ last_header_hash → MatchResult result (λ _. HasNumber w block.now × HasPrevious w block.now) (IsUnlinked w block.now) }
 {
     let got = block.header.number;
     if got != height {
@@ -49,6 +47,15 @@ pub fn check_linked(
     if block.header.previous != previous_from(last_header_hash) {
         return Err(Refused::WrongPrevious);
     }
+    Ok(())
+}
+
+/// Whether a block at its place is linked: whether the data hash of its transactions, which was made of all their bytes, is
+/// the one that it has. Constant time.
+pub fn check_data_hash(block: &Block<'_>, data_hash: Hash) -> Result<(), Refused>
+    requires { data_hash ≡ data_hash_of block.now.txs }
+    ensures { (w : world.World) → HasNumber w block.now → HasPrevious w block.now → MatchResult result (λ _. IsLinked w block.now) (IsUnlinked w block.now) }
+{
     if block.header.data_hash != data_hash {
         return Err(Refused::WrongDataHash);
     }

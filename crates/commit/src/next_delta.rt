@@ -1,12 +1,16 @@
 //! What the next block of a ledger makes of it, as a delta.
-ghost use Rattle.std.specs.Prelude.{◌≡◌, ◌≤◌, length, map, IfOk};
+ghost use Rattle.std.specs.Prelude.{◌≡◌, ◌≤◌, List, Option, length, map, IfOk};
 ghost use Rattle.block.specs.Limits.{max_txs};
-ghost use Rattle.transaction.specs.Decoded.{tx_of};
+ghost use Rattle.transaction.specs.declared.transaction.Tx.{Tx};
+ghost use Rattle.policy_eval.specs.Accepts.{Accepts};
+ghost use Rattle.channel.specs.Configuration.{Configuration};
 ghost use Rattle.rules.specs.Candidate.{used_id};
 ghost use Rattle.rules.specs.Commit as commit;
 ghost use Rattle.rules.specs.Commit.{txs_of, committed_of};
 ghost use Rattle.rules.specs.Delta.{IsDelta};
 ghost use Rattle.rules.specs.Fold as fold;
+ghost use Rattle.rules.specs.World as world;
+ghost use Rattle.intake.specs.Place.{taken_of, shown};
 ghost use Rattle.commit.specs.Changes.{Changes};
 
 use block::Block;
@@ -14,29 +18,25 @@ use block_steps::{kept, uses_of};
 use channel::Channel;
 use effects::effects_of;
 use header_hash::header_hash;
-use intake::{candidates_of, ids_of, take_in};
+use intake::{Taken, candidates_of, ids_of};
 use key_chains::Job;
-use policy_eval::Verify;
 use rules::{Delta, Flag};
-use serial_checks::flags;
 use std::alloc::{AllocError, Global};
 use transaction::TxId;
-use values::{Hash, Items, Slice};
+use values::{Hash, Items};
 use world::World;
 
-/// The job of the next block's transactions, and the id that each of them uses.
-pub(crate) fn job_of<'a, V: Verify>(
+/// The job of the next block, of what was taken in of its transactions, and the id that each of them uses.
+pub(crate) fn job_of<'a>(
     alloc: Global,
     channel: &'a Channel,
     world: &'a World,
-    txs: &[Slice<'a>],
-    verifier: &V,
+    taken: Vec<Taken<'a>>,
 ) -> Result<(Job<'a>, Vec<Option<TxId>>), AllocError>
-    requires { length txs.now ≤ max_txs }
-    ensures job { IfOk result (λ r. r.0 ≡ commit.job_of channel.entry.now (V.accepts verifier.now) world.entry.now (map tx_of txs.now)) }
-    ensures ids { IfOk result (λ r. r.1.items ≡ map (used_id channel.entry.now (V.accepts verifier.now)) (map tx_of txs.now)) }
+    requires { length taken.items ≤ max_txs }
+    ensures job { IfOk result (λ r. (accepts : Accepts) (txs : List (Option Tx)) → map shown taken.entry.items ≡ map (taken_of channel.entry.now accepts) txs → r.0 ≡ commit.job_of channel.entry.now accepts world.entry.now txs) }
+    ensures ids { IfOk result (λ r. (accepts : Accepts) (txs : List (Option Tx)) → map shown taken.entry.items ≡ map (taken_of channel.entry.now accepts) txs → r.1.items ≡ map (used_id channel.entry.now accepts) txs) }
 {
-    let taken = take_in(alloc, channel, verifier, txs)?;
     let ids = ids_of(alloc, taken.as_slice())?;
     let used = world.mark(alloc, ids.as_slice())?;
     let candidates = candidates_of(alloc, taken, used.as_slice())?;
@@ -51,7 +51,7 @@ pub(crate) fn job_of<'a, V: Verify>(
 }
 
 /// What the candidates of a job change where these are their flags.
-pub(crate) fn delta_of(
+fn changes_of(
     alloc: Global,
     job: &Job<'_>,
     ids: &[Option<TxId>],
@@ -74,20 +74,19 @@ pub(crate) fn delta_of(
     })
 }
 
-/// The delta of a block that is the next one and that these bytes spell.
-pub(crate) fn delta_of_linked<'a, V: Verify>(
+/// The delta of a block that is the next one and that these bytes spell, of its job, ids and flags.
+pub(crate) fn delta_of(
     alloc: Global,
-    channel: &'a Channel,
-    world: &'a World,
     bytes: &[u8],
-    block: &Block<'a>,
-    verifier: &V,
+    block: &Block<'_>,
+    job: &Job<'_>,
+    ids: &[Option<TxId>],
+    flags: Vec<Flag>,
 ) -> Result<Delta, AllocError>
-    requires { length block.now.txs ≤ max_txs }
-    ensures { IfOk result (λ d. IsDelta channel.entry.now (V.accepts verifier.now) world.entry.now (txs_of block.now) (committed_of bytes.now block.now (commit.job_of channel.entry.now (V.accepts verifier.now) world.entry.now (txs_of block.now))) d) }
+    requires flags { flags.items ≡ fold.flags job.now }
+    requires ids { length ids.now ≡ length job.now.candidates }
+    requires few { length ids.now ≤ max_txs }
+    ensures { IfOk result (λ d. (channel : Configuration) (accepts : Accepts) (w : world.World) → job.now ≡ commit.job_of channel accepts w (txs_of block.now) → ids.now ≡ map (used_id channel accepts) (txs_of block.now) → IsDelta channel accepts w (txs_of block.now) (committed_of bytes.now block.now (commit.job_of channel accepts w (txs_of block.now))) d) }
 {
-    let (job, ids) = job_of(alloc, channel, world, block.txs.as_slice(), verifier)?;
-    let flags = flags(alloc, &job)?;
-    let header_hash = header_hash(&block.header);
-    delta_of(alloc, &job, ids.as_slice(), flags, bytes, header_hash)
+    changes_of(alloc, job, ids, flags, bytes, header_hash(&block.header))
 }

@@ -6,4 +6,4 @@ mod placing;
 mod taking;
 
 pub use placing::{candidates_of, ids_of};
-pub use taking::{Taken, take_in};
+pub use taking::{Taken, take_in, take_in_one};

@@ -1,5 +1,5 @@
 //! What transactions are, once it is known whose ids are used.
-ghost use Rattle.std.specs.Prelude.{◌≡◌, List, [], Option, map, IfOk};
+ghost use Rattle.std.specs.Prelude.{◌≡◌, ◌≤◌, List, [], Option, length, map, IfOk};
 ghost use Rattle.std.specs.List.{zip};
 ghost use Rattle.transaction.specs.declared.transaction.Tx.{Tx};
 ghost use Rattle.policy_eval.specs.Accepts.{Accepts};
@@ -59,7 +59,8 @@ pub fn candidates_of<'a>(
     taken: Vec<Taken<'a>>,
     used: &[bool],
 ) -> Result<Vec<Candidate<'a>>, AllocError>
-    ensures { IfOk result (λ cs. (channel : Configuration) (accepts : Accepts) (uses : FirstUses) (txs : List (Option Tx)) → map shown taken.entry.items ≡ map (taken_of channel accepts) txs → used.now ≡ marks uses [] (map (λ t. t.id) taken.entry.items) → map seen cs.items ≡ candidates_from channel accepts uses [] txs) }
+    ensures few { IfOk result (λ cs. length cs.items ≤ length taken.entry.items) }
+    ensures candidates { IfOk result (λ cs. (channel : Configuration) (accepts : Accepts) (uses : FirstUses) (txs : List (Option Tx)) → map shown taken.entry.items ≡ map (taken_of channel accepts) txs → used.now ≡ marks uses [] (map (λ t. t.id) taken.entry.items) → map seen cs.items ≡ candidates_from channel accepts uses [] txs) }
 {
     all_placed(alloc, taken, used)
 }

@@ -59,7 +59,8 @@ fn without_id<'a>(flag: Flag) -> Taken<'a>
     }
 }
 
-fn take_one<'a, V: Verify>(
+/// Takes in one transaction, as [`take_in`] does all of them.
+pub fn take_in_one<'a, V: Verify>(
     alloc: Global,
     channel: &Channel,
     verifier: &V,
@@ -95,7 +96,7 @@ pub fn take_in<'a, V: Verify>(
 {
     let mut all = Vec::with_capacity(alloc, txs.len())?;
     for bytes in txs {
-        all.push(take_one(alloc, channel, verifier, bytes.as_slice())?)?;
+        all.push(take_in_one(alloc, channel, verifier, bytes.as_slice())?)?;
     }
     Ok(all)
 }

@@ -12,7 +12,7 @@ use crate::fold::{Folded, fold};
 use crate::intake::take_in;
 use crate::world::World;
 use block::Block;
-use block_steps::{check_linked, decoded, kept, uses_of};
+use block_steps::{check_data_hash, check_place, decoded, kept, uses_of};
 use channel::Channel;
 use header_hash::{data_hash, header_hash};
 use policy_eval::Verify;
@@ -24,8 +24,8 @@ use values::Items;
 fn check_next(world: &World, block: &Block<'_>) -> Result<(), Refused>
     ensures { MatchResult result (λ _. IsLinked world.now block.now) (IsUnlinked world.now block.now) }
 {
-    let data_hash = data_hash(block.txs.as_slice());
-    check_linked(world.height(), world.header_hash(), block, data_hash)
+    check_place(world.height(), world.header_hash(), block)?;
+    check_data_hash(block, data_hash(block.txs.as_slice()))
 }
 
 /// What the transactions of the next block give, and where their ids are used.

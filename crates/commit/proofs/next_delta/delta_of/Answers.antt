@@ -1,6 +1,9 @@
-use Rattle.std.proofs.Common.{length, ap, sym, ◌∙◌}
-use Rattle.rules.proofs.BlockFlags.{length-flags}
+use Rattle.std.proofs.lemmas.Result.{IfOk-weaker}
+use Rattle.commit.proofs.NextDeltas.{changes-is_delta}
 use Rattle.commit.proofs.next_delta.delta_of.Goals as goal
 
-pub uses_of-requires-clause-same : goal.uses_of-requires-clause-same
-uses_of-requires-clause-same c = c.requires.ids ∙ sym (ap length (c.as_slice-2.ensures.value ∙ c.requires.flags) ∙ length-flags c.args.job.now)
+pub returns : goal.returns
+returns c =
+    IfOk-weaker c.changes_of.result _ _
+    (λ d changes channel accepts w job_is ids_are. changes-is_delta channel accepts w c.args.bytes.now c.args.block.now c.args.job.now c.args.ids.now c.header_hash-header_hash.result d job_is ids_are c.header_hash-header_hash.ensures changes)
+    c.changes_of.ensures

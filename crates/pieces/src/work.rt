@@ -1,0 +1,23 @@
+ghost use Rattle.std.specs.Prelude.{IfOk, List};
+
+use std::alloc::{AllocError, Global};
+
+/// What is to be made of pieces: a piece is a `P`, and becomes a list of `X`. Who makes it, and when, changes nothing.
+pub trait Work<P, X> {
+    /// What may be made of a piece.
+    ghost gives: { Self → P → List X → Type 0 };
+
+    /// Makes it. An `Err` is want of memory alone.
+    fn make(&self, alloc: Global, piece: P) -> Result<Vec<X>, AllocError>
+        ensures { IfOk result (λ made. gives self.now piece made.items) };
+}
+
+/// What the calling thread makes beside the pieces. It takes no memory.
+pub trait Beside<Y> {
+    /// What may be made.
+    ghost gives: { Self → Y → Type 0 };
+
+    /// Makes it.
+    fn make(&self) -> Y
+        ensures { gives self.now result };
+}
