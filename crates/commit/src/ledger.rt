@@ -6,14 +6,10 @@ ghost use Rattle.rules.specs.Chain.{Chain};
 ghost use Rattle.commit.specs.NextDelta.{IsNextDelta};
 ghost use Rattle.commit.specs.Submissions.{submissions};
 
-use crate::next_delta::{delta_of, job_of};
-use block_steps::{check_data_hash, check_place, decoded};
+use crate::serial::next_delta;
 use channel::Channel;
-use header_hash::data_hash;
-use intake::take_in;
 use policy_eval::Verify;
 use rules::{Accepted, Delta, Refused};
-use serial_checks::flags;
 use std::alloc::{AllocError, Global};
 use std::marker::Model;
 use values::{Bytes, Items};
@@ -66,21 +62,7 @@ impl Ledger {
     pub fn delta<V: Verify>(&self, bytes: &[u8], verifier: &V) -> Result<Delta, Refused>
         ensures { MatchResult result (IsNextDelta self.now.channel (V.accepts verifier.now) self.now.world bytes.now) (IsRefused self.now.world bytes.now) }
     {
-        let block = decoded(self.alloc, bytes)?;
-        check_place(self.world.height(), self.world.header_hash(), &block)?;
-        check_data_hash(&block, data_hash(block.txs.as_slice()))?;
-        let txs = block.txs.as_slice();
-        let taken = take_in(self.alloc, &self.channel, verifier, txs)?;
-        let (job, ids) = job_of(self.alloc, &self.channel, &self.world, taken)?;
-        let flags = flags(self.alloc, &job)?;
-        Ok(delta_of(
-            self.alloc,
-            bytes,
-            &block,
-            &job,
-            ids.as_slice(),
-            flags,
-        )?)
+        next_delta(self.alloc, &self.channel, &self.world, bytes, verifier)
     }
 
     /// Takes the bytes of the next block: accepts them, or refuses them and changes nothing.

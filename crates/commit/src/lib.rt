@@ -3,6 +3,7 @@
 
 mod ledger;
 mod next_delta;
+mod serial;
 
 pub use channel::{Channel, ChannelFault};
 pub use ledger::Ledger;

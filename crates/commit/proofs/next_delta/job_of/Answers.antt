@@ -1,5 +1,4 @@
-use Rattle.std.proofs.Common.{[], length, map, ap, ◌∙◌, arith}
-use Rattle.rules.specs.Job as job
+use Rattle.std.proofs.Common.{[], map, ap, ◌∙◌}
 use Rattle.txid_index.specs.Marks.{marks}
 use Rattle.intake.specs.declared.taking.Taken.{Taken}
 use Rattle.intake.specs.Place.{shown}
