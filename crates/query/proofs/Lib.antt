@@ -1,0 +1,3 @@
+pub mod Beginnings
+pub mod Counting
+pub mod Keeping

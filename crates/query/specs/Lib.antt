@@ -1,0 +1,4 @@
+pub mod Published
+pub mod Code
+pub mod Counted
+pub mod Rule

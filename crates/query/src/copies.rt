@@ -1,0 +1,82 @@
+//! Copies for who asked: what is large gets one owner more and isn't copied, but for keys, and for the bytes of a block.
+ghost use Rattle.std.specs.Prelude.{◌≡◌, map, IfOk};
+ghost use Rattle.std.specs.Option.{option_copied};
+
+use block_steps::share_policy;
+use history_index::Entries;
+use rules::{CommittedBlock, HistoryEntry, KeyedRow, Row};
+use std::alloc::{AllocError, Global};
+use values::{Bytes, Items, Shared};
+
+fn copied_row(alloc: Global, keyed: &KeyedRow) -> Result<KeyedRow, AllocError>
+    ensures { IfOk result (λ copied. copied ≡ keyed.now) }
+{
+    let row = keyed.row();
+    let shared = Row {
+        value: row.value.share()?,
+        version: row.version,
+        policy: share_policy(&row.policy)?,
+    };
+    KeyedRow::new(alloc, &keyed.namespace(), &keyed.key(), shared)
+}
+
+/// Linear in the rows and in the bytes of their keys.
+pub(crate) fn copied_rows(alloc: Global, rows: &[&KeyedRow]) -> Result<Items<KeyedRow>, AllocError>
+    ensures { IfOk result (λ copied. copied ≡ map (λ row. row.now) rows.now) }
+{
+    let mut copied = Vec::with_capacity(alloc, rows.len())?;
+    for row in rows {
+        copied.push(copied_row(alloc, row)?)?;
+    }
+    Ok(Items::from_vec(copied))
+}
+
+fn share_value(value: &Option<Shared<Bytes>>) -> Result<Option<Shared<Bytes>>, AllocError>
+    ensures { IfOk result (λ shared. shared ≡ value.now) }
+{
+    match value {
+        None => Ok(None),
+        Some(value) => Ok(Some(value.share()?)),
+    }
+}
+
+fn share_entry(entry: &HistoryEntry) -> Result<HistoryEntry, AllocError>
+    ensures { IfOk result (λ shared. shared ≡ entry.now) }
+{
+    Ok(HistoryEntry {
+        version: entry.version,
+        id: entry.id,
+        value: share_value(&entry.value)?,
+    })
+}
+
+/// Linear in the number of entries.
+pub(crate) fn copied_entries(
+    alloc: Global,
+    entries: Entries<'_>,
+) -> Result<Items<HistoryEntry>, AllocError>
+    ensures { IfOk result (λ copied. copied ≡ entries.entry) }
+{
+    let mut copied = Vec::new(alloc);
+    for entry in entries {
+        copied.push(share_entry(entry)?)?;
+    }
+    Ok(Items::from_vec(copied))
+}
+
+/// Linear in the bytes of the block.
+pub(crate) fn copied_block(
+    alloc: Global,
+    block: Option<&CommittedBlock>,
+) -> Result<Option<CommittedBlock>, AllocError>
+    ensures { IfOk result (λ copied. copied ≡ option_copied block.entry) }
+{
+    match block {
+        None => Ok(None),
+        Some(block) => Ok(Some(CommittedBlock {
+            bytes: block.bytes.copy(alloc)?,
+            header_hash: block.header_hash,
+            flags: block.flags.copy(alloc)?,
+        })),
+    }
+}

@@ -1,0 +1,169 @@
+//! The handles by which threads query.
+ghost use Rattle.std.specs.Prelude.{◌≡◌, IfOk, OnOk, OnErr};
+ghost use Rattle.left_right.specs.Sides.{view};
+ghost use Rattle.rules.specs.Answers.{reply, row_answer, range_answer, history_answer, first_use_answer, block_answer, height_answer};
+ghost use Rattle.query.specs.Published.{GoesOn, Learns, watched_world};
+ghost use Rattle.query.specs.Rule.{IsTold};
+
+use crate::answers::{QueryFault, RangeRows, Reply};
+use crate::asking;
+use crate::front::Front;
+use crate::question::{BlockOf, FirstUseOf, Height, HistoryOf, Question, RowAt, RowsIn};
+use crate::receipt::Receipt;
+use crate::shown::{Shown, ShownReader};
+use rules::{CommittedBlock, FirstUse, HistoryEntry, Row};
+use std::alloc::Global;
+use std::marker::Model;
+use transaction::TxId;
+use values::{BoundRef, Items, KeyRef, NameRef};
+
+/// Asks of what is published, for one thread. Each answer comes from one height, never below one that the handle has seen or
+/// was told of.
+///
+/// A query takes no lock and doesn't wait: it costs an entry, two atomic steps to come and two to go, the look-up and a copy
+/// of the answer. While it lasts, the publisher waits for it at the next publish but one.
+#[derive(Drop)]
+pub struct QueryHandle {
+    reader: ShownReader,
+    known: Front,
+}
+
+impl Model for QueryHandle {
+    ghost use Rattle.query.specs.Published.{Watch};
+    ghost use Rattle.query.specs.Code.{watch_code};
+
+    ghost Value = { Watch };
+
+    ghost coded = { watch_code };
+
+    ghost use Rattle.left_right.specs.Sides.{view as told_to};
+    ghost use Rattle.query.specs.Rule.{IsTold, base_of};
+
+    ghost view = { λ h. record { book = h.known.book; base = base_of (told_to h.reader.place); list = h.known.list } };
+
+    ghost invariant = { λ h. IsTold (told_to h.reader.place) (base_of (told_to h.reader.place)) h.known.book };
+}
+
+impl QueryHandle {
+    /// Of a reader that was told of what is shown.
+    pub(crate) fn over(reader: ShownReader, shown: &Shown) -> QueryHandle
+        requires { IsTold (view reader.place) shown.now.world shown.now.front.book }
+        ensures { result ≡ record { book = shown.now.front.book; base = shown.now.world; list = shown.now.front.list } }
+    {
+        QueryHandle {
+            reader,
+            known: shown.front.again(),
+        }
+    }
+
+    /// From now on no answer is of a height below the receipt's. The receipt is one of the publisher that the handle was
+    /// opened with. Constant time, no memory.
+    pub fn learn(&mut self, receipt: &Receipt)
+        requires { receipt.now.front.book ≡ self.old.book }
+        ensures { Learns self.old receipt.now.front.list self.new }
+    {
+        if self.known.begins(&receipt.front) {
+            self.known = receipt.front.again();
+        }
+    }
+
+    fn ask<Q: Question>(&mut self, question: Q) -> Result<Reply<Q::Answer>, QueryFault>
+        ensures goes_on { OnOk result (GoesOn self.old self.new) }
+        ensures reply { IfOk result (λ r. r ≡ reply (watched_world self.new) (Q.answer_in question (watched_world self.new))) }
+        ensures err { OnErr result (self.new ≡ self.old) }
+    {
+        let known = self.known.again();
+        let (front, reply) = asking::ask(&mut self.reader, known, question)?;
+        self.known = front;
+        Ok(reply)
+    }
+
+    /// What the state has at a key. Logarithmic in the number of rows; the value and the policy are shared, so that no
+    /// memory is taken.
+    pub fn get(
+        &mut self,
+        namespace: &NameRef<'_>,
+        key: &KeyRef<'_>,
+    ) -> Result<Reply<Option<Row>>, QueryFault>
+        ensures goes_on { OnOk result (GoesOn self.old self.new) }
+        ensures reply { IfOk result (λ r. r ≡ reply (watched_world self.new) (row_answer (watched_world self.new) (namespace.now, key.now))) }
+        ensures err { OnErr result (self.new ≡ self.old) }
+    {
+        self.ask(RowAt {
+            namespace: namespace.again(),
+            key: key.again(),
+        })
+    }
+
+    /// The rows of a namespace from a start to before an end, up to a limit; an empty end is no bound. Logarithmic in the
+    /// number of rows, and linear in those that are answered, whose keys are copied.
+    pub fn range(
+        &mut self,
+        alloc: Global,
+        namespace: &NameRef<'_>,
+        start: &BoundRef<'_>,
+        end: &BoundRef<'_>,
+        limit: usize,
+    ) -> Result<Reply<RangeRows>, QueryFault>
+        ensures goes_on { OnOk result (GoesOn self.old self.new) }
+        ensures reply { IfOk result (λ r. r ≡ reply (watched_world self.new) (range_answer (watched_world self.new) namespace.now start.now end.now limit)) }
+        ensures err { OnErr result (self.new ≡ self.old) }
+    {
+        self.ask(RowsIn {
+            alloc,
+            namespace: namespace.again(),
+            start: start.again(),
+            end: end.again(),
+            limit,
+        })
+    }
+
+    /// The value writes and deletes of a key, the newest first. Linear in their number; the values are shared.
+    pub fn history(
+        &mut self,
+        alloc: Global,
+        namespace: &NameRef<'_>,
+        key: &KeyRef<'_>,
+    ) -> Result<Reply<Items<HistoryEntry>>, QueryFault>
+        ensures goes_on { OnOk result (GoesOn self.old self.new) }
+        ensures reply { IfOk result (λ r. r ≡ reply (watched_world self.new) (history_answer (watched_world self.new) (namespace.now, key.now))) }
+        ensures err { OnErr result (self.new ≡ self.old) }
+    {
+        self.ask(HistoryOf {
+            alloc,
+            namespace: namespace.again(),
+            key: key.again(),
+        })
+    }
+
+    /// Where an id was used first, with that transaction's flag. Constant time, no memory.
+    pub fn flag_of(&mut self, id: &TxId) -> Result<Reply<Option<FirstUse>>, QueryFault>
+        ensures goes_on { OnOk result (GoesOn self.old self.new) }
+        ensures reply { IfOk result (λ r. r ≡ reply (watched_world self.new) (first_use_answer (watched_world self.new) id.now)) }
+        ensures err { OnErr result (self.new ≡ self.old) }
+    {
+        self.ask(FirstUseOf { id: *id })
+    }
+
+    /// The block of a number, if there is one. Its bytes and flags are copied.
+    pub fn block(
+        &mut self,
+        alloc: Global,
+        number: u64,
+    ) -> Result<Reply<Option<CommittedBlock>>, QueryFault>
+        ensures goes_on { OnOk result (GoesOn self.old self.new) }
+        ensures reply { IfOk result (λ r. r ≡ reply (watched_world self.new) (block_answer (watched_world self.new) number)) }
+        ensures err { OnErr result (self.new ≡ self.old) }
+    {
+        self.ask(BlockOf { alloc, number })
+    }
+
+    /// The number of blocks. Constant time, no memory.
+    pub fn height(&mut self) -> Result<Reply<u64>, QueryFault>
+        ensures goes_on { OnOk result (GoesOn self.old self.new) }
+        ensures reply { IfOk result (λ r. r ≡ reply (watched_world self.new) (height_answer (watched_world self.new))) }
+        ensures err { OnErr result (self.new ≡ self.old) }
+    {
+        self.ask(Height)
+    }
+}

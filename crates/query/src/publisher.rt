@@ -1,0 +1,178 @@
+//! The one who publishes.
+ghost use Rattle.std.specs.Prelude.{◌≡◌, [], ◌∷◌, ◌++◌, false, true, drop, IfOk, OnOk, OnErr};
+ghost use Rattle.left_right.specs.Sides.{view};
+ghost use Rattle.rules.specs.World.{height_of};
+ghost use Rattle.rules.specs.Linked.{IsLinkedDelta};
+ghost use Rattle.query.specs.Published.{published_world};
+ghost use Rattle.query.specs.Counted.{counter_of};
+ghost use Rattle.query.specs.Rule.{IsTold, absorbed};
+
+use crate::front::{Counter, Front};
+use crate::receipt::Receipt;
+use crate::shown::{Entry, Sees, ShownWriter};
+use core::mem::replace_with;
+use rules::Delta;
+use std::alloc::{AllocError, Global};
+use std::marker::Model;
+use std::sync::Wait;
+use world::World;
+
+/// Publishes blocks, each whole. It isn't `Drop`: `close` ends it.
+///
+/// It keeps two worlds, one that readers take and one that it makes the next of. Both own the same values, keys, policies and
+/// block bytes, those of the deltas; no world is ever copied.
+pub struct Publisher {
+    alloc: Global,
+    counter: Counter,
+    front: Front,
+    writer: ShownWriter,
+    failed: bool,
+}
+
+impl Model for Publisher {
+    ghost use Rattle.query.specs.Published.{Publishing};
+    ghost use Rattle.query.specs.Code.{publishing_code};
+
+    ghost Value = { Publishing };
+
+    ghost coded = { publishing_code };
+
+    ghost use Rattle.std.specs.Prelude.{◌≡◌, [], false, drop};
+    ghost use Rattle.left_right.specs.Sides.{view as told_to};
+    ghost use Rattle.query.specs.Counted.{counter_of};
+    ghost use Rattle.query.specs.Rule.{IsTold, IsShown, base_of};
+
+    ghost view = { λ p. record { book = p.front.book; base = base_of (told_to p.writer.desk.place); list = p.front.list; failed = p.failed } };
+
+    ghost invariant = { λ p. (p.counter ≡ counter_of p.front.book)
+        × IsTold (told_to p.writer.desk.place) (base_of (told_to p.writer.desk.place)) p.front.book
+        × IsShown (base_of (told_to p.writer.desk.place)) p.front p.writer.desk.shown.value
+        × (p.failed ≡ false → drop p.writer.behind p.writer.log.items ≡ []) };
+}
+
+/// The writer, which shows readers one delta more.
+fn shown<R: Wait>(
+    mut writer: ShownWriter,
+    rt: &R,
+    entry: Entry,
+) -> (ShownWriter, Result<(), AllocError>)
+    requires none { drop writer.behind writer.log.items ≡ [] }
+    requires linked { IsLinkedDelta writer.desk.shown.value.world entry.delta }
+    requires list { entry.front.list ≡ writer.desk.shown.value.front.list ++ entry.delta ∷ [] }
+    requires book { entry.front.book ≡ writer.desk.shown.value.front.book }
+    ensures place { view result.0.desk.place ≡ view writer.desk.place }
+    ensures ok { OnOk result.1 (result.0.desk.shown.value ≡ absorbed writer.desk.shown.value entry) }
+    ensures none { OnOk result.1 (drop result.0.behind result.0.log.items ≡ []) }
+    ensures err { OnErr result.1 (result.0.desk.shown.value ≡ writer.desk.shown.value) }
+{
+    let Ok(()) = writer.append(entry) else {
+        return (writer, Err(AllocError));
+    };
+    writer.publish_as::<Sees, R>(rt)
+}
+
+/// Shows readers one delta more.
+fn show<R: Wait>(rt: &R, writer: &mut ShownWriter, entry: Entry) -> Result<(), AllocError>
+    requires none { drop writer.old.behind writer.old.log.items ≡ [] }
+    requires linked { IsLinkedDelta writer.old.desk.shown.value.world entry.delta }
+    requires list { entry.front.list ≡ writer.old.desk.shown.value.front.list ++ entry.delta ∷ [] }
+    requires book { entry.front.book ≡ writer.old.desk.shown.value.front.book }
+    ensures place { view writer.new.desk.place ≡ view writer.old.desk.place }
+    ensures ok { OnOk result (writer.new.desk.shown.value ≡ absorbed writer.old.desk.shown.value entry) }
+    ensures none { OnOk result (drop writer.new.behind writer.new.log.items ≡ []) }
+    ensures err { OnErr result (writer.new.desk.shown.value ≡ writer.old.desk.shown.value) }
+{
+    replace_with(
+        writer,
+        (rt, entry),
+        |writer, (rt, entry)| shown(writer, rt, entry),
+    )
+}
+
+impl Publisher {
+    /// Over a writer that was told of what it shows, the first of a list.
+    pub(crate) fn over(
+        alloc: Global,
+        counter: Counter,
+        front: Front,
+        writer: ShownWriter,
+    ) -> Publisher
+        requires counter { counter ≡ counter_of front.book }
+        requires told { IsTold (view writer.desk.place) writer.desk.shown.value.world front.book }
+        requires shown { writer.desk.shown.value.front ≡ front }
+        requires empty { front.list ≡ [] }
+        requires none { drop writer.behind writer.log.items ≡ [] }
+        ensures { result ≡ record { book = front.book; base = writer.desk.shown.value.world; list = []; failed = false } }
+    {
+        Publisher {
+            alloc,
+            counter,
+            front,
+            writer,
+            failed: false,
+        }
+    }
+
+    /// Whether a publish has failed: then nothing more is published.
+    pub fn failed(&self) -> bool
+        ensures { result ≡ self.now.failed }
+    {
+        self.failed
+    }
+
+    /// What readers take now. Constant time.
+    pub fn published(&self) -> &World
+        ensures { result.now ≡ published_world self.now }
+    {
+        &self.writer.published().world
+    }
+
+    /// Publishes the next block, whole: from now on queries answer from the world after it.
+    ///
+    /// An `Err` publishes nothing, and leaves the publisher failed. Costs the delta twice, once for each world. It waits for
+    /// queries that began before the publish before this one.
+    pub fn publish<R: Wait>(&mut self, rt: &R, delta: Delta) -> Result<Receipt, AllocError>
+        requires linked { IsLinkedDelta (published_world self.old) delta }
+        requires open { self.old.failed ≡ false }
+        ensures ok { OnOk result (self.new ≡ record self.old { list = self.old.list ++ delta ∷ [] }) }
+        ensures number { IfOk result (λ r. r.number ≡ height_of (published_world self.old)) }
+        ensures height { IfOk result (λ r. r.height ≡ height_of (published_world self.new)) }
+        ensures block { IfOk result (λ r. (r.header_hash ≡ delta.block.header_hash) × (r.flags ≡ delta.block.flags)) }
+        ensures front { IfOk result (λ r. r.front ≡ record { book = self.new.book; list = self.new.list }) }
+        ensures err { OnErr result (self.new ≡ record self.old { failed = true }) }
+    {
+        self.failed = true;
+        let number = self.writer.published().world.height();
+        let header_hash = delta.block.get().header_hash;
+        let flags = delta.block.get().flags.copy(self.alloc)?;
+        let Some(front) = self.front.with(&self.counter, &delta) else {
+            return Err(AllocError);
+        };
+        let entry = Entry {
+            delta,
+            front: front.again(),
+        };
+        show(rt, &mut self.writer, entry)?;
+        self.front = front.again();
+        self.failed = false;
+        Ok(Receipt {
+            number,
+            height: self.writer.published().world.height(),
+            header_hash,
+            flags,
+            front,
+        })
+    }
+
+    /// Ends the publisher, and waits for queries that have begun. Handles get no entry from then on.
+    pub fn close<R: Wait>(self, rt: &R) {
+        let Publisher {
+            alloc: _,
+            counter: _counter,
+            front: _front,
+            writer,
+            failed: _,
+        } = self;
+        drop(writer.take(rt));
+    }
+}

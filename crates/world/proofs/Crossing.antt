@@ -1,0 +1,99 @@
+-- A world may cross threads, and so may a delta. Where a type holds a policy, which is a tree, the search for this is too long as a
+-- whole, so it goes part by part.
+use denote.Param.Send.{IsSend, IsSync, sendable}
+use Rattle.std.proofs.Crossing.{crosses}
+use Rattle.std.proofs.MapsCrossing as maps
+use Rattle.std.proofs.option.Option.TheSendSync as option
+use Rattle.std.proofs.alloc.Global.TheSendSync as heap
+use Rattle.std.proofs.vec.Vec.TheSendSync as vec
+use Rattle.values.proofs.bytes.Bytes.TheSendSync as bytes
+use Rattle.values.proofs.items.Items.TheSendSync as items
+use Rattle.values.proofs.key.Key.TheSendSync as key
+use Rattle.values.proofs.name.Name.TheSendSync as name
+use Rattle.values.proofs.shared.Shared.TheSendSync as shared
+use Rattle.transaction.proofs.transaction.Version.TheSendSync as version
+use Rattle.policy.proofs.tree.Expression.TheLaws.TheKnot as knot
+use Rattle.policy.proofs.tree.Principal.TheSendSync as principal
+use Rattle.policy.specs.contracts.policy.Policy as policy
+use Rattle.rules.proofs.committed.CommittedBlock.TheSendSync as committed
+use Rattle.rules.proofs.delta.NewEntry.TheSendSync as new_entry
+use Rattle.rules.proofs.delta.NewUse.TheSendSync as new_use
+use Rattle.rules.proofs.flag.Flag.TheSendSync as flag
+use Rattle.rules.specs.contracts.delta.Change as change
+use Rattle.rules.specs.contracts.delta.Delta as delta
+use Rattle.rules.specs.contracts.keyed_row.KeyedRow as keyed_row
+use Rattle.rules.specs.contracts.row.Row as row
+use Rattle.history_index.proofs.index.HistoryIndex.TheSendSync as history
+use Rattle.state_db.specs.contracts.state_db.StateDb as state
+use Rattle.txid_index.proofs.ids.TxIds.TheSendSync as ids
+use Rattle.world.specs.contracts.world.World as world
+
+pub ruleset crossing = (
+  sendable,
+  crosses,
+  option.the_send,
+  option.the_sync,
+  heap.the_send,
+  heap.the_sync,
+  vec.the_send,
+  vec.the_sync,
+  bytes.the_send,
+  bytes.the_sync,
+  items.the_send,
+  items.the_sync,
+  key.the_send,
+  key.the_sync,
+  name.the_send,
+  name.the_sync,
+  shared.the_send,
+  shared.the_sync,
+  version.the_send,
+  version.the_sync,
+  flag.the_send,
+  flag.the_sync,
+)
+
+-- what a policy is made of
+ruleset in_policies = (principal.the_send, principal.the_sync, knot.send-Expression, knot.sync-Expression)
+
+policy_send : IsSend policy.the_row
+policy_send = search (crossing, in_policies) depth 40 fits 100000
+
+policy_sync : IsSync policy.the_row
+policy_sync = search (crossing, in_policies) depth 40 fits 100000
+
+pub row_send : IsSend row.the_row
+row_send = search (crossing, policy_send, policy_sync) depth 40 fits 100000
+
+pub row_sync : IsSync row.the_row
+row_sync = search (crossing, policy_send, policy_sync) depth 40 fits 100000
+
+pub keyed_row_send : IsSend keyed_row.the_row
+keyed_row_send = search (crossing, policy_send, policy_sync) depth 40 fits 100000
+
+pub keyed_row_sync : IsSync keyed_row.the_row
+keyed_row_sync = search (crossing, policy_send, policy_sync) depth 40 fits 100000
+
+state_send : IsSend state.the_row
+state_send = search (crossing, policy_send, policy_sync) depth 40 fits 100000
+
+state_sync : IsSync state.the_row
+state_sync = search (crossing, policy_send, policy_sync) depth 40 fits 100000
+
+pub world_send : IsSend world.the_row
+world_send = search (crossing, state_send, history.the_send, ids.the_send, committed.the_send, committed.the_sync) depth 40 fits 100000
+
+pub world_sync : IsSync world.the_row
+world_sync = search (crossing, state_sync, history.the_sync, ids.the_sync, committed.the_send, committed.the_sync) depth 40 fits 100000
+
+change_send : IsSend change.the_row
+change_send = search (crossing, policy_send, policy_sync) depth 40 fits 100000
+
+change_sync : IsSync change.the_row
+change_sync = search (crossing, policy_send, policy_sync) depth 40 fits 100000
+
+pub delta_send : IsSend delta.the_row
+delta_send = search (crossing, change_send, new_entry.the_send, new_entry.the_sync, new_use.the_send, committed.the_send, committed.the_sync) depth 40 fits 100000
+
+pub delta_sync : IsSync delta.the_row
+delta_sync = search (crossing, change_sync, new_entry.the_send, new_entry.the_sync, new_use.the_sync, committed.the_send, committed.the_sync) depth 40 fits 100000
