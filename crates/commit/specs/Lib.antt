@@ -1,4 +1,6 @@
 pub mod Changes
+pub mod Committing
 pub mod Contents
 pub mod NextDelta
+pub mod Running
 pub mod Submissions

@@ -1,11 +1,19 @@
-//! The ledger: blocks in, flags and hashes out, one block after the other.
+//! The ledger, which takes blocks on one thread, and the committer, whose workers check them while others query.
 #![tactic(auto)]
 
+mod by_workers;
+mod committer;
 mod ledger;
 mod next_delta;
+mod not_committed;
+mod opening;
 mod serial;
 
 pub use channel::{Channel, ChannelFault};
+pub use committer::Committer;
 pub use ledger::Ledger;
+pub use not_committed::NotCommitted;
+pub use opening::{MAX_WORKERS, OpenFault};
+pub use query::{QueryFault, QueryHandle, RangeRows, Receipt, Reply};
 pub use rules::{Accepted, CommittedBlock, Delta, Flag, Refused};
 pub use world::World;

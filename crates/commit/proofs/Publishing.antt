@@ -1,0 +1,67 @@
+-- The delta of the next block may be published, and once it is, the block is committed.
+use Rattle.std.proofs.Common.{◌≡◌, ℕ, false, List, [], ◌∷◌, ◌++◌, length, refl, sym, ap, subst, ◌∙◌}
+use Rattle.std.proofs.lemmas.List.{length-map}
+use Rattle.block.specs.Grammar.{Spells}
+use Rattle.channel.specs.Configuration.{Configuration}
+use Rattle.policy_eval.specs.Accepts.{Accepts}
+use Rattle.rules.specs.declared.committed.CommittedBlock.{CommittedBlock}
+use Rattle.rules.specs.declared.delta.Delta.{Delta}
+use Rattle.rules.specs.Commit.{txs_of, job_of}
+use Rattle.rules.specs.Delta.{applied}
+use Rattle.rules.specs.Linked.{IsLinkedDelta}
+use Rattle.rules.specs.World.{World, empty_world, height_of}
+use Rattle.rules.proofs.BlockFlags.{length-flags}
+use Rattle.rules.proofs.Candidates.{length-candidates_from}
+use Rattle.query.specs.declared.receipt.Receipt.{Receipt}
+use Rattle.query.specs.Published.{Publishing, applied_all, published_world}
+use Rattle.commit.specs.NextDelta.{IsNextDelta}
+use Rattle.commit.specs.Committing.{Committing, IsCommitted, accepted_in}
+use Rattle.commit.proofs.NextDeltas.{next_delta-step}
+
+-- nothing stands where nothing was published
+pub opened_empty : (p : Publishing) → p.base ≡ empty_world → p.list ≡ [] → published_world p ≡ empty_world
+opened_empty p base list = ap (applied_all p.base) list ∙ base
+
+module _ (channel : Configuration) (accepts : Accepts) where
+  pub next-linked : (w : World) (bytes : List ℕ) (d : Delta) → IsNextDelta channel accepts w bytes d → IsLinkedDelta w d
+  next-linked w bytes d next =
+      let b = next.block in
+      record {
+        block = b;
+        spelled = subst (λ (k : CommittedBlock). Spells k.bytes b) (sym next.delta.block) next.spelled;
+        linked = next.linked;
+        header_hash = ap (λ (k : CommittedBlock). k.header_hash) next.delta.block;
+        flags = ap (λ (k : CommittedBlock). length k.flags) next.delta.block
+        ∙ (length-flags (job_of channel accepts w (txs_of b)) ∙ (length-candidates_from channel accepts w.first_uses [] (txs_of b) ∙ length-map b.txs _));
+      }
+
+  -- of what a publisher publishes to the handles of its book
+  abbrev pub committing : Publishing → Committing
+  committing p = record { channel = channel; book = p.book; list = p.list; stopped = p.failed }
+
+  applied_all-more : (w : World) (ds : List Delta) (d : Delta) → applied_all w (ds ++ d ∷ []) ≡ applied (applied_all w ds) d
+  applied_all-more w [] d = refl
+  applied_all-more w (e ∷ ds) d = applied_all-more (applied w e) ds d
+
+  pub committed : (old new : Publishing) (w : World) (bytes : List ℕ) (d : Delta) (r : Receipt)
+      → old.failed ≡ false → old.base ≡ empty_world → w ≡ published_world old → IsNextDelta channel accepts w bytes d
+      → new ≡ record old { list = old.list ++ d ∷ [] }
+      → r.number ≡ height_of (published_world old) → r.height ≡ height_of (published_world new)
+      → r.header_hash ≡ d.block.header_hash → r.flags ≡ d.block.flags → r.front ≡ record { book = new.book; list = new.list }
+      → IsCommitted accepts (committing old) bytes r (committing new)
+  committed old new w bytes d r going empty own next published number height hash flags told =
+      let before : World = applied_all empty_world old.list in
+      let is_before : published_world old ≡ before = ap (λ (u : World). applied_all u old.list) empty in
+      let own_is : w ≡ before = own ∙ is_before in
+      let list : new.list ≡ old.list ++ d ∷ [] = ap (λ (p : Publishing). p.list) published in
+      let base : new.base ≡ empty_world = ap (λ (p : Publishing). p.base) published ∙ empty in
+      let after : applied_all empty_world new.list ≡ applied before d = ap (applied_all empty_world) list ∙ applied_all-more empty_world old.list d in
+      let next' : IsNextDelta channel accepts before bytes d = subst (λ (u : World). IsNextDelta channel accepts u bytes d) own_is next in
+      record {
+        going = going;
+        step = next_delta-step channel accepts before bytes d (accepted_in r) (applied_all empty_world new.list) next' (λ i. record { number = (number ∙ ap height_of is_before) i; header_hash = hash i; flags = flags i }) after;
+        height = height ∙ ap (λ (u : World). height_of (applied_all u new.list)) base;
+        delta = d;
+        published = ap committing published;
+        told = told;
+      }

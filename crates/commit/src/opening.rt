@@ -1,0 +1,31 @@
+use thiserror::Error;
+
+/// The most workers that a committer has.
+pub const MAX_WORKERS: usize = 64;
+
+/// Why a committer isn't opened: the first that holds. Want of memory may come in the place of the last two.
+#[derive(Clone, Copy, Debug, PartialEq, Eq, Error)]
+pub enum OpenFault {
+    /// Not 1 to 64 workers.
+    #[error("not 1 to 64 workers")]
+    Workers,
+    /// More than 32 readers.
+    #[error("more than 32 readers")]
+    Readers,
+    /// There was no place for a reader, which doesn't happen.
+    #[error("no place for a reader")]
+    NoPlace,
+    /// A growth was refused.
+    #[error("out of memory")]
+    Memory,
+}
+
+impl From<query::OpenFault> for OpenFault {
+    fn from(fault: query::OpenFault) -> OpenFault {
+        match fault {
+            query::OpenFault::Readers => OpenFault::Readers,
+            query::OpenFault::NoPlace => OpenFault::NoPlace,
+            query::OpenFault::Memory => OpenFault::Memory,
+        }
+    }
+}
