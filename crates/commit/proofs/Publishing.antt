@@ -32,7 +32,7 @@ module _ (channel : Configuration) (accepts : Accepts) where
         linked = next.linked;
         header_hash = ap (λ (k : CommittedBlock). k.header_hash) next.delta.block;
         flags = ap (λ (k : CommittedBlock). length k.flags) next.delta.block
-        ∙ (length-flags (job_of channel accepts w (txs_of b)) ∙ (length-candidates_from channel accepts w.first_uses [] (txs_of b) ∙ length-map b.txs _));
+            ∙ (length-flags (job_of channel accepts w (txs_of b)) ∙ (length-candidates_from channel accepts w.first_uses [] (txs_of b) ∙ length-map b.txs _));
       }
 
   -- of what a publisher publishes to the handles of its book

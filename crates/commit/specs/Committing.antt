@@ -49,3 +49,11 @@ Submits accepts old bytes (Err (Refused refused)) new = (old.stopped ≡ false) 
 Submits accepts old bytes (Err MemoryInCommit) new =
     (old.stopped ≡ false) × ((b : Block) × Spells bytes b × IsLinked (world_of old) b) × (new ≡ record old { stopped = true })
 Submits accepts old bytes (Err Stopped) new = (old.stopped ≡ true) × (new ≡ old)
+
+-- from old, these strings have these answers, one after the other, and new is what the committer is after them
+abbrev pub Runs : Accepts → Committing → List (List ℕ) → List (Result Receipt NotCommitted) → Committing → Type 0
+Runs accepts old [] [] new = new ≡ old
+Runs accepts old (bytes ∷ blocks) (answer ∷ answers) new =
+    (mid : Committing) × Submits accepts old bytes answer mid × Runs accepts mid blocks answers new
+Runs accepts old [] (answer ∷ answers) new = ⊥
+Runs accepts old (bytes ∷ blocks) [] new = ⊥

@@ -2,5 +2,6 @@ pub mod Changes
 pub mod Committing
 pub mod Contents
 pub mod NextDelta
+pub mod OpenFaults
 pub mod Running
 pub mod Submissions

@@ -1,7 +1,7 @@
-ghost use Rattle.std.specs.Prelude.{◌≡◌, [], false, length, IfOk};
+ghost use Rattle.std.specs.Prelude.{◌≡◌, ◌≤◌, ◌<◌, ◌↔◌, ◌⊎◌, [], false, length, Err, IfOk, OnErr};
 ghost use Rattle.std.specs.List.{All};
 ghost use Rattle.rules.specs.World.{empty_world};
-ghost use Rattle.commit.specs.Committing.{Submits};
+ghost use Rattle.commit.specs.Committing.{Submits, Runs};
 
 use crate::by_workers::next_delta;
 use crate::not_committed::NotCommitted;
@@ -11,10 +11,11 @@ use gates::Gate;
 use policy_eval::Verify;
 use query::{Publisher, QueryHandle, Receipt};
 use rules::Refused;
-use std::alloc::Global;
+use std::alloc::{AllocError, Global};
 use std::marker::Model;
 use std::sync::Wait;
 use std::thread::Threads;
+use values::Bytes;
 use world::World;
 
 /// The committer of one channel, which takes blocks one by one, checks each by many workers, and publishes it to handles
@@ -60,6 +61,8 @@ impl Committer {
         ensures committer { IfOk result (λ r. (r.0.channel ≡ channel) × (r.0.list ≡ []) × (r.0.stopped ≡ false)) }
         ensures count { IfOk result (λ r. length r.1.items ≡ readers) }
         ensures handles { IfOk result (λ r. All (λ h. h ≡ record { book = r.0.book; base = empty_world; list = [] }) r.1.items) }
+        ensures workers { (result ≡ Err OpenFault.Workers) ↔ ((workers ≡ 0) ⊎ (64 < workers)) }
+        ensures readers { (result ≡ Err OpenFault.Readers) ↔ ((1 ≤ workers) × (workers ≤ 64) × (32 < readers)) }
     {
         if workers < 1 || workers > MAX_WORKERS {
             return Err(OpenFault::Workers);
@@ -121,6 +124,25 @@ impl Committer {
             }
             Err(_) => Err(NotCommitted::MemoryInCommit),
         }
+    }
+
+    /// Takes the bytes of blocks one after the other, each as `submit` does, and answers to all.
+    /// An `Err` means that no block was handed in.
+    pub fn run<R: Threads + Wait + Sync, V: Verify + Sync, G: Gate + Sync>(
+        &mut self,
+        rt: &R,
+        blocks: &[Bytes],
+        verifier: &V,
+        gate: &G,
+    ) -> Result<Vec<Result<Receipt, NotCommitted>>, AllocError>
+        ensures runs { IfOk result (λ answers. Runs (V.accepts verifier.now) self.old blocks.now answers.items self.new) }
+        ensures err { OnErr result (self.new ≡ self.old) }
+    {
+        let mut answers = Vec::with_capacity(self.alloc, blocks.len())?;
+        for bytes in blocks {
+            answers.push_reserved(self.submit(rt, bytes.as_slice(), verifier, gate));
+        }
+        Ok(answers)
     }
 
     /// Ends it, and lets its handles go on with what was published.

@@ -1,3 +1,6 @@
+ghost use Rattle.std.specs.Prelude.{◌≡◌};
+ghost use Rattle.commit.specs.OpenFaults.{open_fault_of};
+
 use thiserror::Error;
 
 /// The most workers that a committer has.
@@ -21,6 +24,8 @@ pub enum OpenFault {
 }
 
 impl From<query::OpenFault> for OpenFault {
+    ghost from_gives = { λ fault e. e ≡ open_fault_of fault };
+
     fn from(fault: query::OpenFault) -> OpenFault {
         match fault {
             query::OpenFault::Readers => OpenFault::Readers,

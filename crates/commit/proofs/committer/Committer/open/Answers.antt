@@ -1,4 +1,4 @@
-use Rattle.std.proofs.Common.{[], sym, ap, ◌∙◌, arith}
+use Rattle.std.proofs.Common.{[], sym, ap, ◌∙◌, ⊎_elim, arith}
 use Rattle.rules.specs.World.{World}
 use Rattle.query.specs.Published.{Watch}
 use Rattle.commit.proofs.Publishing.{opened_empty}
@@ -19,3 +19,9 @@ pub returns-clause-handles : goal.returns-clause-handles
 returns-clause-handles g c k d lt =
     let opened : World → Watch = λ w. record { book = c.in_ok-publisher.publisher.book; base = w; list = [] } in
     c.in_ok-publisher.ensures.handles k d lt ∙ ap opened c.new.ensures
+
+pub returns-clause-workers : goal.returns-clause-workers
+returns-clause-workers g c = (
+  (λ is. absurd cc),
+  (λ outside. ⊎_elim (λ none. absurd (omega (arith, none, c.if-workers-lt1.false))) (λ many. absurd (omega (arith, many, c.if-workers-gt-MAX_WORKERS.false))) outside),
+)

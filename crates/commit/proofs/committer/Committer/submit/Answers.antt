@@ -19,4 +19,4 @@ returns-in-Ok g c =
     let e = c.in-Ok.ensures in
     subst (λ (self : Committing). IsCommitted accepts self c.args.bytes.now c.in-Ok.receipt (committing c.self.inside.channel accepts c.publish.new.self)) c.self.view_is
     (committed c.self.inside.channel accepts old c.publish.new.self c.self.inside.world c.args.bytes.now c.in_ok-delta.delta c.in-Ok.receipt
-      going c.self.invariant.empty (c.self.invariant.same going) c.in_ok-delta.ensures e.ok e.number e.height e.block.0 e.block.1 e.front)
+    going c.self.invariant.empty (c.self.invariant.same going) c.in_ok-delta.ensures e.ok e.number e.height e.block.0 e.block.1 e.front)
