@@ -3,6 +3,7 @@
 Who imports it finds the modules of `vectors/` too.
 """
 
+import os
 import pathlib
 import shutil
 import subprocess
@@ -13,10 +14,31 @@ RUNS = 5
 sys.path.append(str(TOP / "vectors"))
 
 
-def build(folder, name, source, own, kit):
-    """A program of one file, over copies of `own` crates of this repository and over crates of the kit; its path.
+def link(file, at):
+    """The same file once more, or a copy where a folder's file system is another one."""
+    try:
+        os.link(file, at)
+    except OSError:
+        shutil.copy2(file, at)
 
-    `own` has all crates that the program stands on, lowest first.
+
+def take(crate, at):
+    """A crate's sources, copied, and its built library, linked.
+
+    rt leaves a built library as it is, and takes a stale one's folder away before it makes another: so it writes nothing
+    into the repository's. What rt keeps to prove a crate again is left out.
+    """
+    shutil.copytree(crate, at, symlinks=True, ignore=lambda folder, _: ["out"] if folder == str(crate) else [])
+    library = crate / "out" / "rlib"
+    if library.is_dir():
+        shutil.copytree(library, at / "out" / "rlib", symlinks=True, copy_function=link)
+
+
+def build(folder, name, source, own, kit):
+    """A program of one file, over `own` crates of this repository and over crates of the kit; its path.
+
+    `own` has all crates that the program stands on, lowest first. One whose library isn't built is proved in the scratch
+    folder, each time anew: build them first.
     """
     crates = folder / "crates"
     (crates / name / "src").mkdir(parents=True)
@@ -28,7 +50,7 @@ def build(folder, name, source, own, kit):
     needed = [line for line in lines if line.split(":")[0] in own]
     (folder / "crates.txt").write_text("\n".join(needed + [f"{name}: {' '.join(own + kit)}"]) + "\n")
     for crate in own:
-        shutil.copytree(TOP / "crates" / crate, crates / crate, symlinks=True)
+        take(TOP / "crates" / crate, crates / crate)
     built = subprocess.run(["rt", "run"], cwd=crates / name, capture_output=True, text=True, check=False)
     program = crates / name / "out" / name
     if not program.exists():

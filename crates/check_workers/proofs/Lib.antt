@@ -1,4 +1,6 @@
 mod Words
 mod Found
 mod Steps
+mod Items
+mod DequeEnds
 mod Crossing

@@ -2,3 +2,4 @@ pub mod Cells
 pub mod Words
 pub mod Seats
 pub mod Laws
+pub mod Turns

@@ -44,9 +44,9 @@ fn open<'a>(alloc: Global, job: &Job<'a>) -> Result<(Words<'a>, Place), AllocErr
 /// checks. Each passes the gate before each check.
 ///
 /// No more workers are started than there are candidates, since the two checks of one come one after the other. One that
-/// can't be started is done without; what no worker has found is found here, in order. Takes two words for each
-/// candidate, a desk of tasks, and what threads take. Costs what the checks cost, each tried again once for each time
-/// that it was blocked.
+/// can't be started, or gets no deque, is done without; what no worker has found is found here, in order. Takes two words
+/// for each candidate, a desk of tasks, a deque for each worker, and what threads take. Costs what the checks cost, each
+/// tried again once for each time that it was blocked.
 pub fn check_all<R: Threads + Wait + Sync, G: Gate + Sync>(
     rt: &R,
     alloc: Global,
@@ -65,9 +65,10 @@ pub fn check_all<R: Threads + Wait + Sync, G: Gate + Sync>(
         });
     }
     let (words, place) = open(alloc, job)?;
-    let turns = Turns::new(alloc, count)?;
+    let workers = workers.min(count as usize);
+    let turns = Turns::new(alloc, count, workers as u32)?;
     let steps = &words.shared;
-    run(rt, job, steps, &turns, workers.min(count as usize), gate);
+    run(rt, alloc, job, steps, &turns, workers, gate);
     let mut seat = VerdictSeat::first(steps, place);
     let gathered = gather(job, &mut seat);
     let flags = flags(alloc, job, &mut seat)?;

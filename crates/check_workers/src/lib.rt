@@ -6,6 +6,7 @@
 
 mod cells;
 mod checking;
+mod deques;
 mod gathering;
 mod rule;
 mod seat;

@@ -1,10 +1,13 @@
-ghost use Rattle.std.specs.Prelude.{◌≡◌, ◌*◌, ◌<◌, length};
+ghost use Rattle.std.specs.Prelude.{◌≡◌, ◌*◌, ◌<◌, All, length};
 
+use crate::deques::{BATCH, Owner, Tasks, Thief, deques};
 use crate::rule::Steps;
 use crate::seat::VerdictSeat;
-use crate::turns::{Settled, Turns};
+use crate::turns::{Settled, Settlings, Turns};
 use gates::{Gate, Phase};
 use key_chains::Job;
+use std::alloc::Global;
+use std::marker::Brand;
 use std::sync::Wait;
 use std::thread;
 use std::thread::Threads;
@@ -17,32 +20,93 @@ fn phase_of(task: u32) -> Phase {
     }
 }
 
+/// Settles tasks that a worker has taken out.
+fn settle_all<G: Gate>(
+    job: &Job<'_>,
+    seat: &mut VerdictSeat<'_, '_>,
+    gate: &G,
+    tasks: &[u32],
+) -> Settlings
+    requires job { seat.old.job ≡ job.now }
+    requires tasks { All (λ task. task < 2 * length job.now.candidates) tasks.now }
+    ensures { seat.new.job ≡ job.now }
+{
+    let mut settled = [None; BATCH];
+    for (place, task) in settled.iter_mut().zip(tasks) {
+        let task = *task;
+        gate.at(phase_of(task), task / 2);
+        let decision = seat.settle(job, task);
+        *place = Some(Settled { task, decision });
+    }
+    settled
+}
+
 /// One worker: settles tasks until all are done.
-fn work<R: Wait, G: Gate>(rt: &R, job: &Job<'_>, steps: &Steps<'_>, turns: &Turns, gate: &G)
+fn work<J: Tasks, R: Wait, G: Gate>(
+    rt: &R,
+    job: &Job<'_>,
+    steps: &Steps<'_>,
+    turns: &Turns,
+    own: Owner<J>,
+    thieves: &[Thief<J>],
+    gate: &G,
+)
     requires job { steps.now.key ≡ job.now }
     requires words { steps.now.table_id.words ≡ 2 * length job.now.candidates }
     requires some { 0 < length job.now.candidates }
+    requires tasks { 2 * length job.now.candidates ≡ J.tasks }
 {
     let mut seat = VerdictSeat::enter(steps);
+    let mut own = own;
     let tasks = 2 * job.len();
-    let mut settled = None;
+    let mut settled = [None; BATCH];
     for _ in rt.forever() {
-        let Some(task) = turns.next(rt, settled) else {
+        let Some(taken) = turns.next(rt, &mut own, thieves, tasks, &settled) else {
             break;
         };
-        // The lock doesn't tell that the desk is this job's.
-        if task >= tasks {
-            break;
-        }
-        gate.at(phase_of(task), task / 2);
-        let decision = seat.settle(job, task);
-        settled = Some(Settled { task, decision });
+        settled = settle_all(job, &mut seat, gate, taken.as_slice());
     }
 }
 
-/// Runs so many workers, and waits until they have ended. One that can't be started is done without.
+/// Runs workers whose deques hold tasks of this job, and waits until they have ended.
+fn run_all<J: Tasks + Send + Sync, R: Threads + Wait + Sync, G: Gate + Sync>(
+    rt: &R,
+    alloc: Global,
+    job: &Job<'_>,
+    steps: &Steps<'_>,
+    turns: &Turns,
+    workers: usize,
+    gate: &G,
+)
+    requires job { steps.now.key ≡ job.now }
+    requires words { steps.now.table_id.words ≡ 2 * length job.now.candidates }
+    requires some { 0 < length job.now.candidates }
+    requires tasks { 2 * length job.now.candidates ≡ J.tasks }
+{
+    let (owners, thieves) = deques::<J>(alloc, workers);
+    let thieves = thieves.as_slice();
+    thread::scope(
+        thread::scope_env(),
+        rt,
+        |scope|
+            requires { (steps.now.key ≡ job.now) × (steps.now.table_id.words ≡ 2 * length job.now.candidates) × (0 < length job.now.candidates) × (2 * length job.now.candidates ≡ J.tasks) }
+        {
+            for own in owners {
+                let worker = move ||
+                    requires { (steps.now.key ≡ job.now) × (steps.now.table_id.words ≡ 2 * length job.now.candidates) × (0 < length job.now.candidates) × (2 * length job.now.candidates ≡ J.tasks) }
+                { work(rt, job, steps, turns, own, thieves, gate) };
+                if scope.spawn(worker).is_err() {
+                    break;
+                }
+            }
+        },
+    );
+}
+
+/// Runs so many workers, and waits until they have ended. One that can't be started, or gets no deque, is done without.
 pub(crate) fn run<R: Threads + Wait + Sync, G: Gate + Sync>(
     rt: &R,
+    alloc: Global,
     job: &Job<'_>,
     steps: &Steps<'_>,
     turns: &Turns,
@@ -53,20 +117,5 @@ pub(crate) fn run<R: Threads + Wait + Sync, G: Gate + Sync>(
     requires words { steps.now.table_id.words ≡ 2 * length job.now.candidates }
     requires some { 0 < length job.now.candidates }
 {
-    thread::scope(
-        thread::scope_env(),
-        rt,
-        |scope|
-            requires { (steps.now.key ≡ job.now) × (steps.now.table_id.words ≡ 2 * length job.now.candidates) × (0 < length job.now.candidates) }
-        {
-            for _ in 0..workers {
-                let worker = move ||
-                    requires { (steps.now.key ≡ job.now) × (steps.now.table_id.words ≡ 2 * length job.now.candidates) × (0 < length job.now.candidates) }
-                { work(rt, job, steps, turns, gate) };
-                if scope.spawn(worker).is_err() {
-                    break;
-                }
-            }
-        },
-    );
+    run_all::<Brand, R, G>(rt, alloc, job, steps, turns, workers, gate);
 }

@@ -75,8 +75,26 @@ fn batch_of(alloc: Global, rows: &[RowCase<'_>]) -> Result<Batch, Failed> {
     Ok(batch)
 }
 
+/// Which key each transaction of a block of many writes, beside the one that it reads.
+#[derive(Clone, Copy)]
+pub enum Keys {
+    /// The one that the next transaction reads.
+    OfNext,
+    /// The one that it reads, and that no other transaction does.
+    Apart,
+}
+
+impl Keys {
+    fn written(self, i: u32) -> u32 {
+        match self {
+            Keys::OfNext => i.saturating_add(1),
+            Keys::Apart => i,
+        }
+    }
+}
+
 // Each key that is read has the version that is read.
-fn batch_of_chain(alloc: Global, count: u32) -> Result<Batch, Failed> {
+fn batch_of_links(alloc: Global, count: u32) -> Result<Batch, Failed> {
     let mut batch = Batch::new(alloc);
     for i in 0..count {
         let key = format!(in alloc; "k{i}")?;
@@ -89,17 +107,17 @@ fn batch_of_chain(alloc: Global, count: u32) -> Result<Batch, Failed> {
     Ok(batch)
 }
 
-fn put_link(alloc: Global, script: &mut String, i: u32, next: u32) -> Result<(), AllocError> {
+fn put_link(alloc: Global, script: &mut String, i: u32, written: u32) -> Result<(), AllocError> {
     let link = format!(in alloc;
-        "tx Org1:client:c0 n{i} cc\nns cc\nread k{i} 0 0\nwrite k{next} v\nendorse Org1:peer:p0\n"
+        "tx Org1:client:c0 n{i} cc\nns cc\nread k{i} 0 0\nwrite k{written} v\nendorse Org1:peer:p0\n"
     )?;
     script.push_str(link.as_str())
 }
 
-fn script_of_chain(alloc: Global, count: u32) -> Result<String, AllocError> {
+fn script_of_links(alloc: Global, count: u32, keys: Keys) -> Result<String, AllocError> {
     let mut script = String::new(alloc);
     for i in 0..count {
-        put_link(alloc, &mut script, i, i + 1)?;
+        put_link(alloc, &mut script, i, keys.written(i))?;
     }
     Ok(script)
 }
@@ -186,10 +204,10 @@ impl Ground {
         Ground::over(alloc, &batch, script)
     }
 
-    /// That of a block in which each of so many transactions reads a key, and writes the key that the next one reads.
-    pub fn of_chain(alloc: Global, count: u32) -> Result<Ground, Failed> {
-        let batch = batch_of_chain(alloc, count)?;
-        let script = script_of_chain(alloc, count)?;
+    /// That of a block in which each of so many transactions reads a key of its own, and writes one.
+    pub fn of_links(alloc: Global, count: u32, keys: Keys) -> Result<Ground, Failed> {
+        let batch = batch_of_links(alloc, count)?;
+        let script = script_of_links(alloc, count, keys)?;
         Ground::over(alloc, &batch, script.as_str())
     }
 

@@ -8,31 +8,33 @@ use std::thread;
 /// How often a worker that is held looks whether it may go on.
 const TURNS: u32 = 2_000_000;
 
-/// Holds the first who enters a phase until a second one has entered it.
+/// Holds the first who enters a phase until so many others have entered it.
 #[derive(Drop)]
 pub struct Meeting {
     phase: Phase,
+    others: u32,
     entered: AtomicU32,
     met: AtomicBool,
 }
 
 impl Meeting {
-    pub fn in_phase(phase: Phase) -> Meeting {
+    pub fn of_others(others: u32, phase: Phase) -> Meeting {
         Meeting {
             phase,
+            others,
             entered: AtomicU32::new(0),
             met: AtomicBool::new(false),
         }
     }
 
-    /// Whether a second one came before the turns were over.
+    /// Whether the others came before the turns were over.
     pub fn is_met(&self) -> bool {
         self.met.load(Ordering::SeqCst)
     }
 
     fn hold(&self) {
         for _ in 0..TURNS {
-            if self.entered.load(Ordering::SeqCst) > 1 {
+            if self.entered.load(Ordering::SeqCst) > self.others {
                 self.met.store(true, Ordering::SeqCst);
                 return;
             }

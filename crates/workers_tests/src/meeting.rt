@@ -2,7 +2,7 @@
 
 ghost use Rattle.std.specs.Prelude.{◌≤◌};
 
-use crate::building::Ground;
+use crate::building::{Ground, Keys};
 use crate::failed::Failed;
 use crate::holding::{Late, Meeting};
 use check_workers::{Checked, check_all};
@@ -13,28 +13,52 @@ use std::alloc::{AllocError, Global};
 use std::sync::Wait;
 use std::thread::Threads;
 
-// Whether each second transaction of a chain is valid, each other one stale, and workers decided all.
-fn are_of_chain(checked: &Checked) -> bool {
-    checked.gathered == 0
-        && checked.flags.iter().enumerate().all(|(i, flag)| *flag
-            == if i % 2 == 0 {
-                Flag::Valid
-            } else {
-                Flag::MvccReadConflict
-            })
+// Each second transaction of a chain is valid, each other one stale.
+fn in_chain(i: usize) -> Flag {
+    if i % 2 == 0 {
+        Flag::Valid
+    } else {
+        Flag::MvccReadConflict
+    }
+}
+
+// Whether the flags are those of a block of so many, which touch the same keys or different ones, and workers decided all.
+fn are_right(checked: &Checked, count: u32, keys: Keys) -> bool {
+    let flags = checked.flags.as_slice();
+    let are_right = match keys {
+        Keys::OfNext => flags.iter().enumerate().all(|(i, flag)| *flag == in_chain(i)),
+        Keys::Apart => flags.iter().all(|flag| *flag == Flag::Valid),
+    };
+    are_right && checked.gathered == 0 && flags.len() == count as usize
 }
 
 fn is_checked<R: Threads + Wait + Sync, G: Gate + Sync>(
     rt: &R,
     alloc: Global,
     job: &Job<'_>,
+    keys: Keys,
     workers: usize,
     gate: &G,
 ) -> Result<bool, AllocError>
     requires { (1 ≤ workers) × (workers ≤ 64) }
 {
     let checked = check_all(rt, alloc, job, workers, gate)?;
-    Ok(checked.flags.len() == job.len() as usize && are_of_chain(&checked))
+    Ok(are_right(&checked, job.len(), keys))
+}
+
+fn is_block_checked<R: Threads + Wait + Sync, G: Gate + Sync>(
+    rt: &R,
+    alloc: Global,
+    count: u32,
+    keys: Keys,
+    workers: usize,
+    gate: &G,
+) -> Result<bool, Failed>
+    requires { (1 ≤ workers) × (workers ≤ 64) }
+{
+    let ground = Ground::of_links(alloc, count, keys)?;
+    let job = ground.job(alloc)?;
+    Ok(is_checked(rt, alloc, &job, keys, workers, gate)?)
 }
 
 fn is_chain_checked<R: Threads + Wait + Sync, G: Gate + Sync>(
@@ -46,18 +70,24 @@ fn is_chain_checked<R: Threads + Wait + Sync, G: Gate + Sync>(
 ) -> Result<bool, Failed>
     requires { (1 ≤ workers) × (workers ≤ 64) }
 {
-    let ground = Ground::of_chain(alloc, count)?;
-    let job = ground.job(alloc)?;
-    Ok(is_checked(rt, alloc, &job, workers, gate)?)
+    is_block_checked(rt, alloc, count, Keys::OfNext, workers, gate)
 }
 
 #[test]
 fn two_workers_meet(rt: HostRuntime) -> Result<(), Failed> {
     for phase in [Phase::Endorse, Phase::Reads] {
-        let gate = Meeting::in_phase(phase);
+        let gate = Meeting::of_others(1, phase);
         assert!(rt; is_chain_checked(&rt, rt.alloc(), 16, 2, &gate)?);
         assert!(rt; gate.is_met());
     }
+    Ok(())
+}
+
+#[test]
+fn two_workers_share_a_batch(rt: HostRuntime) -> Result<(), Failed> {
+    let gate = Meeting::of_others(31, Phase::Endorse);
+    assert!(rt; is_block_checked(&rt, rt.alloc(), 32, Keys::Apart, 2, &gate)?);
+    assert!(rt; gate.is_met());
     Ok(())
 }
 

@@ -1,0 +1,6 @@
+use Rattle.std.proofs.Common.{◌<◌, ◌≤◌, All}
+use Rattle.arrayvec.specs.ArrayVec.{array_vec_len}
+use Rattle.check_workers.proofs.turns.Waited.fill.Given as goal
+
+abbrev pub invariant-loop-place : goal.invariant-loop-place
+invariant-loop-place g l = (array_vec_len l.taken ≤ l.place) × All (λ task. task < g.J.Tasks.tasks) l.taken.items
