@@ -1,10 +1,10 @@
-use crate::draft::Draft;
+use crate::draft::{DRAFT, Draft};
 use crate::fault::Fault;
 use crate::files::Files;
-use crate::get::Get;
-use crate::history::History;
-use crate::run::Run;
-use crate::scan::Scan;
+use crate::get::{GET, Get};
+use crate::history::{HISTORY, History};
+use crate::run::{RUN, Run};
+use crate::scan::{SCAN, Scan};
 use clap::error::ErrorKind;
 use clap::{ArgMatches, Command, Error};
 use std::alloc::{AllocError, Global};
@@ -38,17 +38,22 @@ pub(crate) enum Asked<'a> {
     History(History<'a>),
 }
 
+// A function of its own, so that few exits own a command.
+fn with_subcommands<'a>(alloc: Global, command: Command<'a>) -> Result<Command<'a>, AllocError> {
+    let mut command = command;
+    for subcommand in [&DRAFT, &RUN, &GET, &SCAN, &HISTORY] {
+        command = command.subcommand(subcommand.command(alloc)?)?;
+    }
+    Ok(command)
+}
+
 fn command<'a>(alloc: Global) -> Result<Command<'a>, AllocError> {
-    Command::new(alloc, NAME)
+    let command = Command::new(alloc, NAME)
         .bin_name(NAME)?
         .about("A committing peer of one Hyperledger Fabric channel")
         .after_help(EXAMPLE)
-        .subcommand_required(true)
-        .subcommand(Draft::command(alloc)?)?
-        .subcommand(Run::command(alloc)?)?
-        .subcommand(Get::command(alloc)?)?
-        .subcommand(Scan::command(alloc)?)?
-        .subcommand(History::command(alloc)?)
+        .subcommand_required(true);
+    with_subcommands(alloc, command)
 }
 
 /// The mistake of words that aren't UTF-8.

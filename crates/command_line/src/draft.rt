@@ -1,16 +1,21 @@
 ghost use Rattle.std.specs.Prelude.{◌+◌, ◌<◌, ◌^◌, IfOk, IfSome};
 
+use crate::arguments::{Argument, Form};
 use crate::fault::Fault;
 use crate::files::Files;
 use crate::inputs::{Configuration, read_file, text_in};
-use crate::options::{ConfigurationPaths, option};
+use crate::paths::{CHANNEL, ConfigurationPaths, KEYS};
 use crate::status::ACCEPTED;
+use crate::subcommand::Subcommand;
 use block::{BlockFault, Header, decode_block};
-use clap::{Arg, ArgMatches, Command};
-use std::alloc::{AllocError, Global};
+use clap::ArgMatches;
+use std::alloc::Global;
 use values::Bytes;
 
-const EXAMPLE: &str = "\
+pub(crate) static DRAFT: Subcommand = Subcommand {
+    name: "draft",
+    about: "Makes a block of the transactions that a script says, with ids, signatures and hashes",
+    example: "\
 Example:
   fabcommit draft --channel channel.txt --keys keys.txt --after block0.blk script.txt block1.blk
 
@@ -20,7 +25,30 @@ Example:
     write car1 red
     endorse Org1:peer:p0
 
-  Prints nothing. Where the script has a fault, OUT stays as it was.";
+  Prints nothing. Where the script has a fault, OUT stays as it was.",
+    arguments: &[CHANNEL, KEYS, AFTER, SCRIPT, OUT],
+};
+
+const AFTER: Argument = Argument {
+    name: "after",
+    value_name: "FILE",
+    help: "The block that the new one follows; without it block 0 is made",
+    form: Form::Optional,
+};
+
+const SCRIPT: Argument = Argument {
+    name: "script",
+    value_name: "SCRIPT",
+    help: "What the transactions are to say, line by line",
+    form: Form::Positional,
+};
+
+const OUT: Argument = Argument {
+    name: "out",
+    value_name: "OUT",
+    help: "The block's file, which is written anew",
+    form: Form::Positional,
+};
 
 /// A script in, and a block out.
 #[derive(Clone, Copy, Debug)]
@@ -57,32 +85,6 @@ fn read_header<'a, F: Files>(
 }
 
 impl<'a> Draft<'a> {
-    pub(crate) fn command(alloc: Global) -> Result<Command<'a>, AllocError> {
-        let command = Command::new(alloc, "draft")
-            .about(
-                "Makes a block of the transactions that a script says, with ids, signatures and hashes",
-            )
-            .after_help(EXAMPLE);
-        let after = option(
-            alloc,
-            "after",
-            "FILE",
-            "The block that the new one follows; without it block 0 is made",
-        );
-        let script = Arg::new(alloc, "script")
-            .value_name("SCRIPT")
-            .required(true)
-            .help("What the transactions are to say, line by line");
-        let out = Arg::new(alloc, "out")
-            .value_name("OUT")
-            .required(true)
-            .help("The block's file, which is written anew");
-        ConfigurationPaths::options(alloc, command)?
-            .arg(after)?
-            .arg(script)?
-            .arg(out)
-    }
-
     pub(crate) fn from_matches(matches: &ArgMatches<'a>) -> Option<Draft<'a>> {
         Some(Draft {
             configuration: ConfigurationPaths::from_matches(matches)?,
@@ -92,9 +94,7 @@ impl<'a> Draft<'a> {
         })
     }
 
-    /// Reads the files, and writes the block that the script drafts. Nothing is written where there is
-    /// a fault before. The memory is linear in the files' bytes and the block.
-    pub(crate) fn perform<F: Files>(&self, alloc: Global, files: &F) -> Result<u8, Fault<'a>> {
+    fn block<F: Files>(&self, alloc: Global, files: &F) -> Result<Bytes, Fault<'a>> {
         let Configuration { channel, keys } = Configuration::read(
             alloc,
             files,
@@ -103,9 +103,16 @@ impl<'a> Draft<'a> {
         let previous = read_header(alloc, files, self.after)?;
         let script = read_file(alloc, files, self.script)?;
         let text = text_in(self.script, &script)?;
-        let block = drafts::draft(alloc, channel.name(), &keys, previous, text).map_err(
-            |fault| Fault::of_draft(self.script, fault),
-        )?;
+        drafts::draft(alloc, channel.name(), &keys, previous, text).map_err(|fault| Fault::of_draft(
+            self.script,
+            fault,
+        ))
+    }
+
+    /// Reads the files, and writes the block that the script drafts. Nothing is written where there is
+    /// a fault before. The memory is linear in the files' bytes and the block.
+    pub(crate) fn perform<F: Files>(&self, alloc: Global, files: &F) -> Result<u8, Fault<'a>> {
+        let block = self.block(alloc, files)?;
         files
             .write(self.out, block.as_slice())
             .map_err(|fault| Fault::of_write(self.out, fault))?;

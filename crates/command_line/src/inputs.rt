@@ -1,7 +1,7 @@
 //! What the files hold, each read and checked before the next.
 use crate::fault::Fault;
 use crate::files::Files;
-use crate::options::{ConfigurationPaths, LedgerPaths};
+use crate::paths::{ConfigurationPaths, LedgerPaths};
 use channel::Channel;
 use key_book::KeyBook;
 use std::alloc::Global;

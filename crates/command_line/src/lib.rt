@@ -2,8 +2,8 @@
 //! what a committing peer makes of it, and answers what the ledger behind them holds.
 #![tactic(auto)]
 
+mod arguments;
 mod command;
-mod committed;
 mod draft;
 mod entry;
 mod fault;
@@ -11,19 +11,21 @@ mod files;
 mod get;
 mod history;
 mod inputs;
+mod keyed;
 mod laws;
 mod lines;
-mod options;
+mod paths;
+mod question;
 mod rows;
 mod run;
 mod scan;
 mod status;
-mod word;
+mod subcommand;
+mod value_word;
 mod words;
 
 pub use entry::{program, without_words};
 pub use fault::Fault;
 pub use files::{DiskFiles, FileFault, Files};
-pub use laws::printed_words_are_read_back;
+pub use laws::printed_values_are_read_back;
 pub use lines::write_answers;
-pub use word::Word;

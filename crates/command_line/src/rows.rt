@@ -1,10 +1,11 @@
 //! The lines in which the ledger's contents are told.
 use crate::fault::Fault;
-use crate::word::{ValueWord, Word};
+use crate::value_word::ValueWord;
 use rules::{HistoryEntry, Row};
 use std::alloc::Global;
 use std::io;
 use std::io::Write;
+use text_lines::Word;
 use world::World;
 
 /// Writes `height H`. Takes no memory.

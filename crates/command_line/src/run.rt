@@ -2,18 +2,24 @@ use crate::fault::Fault;
 use crate::files::Files;
 use crate::inputs::{Configuration, Inputs};
 use crate::lines::write_answers;
-use crate::options::{ConfigurationPaths, LedgerPaths};
-use clap::{ArgMatches, Command};
+use crate::paths::{CHANNEL, KEYS, LedgerPaths, SOME_BLOCKS};
+use crate::subcommand::Subcommand;
+use clap::ArgMatches;
 use commit::Ledger;
 use std::alloc::{AllocError, Global};
 use std::io::Write;
 
-const EXAMPLE: &str = "\
+pub(crate) static RUN: Subcommand = Subcommand {
+    name: "run",
+    about: "Hands blocks in, one by one, and prints what is answered to each",
+    example: "\
 Example:
   fabcommit run --channel channel.txt --keys keys.txt block0.blk block1.blk
 
   accepted NUMBER HASH FLAG ..  the header's hash, and a flag for each transaction: 0 is valid
-  refused PLACE FAULT           the file's place among the blocks, from 1; the next one is still tried";
+  refused PLACE FAULT           the file's place among the blocks, from 1; the next one is still tried",
+    arguments: &[CHANNEL, KEYS, SOME_BLOCKS],
+};
 
 /// Blocks in, and a line for each out.
 #[derive(Debug, Drop)]
@@ -22,13 +28,6 @@ pub(crate) struct Run<'a> {
 }
 
 impl<'a> Run<'a> {
-    pub(crate) fn command(alloc: Global) -> Result<Command<'a>, AllocError> {
-        let command = Command::new(alloc, "run")
-            .about("Hands blocks in, one by one, and prints what is answered to each")
-            .after_help(EXAMPLE);
-        ConfigurationPaths::options(alloc, command)?.arg(LedgerPaths::blocks(alloc, 1))
-    }
-
     pub(crate) fn from_matches(
         alloc: Global,
         matches: &ArgMatches<'a>,

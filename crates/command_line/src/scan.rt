@@ -1,24 +1,51 @@
-use crate::committed::Committed;
+use crate::arguments::{Argument, Form, NAMESPACE, number_of};
 use crate::fault::Fault;
 use crate::files::Files;
-use crate::lines::finish;
-use crate::options::{ConfigurationPaths, LedgerPaths, namespace_option, number_of, option};
-use crate::rows::{write_height, write_row};
+use crate::paths::{ANY_BLOCKS, CHANNEL, KEYS, LedgerPaths};
+use crate::question::{Question, answer};
+use crate::rows::write_row;
+use crate::subcommand::Subcommand;
 use crate::words::{bytes_of, name_of};
-use clap::{ArgMatches, Command, value_parser};
+use clap::ArgMatches;
 use std::alloc::{AllocError, Global};
-use std::io::{BufWriter, Write};
-use values::{BoundRef, Bytes, MAX_KEY, NameRef};
+use std::io::Write;
+use values::{BoundRef, Bytes, MAX_KEY, Name};
 use world::World;
 
-const EXAMPLE: &str = "\
+pub(crate) static SCAN: Subcommand = Subcommand {
+    name: "scan",
+    about: "Hands blocks in and prints the rows of a namespace, in the order of their keys",
+    example: "\
 Example:
   fabcommit scan --channel channel.txt --keys keys.txt --ns cc --start car --limit 10 block0.blk
 
   height H                       how many blocks were accepted
   row KEY BLOCK TX VALUE POLICY  the block and transaction that wrote it last; - is no own policy
   more                           behind the rows, where the limit cut them: go on with --start KEY%00,
-                                 KEY being that of the last row";
+                                 KEY being that of the last row",
+    arguments: &[CHANNEL, KEYS, NAMESPACE, START, END, LIMIT, ANY_BLOCKS],
+};
+
+const START: Argument = Argument {
+    name: "start",
+    value_name: "WORD",
+    help: "The key to begin with, as a word; % is before all keys",
+    form: Form::Default("%"),
+};
+
+const END: Argument = Argument {
+    name: "end",
+    value_name: "WORD",
+    help: "The key to end before, as a word; % is behind all keys",
+    form: Form::Default("%"),
+};
+
+const LIMIT: Argument = Argument {
+    name: "limit",
+    value_name: "N",
+    help: "The most rows that are printed, from 1 to 65535",
+    form: Form::Count("100"),
+};
 
 /// Blocks in, and the rows of a namespace out.
 #[derive(Debug, Drop)]
@@ -54,82 +81,45 @@ impl Bounds {
     }
 }
 
-fn write_rows<'a, W: Write>(
-    alloc: Global,
-    out: &mut W,
-    world: &World,
-    namespace: &NameRef<'_>,
-    bounds: &Bounds,
+// The rows between bounds, up to a limit.
+#[derive(Drop)]
+struct RowsOf {
+    namespace: Name,
+    bounds: Bounds,
     limit: u16,
-) -> Result<(), Fault<'a>> {
-    let mut left = limit;
-    for keyed in world
-        .state()
-        .range(namespace, &bounds.first(), &BoundRef::new(b""))
-    {
-        let key = keyed.key();
-        if bounds.is_behind(key.as_slice()) {
-            break;
-        }
-        if bounds.is_before(key.as_slice()) {
-            continue;
-        }
-        if left == 0 {
-            return Ok(writeln!(out, "more")?);
-        }
-        write_row(alloc, out, key.as_slice(), keyed.row())?;
-        left -= 1;
-    }
-    Ok(())
 }
 
-fn write_answer<'a, W: Write>(
-    alloc: Global,
-    out: &mut W,
-    world: &World,
-    namespace: &NameRef<'_>,
-    bounds: &Bounds,
-    limit: u16,
-) -> Result<(), Fault<'a>> {
-    write_height(out, world)?;
-    write_rows(alloc, out, world, namespace, bounds, limit)
+impl Question for RowsOf {
+    fn write<'a, W: Write>(
+        &self,
+        alloc: Global,
+        out: &mut W,
+        world: &World,
+    ) -> Result<(), Fault<'a>> {
+        let mut left = self.limit;
+        for keyed in world.state().range(
+            &self.namespace.lend(),
+            &self.bounds.first(),
+            &BoundRef::new(b""),
+        ) {
+            let key = keyed.key();
+            if self.bounds.is_behind(key.as_slice()) {
+                break;
+            }
+            if self.bounds.is_before(key.as_slice()) {
+                continue;
+            }
+            if left == 0 {
+                return Ok(writeln!(out, "more")?);
+            }
+            write_row(alloc, out, key.as_slice(), keyed.row())?;
+            left -= 1;
+        }
+        Ok(())
+    }
 }
 
 impl<'a> Scan<'a> {
-    pub(crate) fn command(alloc: Global) -> Result<Command<'a>, AllocError> {
-        let command = Command::new(alloc, "scan")
-            .about("Hands blocks in and prints the rows of a namespace, in the order of their keys")
-            .after_help(EXAMPLE);
-        let start = option(
-            alloc,
-            "start",
-            "WORD",
-            "The key to begin with, as a word; % is before all keys",
-        );
-        let end = option(
-            alloc,
-            "end",
-            "WORD",
-            "The key to end before, as a word; % is behind all keys",
-        );
-        let limit = option(
-            alloc,
-            "limit",
-            "N",
-            "The most rows that are printed, from 1 to 65535",
-        );
-        ConfigurationPaths::options(alloc, command)?
-            .arg(namespace_option(alloc))?
-            .arg(start.default_value("%"))?
-            .arg(end.default_value("%"))?
-            .arg(
-                limit
-                    .default_value("100")
-                    .value_parser(value_parser!(u16).range(1..)),
-            )?
-            .arg(LedgerPaths::blocks(alloc, 0))
-    }
-
     pub(crate) fn from_matches(
         alloc: Global,
         matches: &ArgMatches<'a>,
@@ -151,6 +141,18 @@ impl<'a> Scan<'a> {
         }))
     }
 
+    // What the words ask for, looked at in this order.
+    fn question(&self, alloc: Global) -> Result<RowsOf, Fault<'a>> {
+        let namespace = name_of(alloc, self.namespace)?;
+        let start = bytes_of(alloc, self.start)?;
+        let end = bytes_of(alloc, self.end)?;
+        Ok(RowsOf {
+            namespace,
+            bounds: Bounds { start, end },
+            limit: self.limit,
+        })
+    }
+
     /// Reads the bounds and the files, hands the blocks in, and writes the rows as they are met. Beside
     /// what the blocks take, the memory is the bounds, a policy's text and a buffer of a fixed size.
     pub(crate) fn perform<F: Files, W: Write>(
@@ -159,21 +161,7 @@ impl<'a> Scan<'a> {
         files: &F,
         out: &mut W,
     ) -> Result<u8, Fault<'a>> {
-        let namespace = name_of(alloc, self.namespace)?;
-        let start = bytes_of(alloc, self.start)?;
-        let end = bytes_of(alloc, self.end)?;
-        let bounds = Bounds { start, end };
-        let Committed { ledger, status } = Committed::read(alloc, files, &self.paths)?;
-        let mut lines = BufWriter::new(alloc, out)?;
-        let ended = write_answer(
-            alloc,
-            &mut lines,
-            ledger.view(),
-            &namespace.lend(),
-            &bounds,
-            self.limit,
-        );
-        finish(lines, ended)?;
-        Ok(status)
+        let question = self.question(alloc)?;
+        answer(alloc, files, &self.paths, &question, out)
     }
 }

@@ -1,4 +1,5 @@
 pub mod Lines
+pub mod Printed
 pub mod Spelling
 pub mod Statements
 pub mod Utf8

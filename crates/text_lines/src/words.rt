@@ -5,7 +5,7 @@ ghost use Rattle.text_lines.specs.Spelling.{first_spelled};
 use std::alloc::{AllocError, Global};
 use values::Bytes;
 
-fn stands_for_itself(byte: u8) -> bool
+pub(crate) fn stands_for_itself(byte: u8) -> bool
     ensures { result ≡ spec.stands_for_itself byte }
 {
     byte.is_ascii_graphic() && byte != b'%'

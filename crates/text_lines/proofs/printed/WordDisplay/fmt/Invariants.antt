@@ -1,7 +1,7 @@
 use Rattle.std.proofs.Common.{take, flat_map}
 use Rattle.std.specs.Fmt.{HasWritten, IsPlainFormatter}
-use Rattle.command_line.specs.Printed.{byte_spelling}
-use Rattle.command_line.proofs.word.WordDisplay.fmt.Given as goal
+use Rattle.text_lines.specs.Printed.{byte_spelling}
+use Rattle.text_lines.proofs.printed.WordDisplay.fmt.Given as goal
 
 abbrev pub invariant-loop-byte : goal.invariant-loop-byte
 invariant-loop-byte g l =

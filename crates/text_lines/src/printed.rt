@@ -1,26 +1,14 @@
-//! Bytes that print as words.
 ghost use Rattle.std.specs.Prelude.{◌≡◌, ◌<◌, Some};
 ghost use Rattle.std.specs.Fmt.{WritesOnOk};
-ghost use Rattle.text_lines.specs.Words as Words;
-ghost use Rattle.command_line.specs.Printed as spec;
+ghost use Rattle.text_lines.specs.Printed as spec;
 
+use crate::words::stands_for_itself;
 use std::fmt;
 
 /// Bytes that print as the word that spells them: `%` where there are none, else each byte from 0x21 to
 /// 0x7e but `%` as itself, and any other as `%` and two upper-case hexadecimal digits.
 #[derive(Clone, Copy, Debug)]
 pub struct Word<'a>(pub &'a [u8]);
-
-/// A value that prints as a word, but `deleted` as `%64eleted`, since a history says `deleted` of a
-/// deletion.
-#[derive(Clone, Copy, Debug)]
-pub(crate) struct ValueWord<'a>(pub(crate) &'a [u8]);
-
-fn stands_for_itself(byte: u8) -> bool
-    ensures { result ≡ Words.stands_for_itself byte }
-{
-    byte.is_ascii_graphic() && byte != b'%'
-}
 
 fn upper_digit(value: u8) -> char
     requires { value < 16 }
@@ -55,17 +43,5 @@ impl fmt::Display for Word<'_> {
             write_byte(f, *byte)?;
         }
         Ok(())
-    }
-}
-
-impl fmt::Display for ValueWord<'_> {
-    ghost output = { λ value. Some (spec.value_word_of value.0.now) };
-
-    fn fmt<W: fmt::Write>(&self, f: &mut fmt::Formatter<W>) -> fmt::Result {
-        if self.0 == b"deleted".as_slice() {
-            return f.write_str("%64eleted");
-        }
-        let word = Word(self.0);
-        write!(f, "{word}")
     }
 }

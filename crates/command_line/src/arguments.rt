@@ -1,0 +1,95 @@
+//! What subcommands take: options and positionals, and the numbers that options give.
+use clap::{Arg, ArgAction, ArgMatches, value_parser};
+use std::alloc::Global;
+
+/// How an argument is given.
+#[derive(Clone, Copy)]
+pub(crate) enum Form {
+    /// `--NAME VALUE`.
+    Required,
+    /// `--NAME VALUE`, or not at all.
+    Optional,
+    /// `--NAME VALUE`, which has this value where it isn't given.
+    Default(&'static str),
+    /// `--NAME N`, a number from 1 to 65535, which is this one where it isn't given.
+    Count(&'static str),
+    /// One positional.
+    Positional,
+    /// The positionals that are left, so many at least.
+    Positionals { least: usize },
+}
+
+/// An argument, as help shows it.
+#[derive(Clone, Copy)]
+pub(crate) struct Argument {
+    pub(crate) name: &'static str,
+    pub(crate) value_name: &'static str,
+    pub(crate) help: &'static str,
+    pub(crate) form: Form,
+}
+
+/// The option that names a namespace.
+pub(crate) const NAMESPACE: Argument = Argument {
+    name: "ns",
+    value_name: "NAME",
+    help: "The namespace: a chaincode's name",
+    form: Form::Required,
+};
+
+/// The option that names a key.
+pub(crate) const KEY: Argument = Argument {
+    name: "key",
+    value_name: "WORD",
+    help: "The key, as a word: %20 is a space, %25 a per cent sign",
+    form: Form::Required,
+};
+
+fn option<'a>(alloc: Global, argument: &Argument) -> Arg<'a> {
+    positional(alloc, argument)
+        .long(argument.name)
+        .action(ArgAction::Set)
+}
+
+fn positional<'a>(alloc: Global, argument: &Argument) -> Arg<'a> {
+    Arg::new(alloc, argument.name)
+        .value_name(argument.value_name)
+        .help(argument.help)
+}
+
+// A number that isn't 0; that it has digits alone is looked at by `number_of`.
+fn count<'a>(alloc: Global, argument: &Argument, default: &'static str) -> Arg<'a> {
+    option(alloc, argument)
+        .default_value(default)
+        .value_parser(value_parser!(u16).range(1..))
+}
+
+fn positionals<'a>(alloc: Global, argument: &Argument, least: usize) -> Arg<'a> {
+    positional(alloc, argument)
+        .required(least > 0)
+        .num_args(least..)
+        .action(ArgAction::Append)
+}
+
+impl Argument {
+    /// The argument as clap has it.
+    pub(crate) fn arg<'a>(&self, alloc: Global) -> Arg<'a> {
+        match self.form {
+            Form::Required => option(alloc, self).required(true),
+            Form::Optional => option(alloc, self),
+            Form::Default(value) => option(alloc, self).default_value(value),
+            Form::Count(value) => count(alloc, self, value),
+            Form::Positional => positional(alloc, self).required(true),
+            Form::Positionals { least } => positionals(alloc, self, least),
+        }
+    }
+}
+
+/// The number of an option, of which clap has looked at all but its form: it has digits alone.
+pub(crate) fn number_of(matches: &ArgMatches<'_>, name: &str) -> Option<u16> {
+    let text = matches.get_str(name)?;
+    if text.as_bytes().iter().all(u8::is_ascii_digit) {
+        text.parse().ok()
+    } else {
+        None
+    }
+}

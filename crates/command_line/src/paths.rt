@@ -1,0 +1,75 @@
+//! The files that words name.
+use crate::arguments::{Argument, Form};
+use clap::ArgMatches;
+use std::alloc::{AllocError, Global};
+
+/// The paths of what each subcommand begins with.
+#[derive(Clone, Copy, Debug)]
+pub(crate) struct ConfigurationPaths<'a> {
+    pub(crate) channel: &'a str,
+    pub(crate) keys: &'a str,
+}
+
+/// The paths of what a ledger is made of, the blocks' in their order.
+#[derive(Debug, Drop)]
+pub(crate) struct LedgerPaths<'a> {
+    pub(crate) configuration: ConfigurationPaths<'a>,
+    pub(crate) blocks: Vec<&'a str>,
+}
+
+pub(crate) const CHANNEL: Argument = Argument {
+    name: "channel",
+    value_name: "FILE",
+    help: "The channel's name, and the policies of its chaincodes",
+    form: Form::Required,
+};
+
+pub(crate) const KEYS: Argument = Argument {
+    name: "keys",
+    value_name: "FILE",
+    help: "The keys that signatures are made and checked with",
+    form: Form::Required,
+};
+
+const BLOCKS: &str = "Block files, in the order in which they are handed in";
+
+/// The blocks of a ledger, which may have none.
+pub(crate) const ANY_BLOCKS: Argument = Argument {
+    name: "blocks",
+    value_name: "BLOCK",
+    help: BLOCKS,
+    form: Form::Positionals { least: 0 },
+};
+
+/// Blocks to hand in, one at least.
+pub(crate) const SOME_BLOCKS: Argument = Argument {
+    name: "blocks",
+    value_name: "BLOCK",
+    help: BLOCKS,
+    form: Form::Positionals { least: 1 },
+};
+
+impl<'a> ConfigurationPaths<'a> {
+    pub(crate) fn from_matches(matches: &ArgMatches<'a>) -> Option<ConfigurationPaths<'a>> {
+        Some(ConfigurationPaths {
+            channel: matches.get_str("channel")?,
+            keys: matches.get_str("keys")?,
+        })
+    }
+}
+
+impl<'a> LedgerPaths<'a> {
+    pub(crate) fn from_matches(
+        alloc: Global,
+        matches: &ArgMatches<'a>,
+    ) -> Result<Option<LedgerPaths<'a>>, AllocError> {
+        let Some(configuration) = ConfigurationPaths::from_matches(matches) else {
+            return Ok(None);
+        };
+        let blocks = matches.get_strs("blocks").unwrap_or(&[]);
+        Ok(Some(LedgerPaths {
+            configuration,
+            blocks: Vec::from_slice(alloc, blocks)?,
+        }))
+    }
+}

@@ -1,0 +1,78 @@
+use crate::fault::Fault;
+use crate::files::Files;
+use crate::inputs::{Configuration, Inputs};
+use crate::lines::{Refusal, finish};
+use crate::paths::LedgerPaths;
+use crate::rows::write_height;
+use crate::status::{ACCEPTED, REFUSED};
+use commit::Ledger;
+use std::alloc::Global;
+use std::io::{BufWriter, Write};
+use world::World;
+
+/// What is asked of a ledger behind its blocks.
+pub(crate) trait Question {
+    /// Writes what the world answers, behind the line of its height.
+    fn write<'a, W: Write>(
+        &self,
+        alloc: Global,
+        out: &mut W,
+        world: &World,
+    ) -> Result<(), Fault<'a>>;
+}
+
+// A ledger behind its blocks, and what the process ends with, where nothing else befalls it.
+#[derive(Drop)]
+struct Committed {
+    ledger: Ledger,
+    status: u8,
+}
+
+impl Committed {
+    fn read<'a, F: Files>(
+        alloc: Global,
+        files: &F,
+        paths: &LedgerPaths<'a>,
+    ) -> Result<Committed, Fault<'a>> {
+        let Inputs {
+            configuration,
+            blocks,
+        } = Inputs::read(alloc, files, paths)?;
+        let Configuration { channel, keys } = configuration;
+        let mut ledger = Ledger::open(alloc, channel);
+        let mut status = ACCEPTED;
+        for bytes in blocks {
+            if let Err(refused) = ledger.submit_one(bytes.as_slice(), &keys) {
+                Refusal::of(refused)?;
+                status = REFUSED;
+            }
+        }
+        Ok(Committed { ledger, status })
+    }
+}
+
+fn write_answer<'a, Q: Question, W: Write>(
+    alloc: Global,
+    out: &mut W,
+    world: &World,
+    question: &Q,
+) -> Result<(), Fault<'a>> {
+    write_height(out, world)?;
+    question.write(alloc, out, world)
+}
+
+/// Reads the files, hands the blocks in, one by one, and writes what the ledger behind them answers.
+/// Returns what the process ends with. The memory is that of `run`.
+pub(crate) fn answer<'a, F: Files, Q: Question, W: Write>(
+    alloc: Global,
+    files: &F,
+    paths: &LedgerPaths<'a>,
+    question: &Q,
+    out: &mut W,
+) -> Result<u8, Fault<'a>> {
+    let Committed { ledger, status } = Committed::read(alloc, files, paths)?;
+    let mut lines = BufWriter::new(alloc, out)?;
+    let ended = write_answer(alloc, &mut lines, ledger.view(), question);
+    finish(lines, ended)?;
+    Ok(status)
+}
