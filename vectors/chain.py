@@ -23,10 +23,10 @@ A few of them, by the rules:
 
 from committer import text_of
 from encoding import read_block
-from rust import rust_file, rust_string, rust_table
+from rust import rust_file, rust_lines, rust_string, rust_table
 from story import story
 from words import at, named, told, word
-from worked import worked
+from worked import script_of, worked
 
 
 def rust_flags(flags):
@@ -96,15 +96,29 @@ def rust_uses(world):
     yield f"static USES: &[u8; {len(octets)}] =\n    {rust_string(octets)};"
 
 
+def rust_scripted(octets, flags):
+    yield "            Scripted {"
+    yield f"                script: {rust_lines(script_of(octets))},"
+    yield f"                flags: {rust_flags(flags)},"
+    yield "            },"
+
+
+def rust_chain(name, world):
+    """A chain of scripts, and what it leaves at the key `k` of `cc`."""
+    yield "    WorkedChain {"
+    yield f'        name: "{name.lower()}",'
+    yield "        blocks: &["
+    for octets, _, flags in world.blocks:
+        yield from rust_scripted(octets, flags)
+    yield "        ],"
+    yield from rust_row(world.state.get((b"cc", b"k")))
+    yield "    },"
+
+
 def rust_worked():
     yield "//! Chains that each show one thing, made by vectors/make.py.\n"
-    for name, blocks, _ in worked():
-        item = f"[&'static [u8]; {len(blocks)}]"
-        yield f"pub fn {name.lower()}() -> &'static {item} {{\n    &{name}\n}}\n"
-        yield f"static {name}: {item} = ["
-        for octets in blocks:
-            yield f"    {rust_string(octets)},"
-        yield "];\n"
+    yield "use super::{LeftRow, Scripted, WorkedChain};\n"
+    yield from rust_table("worked", "WorkedChain", ["\n".join(rust_chain(*row)) for row in worked()])
 
 
 def told_blocks(blocks, reasons):
@@ -131,12 +145,9 @@ def told_story(world):
 
 def told_worked():
     yield "Chains that each show one thing, made by vectors/make.py and told as in story.txt."
-    for name, blocks, chain in worked():
+    for name, world in worked():
         yield f"\n{name}"
-        if chain:
-            yield from told_blocks(chain.blocks, chain.reasons)
-        else:
-            yield from (f"block 0 in {len(octets)} bytes" for octets in blocks)
+        yield from told_blocks(world.blocks, world.reasons)
 
 
 def files():

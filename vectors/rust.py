@@ -37,6 +37,11 @@ def rust_text(text):
     return quoted(map(rust_text_char, text))
 
 
+def rust_lines(text):
+    """A string of lines without special characters, each of which stands on a line of its own."""
+    return '"\\\n' + text + '"' if text else '""'
+
+
 def rust_octets(octets):
     """A byte string in hexadecimal digits, 24 octets a line."""
     lines = [octets[start : start + 24] for start in range(0, len(octets), 24)]

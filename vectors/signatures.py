@@ -45,6 +45,8 @@ def rows(keys):
     # body and endorsements, as it has to be
     yield creator_signs(keys, b"whole", spelled_signed), 0
     yield creator_signs(keys, b"body", spelled_body), 4
+    # with the signature's length behind it
+    yield creator_signs(keys, b"length", lambda tx: spelled_signed(tx) + b"\0\x20"), 4
     # as an endorser signs
     yield creator_signs(keys, b"endorsing", lambda tx: spelled_body(tx) + identity(CLIENT)), 4
     yield creator_signs(keys, b"nothing", lambda _: b""), 4

@@ -1,9 +1,8 @@
-"""Short chains that each show one thing, with flags that were written down by hand, and two blocks 0."""
+"""Short chains that each show one thing, with flags that were written down by hand, and the scripts that draft them."""
 
-from hashlib import sha256
-
-from drafts import ADMIN, P0, P1, Q0, Chain, absent, delete, part, policy, read, whole, within, write
-from encoding import data_hash, spelled_block
+from drafts import ADMIN, P0, P1, Q0, Chain, absent, delete, nopolicy, part, policy, read, whole, within, write
+from encoding import read_block, read_tx
+from words import known_as, word
 
 
 def after(*names):
@@ -47,15 +46,34 @@ def key_policies():
         c.tx(absent("k")),
     )
     c = Chain()
-    c.block([0], c.tx(write("k1"), policy("k1")))
+    c.block([0], c.tx(write("k"), policy("k")))
     yield "KEY_WITH_A_POLICY_OF_ITS_OWN", c.block(
         [10, 0],
-        c.tx(write("k1")),
-        c.tx(write("k1"), by=[P0, Q0]),
+        c.tx(write("k")),
+        c.tx(write("k"), by=[P0, Q0]),
     )
     c = Chain()
     c.block([0], c.tx(write("k", "v1"))).block([0], c.tx(delete("k")))
     yield "POLICY_WRITE_IN_A_LATER_BLOCK", c.block([0], c.tx(policy("k")))
+
+
+def policy_writes():
+    """A policy write alone is a write in its namespace."""
+    c = Chain()
+    c.block([0], c.wide(within("both", write("j"), write("k"), policy("k", "'Org1.peer'")), named="both", by=[P0, Q0]))
+    yield "POLICY_OF_THE_KEY_FOR_THAT_OF_THE_NAMED_CHAINCODE", c.block(
+        [0, 10, 10, 10],
+        c.wide(within("both", nopolicy("k")), named="both"),
+        c.wide(within("both", nopolicy("j")), named="both"),
+        c.wide(within("cc", nopolicy("k")), named="both"),
+        c.wide(named="both"),
+    )
+    c = after()
+    yield "POLICY_WRITE_WITHOUT_DEFINITION", c.block(
+        [25, 0],
+        c.wide(within("zz", nopolicy("k"))),
+        c.wide(within("cc", nopolicy("k"))),
+    )
 
 
 def endorsers():
@@ -103,24 +121,40 @@ def ids():
     yield "ID_OF_AN_INVALID_TRANSACTION", c.block([9], c.tx(write("k"), nonce="n"))
 
 
-def of_each_kind():
-    c = after("a", "c")
-    yield "THREE_TRANSACTIONS", c.block(
-        [0, 0, 0],
-        c.tx(write("k", "value")),
-        c.tx(policy("a")),
-        c.tx(whole("b", "d", ("c", 0, 0))),
-    )
+def version_words(version):
+    return "absent" if version is None else f"{version[0]} {version[1]}"
 
 
-def beginnings():
-    """Block 0 of one transaction without bytes: with a previous hash, and as it has to be."""
-    previous, hash_of_data = sha256(b"").digest(), data_hash([b""])
-    yield "TRANSACTION_WITHOUT_BYTES", [spelled_block(0, p, hash_of_data, [b""]) for p in (previous, b"")], None
+def namespace_lines(ns):
+    yield f"ns {ns.name.decode()}"
+    for key, version in ns.reads:
+        yield f"read {word(key)} {version_words(version)}"
+    for start, end, exhausted, results in ns.ranges:
+        yield f"range {word(start)} {word(end)} {'all' if exhausted else 'part'}"
+        for key, version in results:
+            yield f"result {word(key)} {version_words(version)}"
+    for key, value in ns.writes:
+        yield f"delete {word(key)}" if value is None else f"write {word(key)} {word(value)}"
+    for key, text in ns.policies:
+        yield f"nopolicy {word(key)}" if text is None else f"policy {word(key)} {text.decode()}"
+
+
+def script_lines(octets):
+    """The lines of a script that say what a transaction says, its signatures aside."""
+    tx = read_tx(octets)
+    yield f"tx {known_as(tx.creator)} {word(tx.nonce)} {tx.chaincode.decode()}"
+    for ns in tx.namespaces:
+        yield from namespace_lines(ns)
+    for who, _ in tx.endorsements:
+        yield f"endorse {known_as(who)}"
+
+
+def script_of(block):
+    return "".join(line + "\n" for tx in read_block(block)[3] for line in script_lines(tx))
 
 
 def worked():
-    for rows in (reads, key_policies, endorsers, ranges, faults, ids, of_each_kind):
+    """Names, and the worlds behind their chains."""
+    for rows in (reads, key_policies, policy_writes, endorsers, ranges, faults, ids):
         for name, chain in rows():
-            yield name, [octets for octets, _, _ in chain.world.blocks], chain.world
-    yield from beginnings()
+            yield name, chain.world

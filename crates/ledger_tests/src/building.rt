@@ -1,10 +1,7 @@
 //! Transactions and blocks, put together part by part.
 
-use crate::failed::Failed;
-use crate::fixture::Peer;
 use block::{Block, Header, Previous, encode_block};
 use header_hash::{DataHasher, tx_id};
-use policy_eval::Verify;
 use std::alloc::{AllocError, Global};
 use transaction::EncodeFault;
 use values::{Bytes, Hash, Items};
@@ -40,19 +37,6 @@ pub fn body(
     Ok(bytes)
 }
 
-// The transaction of this body that these have endorsed, with signatures that `SaysOk` accepts.
-pub fn endorsed(body: Vec<u8>, endorsers: &[&[u8]]) -> Result<Bytes, AllocError> {
-    let mut bytes = body;
-    let [.., count] = endorsers.len().to_be_bytes();
-    bytes.push(count)?;
-    for endorser in endorsers {
-        bytes.extend_from_slice(endorser)?;
-        bytes.extend_from_slice(OK)?;
-    }
-    bytes.extend_from_slice(OK)?;
-    Ok(Bytes::from_vec(bytes))
-}
-
 fn data_hash_of(txs: &[Bytes]) -> Hash {
     let mut hasher = DataHasher::new();
     for tx in txs {
@@ -81,26 +65,4 @@ pub fn next_block(alloc: Global, world: &World, txs: &[Bytes]) -> Result<Bytes, 
         lent.push(tx.lend())?;
     }
     encode_block(alloc, &Block { header, txs: lent })
-}
-
-// The numbers of the flags of the next block, of these transactions, which the peer takes.
-pub fn flags_of<V: Verify>(
-    alloc: Global,
-    peer: &mut Peer,
-    txs: &[Bytes],
-    verifier: &V,
-) -> Result<Vec<u8>, Failed> {
-    let bytes = next_block(alloc, peer.world(), txs)?;
-    Ok(peer.take(alloc, bytes.as_slice(), verifier)?)
-}
-
-// Whether the next block, of these transactions, is taken with flags of these numbers.
-pub fn are_flags_of<V: Verify>(
-    alloc: Global,
-    peer: &mut Peer,
-    txs: &[Bytes],
-    verifier: &V,
-    flags: &[u8],
-) -> Result<bool, Failed> {
-    Ok(flags_of(alloc, peer, txs, verifier)?.as_slice() == flags)
 }

@@ -1,20 +1,20 @@
 //! The chain of 32 blocks that reaches every flag.
 
 use crate::failed::Failed;
-use crate::fixture::{Peer, row_at};
-use crate::shown::{show_history, show_row};
+use crate::fixture::{Peer, SaysOk};
+use crate::shown::{is_row, show_history};
 use crate::vectors::first_blocks::first_blocks;
 use crate::vectors::later_blocks::later_blocks;
 use crate::vectors::rows::rows;
 use crate::vectors::uses::uses;
-use crate::vectors::{Committed, Left, LeftRow, Used, read_use};
+use crate::vectors::{Committed, Left, Used, read_use};
 use rules::{CommittedBlock, FirstUse};
-use std::alloc::{AllocError, Global};
+use std::alloc::Global;
 use world::World;
 
 fn take_all(alloc: Global, peer: &mut Peer, blocks: &[Committed]) -> Result<(), Failed> {
     for block in blocks {
-        if !peer.is_taken(alloc, block.bytes, block.flags)? {
+        if !peer.is_taken(alloc, block.bytes, &SaysOk, block.flags)? {
             return Err(Failed::Missing("the flags of a block"));
         }
         if peer.world().header_hash() != Some(*block.header_hash) {
@@ -24,59 +24,22 @@ fn take_all(alloc: Global, peer: &mut Peer, blocks: &[Committed]) -> Result<(), 
     Ok(())
 }
 
-// The peer that has taken all blocks.
-fn whole_chain(alloc: Global) -> Result<Peer, Failed> {
-    let mut peer = Peer::open(alloc)?;
-    take_all(alloc, &mut peer, first_blocks())?;
-    take_all(alloc, &mut peer, later_blocks())?;
-    Ok(peer)
-}
-
-// What `show_row` shows of the row that is wanted.
-fn show_wanted(wanted: &mut Vec<u8>, row: &Option<LeftRow>) -> Result<(), AllocError> {
-    let Some(row) = row else {
-        wanted.push(0)?;
-        return Ok(());
-    };
-    wanted.push(1)?;
-    wanted.extend_from_slice(row.value)?;
-    wanted.extend_from_slice(&row.block.to_be_bytes())?;
-    wanted.extend_from_slice(&row.tx.to_be_bytes())?;
-    wanted.extend_from_slice(row.policy.as_bytes())?;
-    Ok(())
-}
-
-fn is_row_left(alloc: Global, world: &World, left: &Left) -> Result<bool, Failed> {
-    let row = row_at(alloc, world, left.namespace, left.key)?;
-    let mut shown = Vec::new(alloc);
-    show_row(alloc, &mut shown, row)?;
-    let mut wanted = Vec::new(alloc);
-    show_wanted(&mut wanted, &left.row)?;
-    Ok(shown.as_slice() == wanted.as_slice())
-}
-
 fn is_history_left(alloc: Global, world: &World, left: &Left) -> Result<bool, Failed> {
     let mut history = Vec::new(alloc);
     show_history(alloc, &mut history, world, left)?;
     Ok(history.as_slice() == left.history)
 }
 
-#[test]
-fn rows_and_histories(rt: HostRuntime) -> Result<(), Failed> {
-    let peer = whole_chain(rt.alloc())?;
-    for left in rows() {
-        assert!(rt;
-            is_row_left(rt.alloc(), peer.world(), left)?,
-            "{:?}",
-            left.key
-        );
-        assert!(rt;
-            is_history_left(rt.alloc(), peer.world(), left)?,
-            "{:?}",
-            left.key
-        );
+// How many keys have the rows and histories that are wanted, up to the first that hasn't.
+fn keys_left(alloc: Global, world: &World) -> Result<usize, Failed> {
+    for (count, left) in rows().iter().enumerate() {
+        if !is_row(alloc, world, left.namespace, left.key, &left.row)?
+            || !is_history_left(alloc, world, left)?
+        {
+            return Ok(count);
+        }
     }
-    Ok(())
+    Ok(rows().len())
 }
 
 fn is_used_so(found: Option<FirstUse>, want: Used) -> bool {
@@ -88,15 +51,15 @@ fn is_used_so(found: Option<FirstUse>, want: Used) -> bool {
     }
 }
 
-#[test]
-fn first_uses(rt: HostRuntime) -> Result<(), Failed> {
-    let peer = whole_chain(rt.alloc())?;
-    for bytes in uses() {
+// How many ids have the first uses that are wanted, up to the first that hasn't.
+fn ids_used(world: &World) -> usize {
+    for (count, bytes) in uses().iter().enumerate() {
         let want = read_use(bytes);
-        assert!(rt; is_used_so(peer.world().first_use(&want.id), want));
+        if !is_used_so(world.first_use(&want.id), want) {
+            return count;
+        }
     }
-    assert!(rt; peer.world().first_use(&[b'0'; 64]).is_none());
-    Ok(())
+    uses().len()
 }
 
 fn is_kept(kept: Option<&CommittedBlock>, block: &Committed) -> bool {
@@ -109,17 +72,36 @@ fn is_kept(kept: Option<&CommittedBlock>, block: &Committed) -> bool {
         && numbers.eq(block.flags.iter().copied())
 }
 
-#[test]
-fn kept_blocks(rt: HostRuntime) -> Result<(), Failed> {
-    let peer = whole_chain(rt.alloc())?;
-    assert!(rt; peer.world().height() == 32);
+// How many blocks are kept as they were taken, up to the first that isn't.
+fn blocks_kept(world: &World) -> usize {
     let blocks = first_blocks().iter().chain(later_blocks().iter());
     for (number, block) in blocks.enumerate() {
-        assert!(rt;
-            is_kept(peer.world().block(number as u64), block),
-            "{number}"
-        );
+        if !is_kept(world.block(number as u64), block) {
+            return number;
+        }
     }
-    assert!(rt; peer.world().block(32).is_none());
+    32
+}
+
+fn is_nothing_else(world: &World) -> bool {
+    world.height() == 32 && world.block(32).is_none() && world.first_use(&[b'0'; 64]).is_none()
+}
+
+// The keys, ids and blocks that are as they are wanted.
+fn left_behind(alloc: Global) -> Result<(usize, usize, usize), Failed> {
+    let mut peer = Peer::open(alloc)?;
+    take_all(alloc, &mut peer, first_blocks())?;
+    take_all(alloc, &mut peer, later_blocks())?;
+    if !is_nothing_else(peer.world()) {
+        return Err(Failed::Missing("nothing else"));
+    }
+    let keys = keys_left(alloc, peer.world())?;
+    Ok((keys, ids_used(peer.world()), blocks_kept(peer.world())))
+}
+
+#[test]
+fn flags_and_what_is_left(rt: HostRuntime) -> Result<(), Failed> {
+    let wanted = (rows().len(), uses().len(), 32);
+    assert_eq!(rt; left_behind(rt.alloc())?, wanted);
     Ok(())
 }

@@ -1,16 +1,21 @@
 //! What ends a test before its assertions do.
 
+use block::BlockFault;
 use channel::ChannelFault;
+use drafts::DraftFault;
+use key_book::KeyBookFault;
 use rules::Refused;
 use std::alloc::{AllocError, AllocFailed};
-use transaction::{EncodeFault, TxFault};
+use transaction::EncodeFault;
 
-#[derive(Debug, Drop)]
+#[derive(Clone, Copy, Debug)]
 pub enum Failed {
     Memory,
     Channel(ChannelFault),
+    Keys(KeyBookFault),
+    Draft(DraftFault),
+    Block(BlockFault),
     Refused(Refused),
-    Tx(TxFault),
     Encode(EncodeFault),
     Missing(&'static str),
 }
@@ -33,15 +38,27 @@ impl From<ChannelFault> for Failed {
     }
 }
 
-impl From<Refused> for Failed {
-    fn from(refused: Refused) -> Failed {
-        Failed::Refused(refused)
+impl From<KeyBookFault> for Failed {
+    fn from(fault: KeyBookFault) -> Failed {
+        Failed::Keys(fault)
     }
 }
 
-impl From<TxFault> for Failed {
-    fn from(fault: TxFault) -> Failed {
-        Failed::Tx(fault)
+impl From<DraftFault> for Failed {
+    fn from(fault: DraftFault) -> Failed {
+        Failed::Draft(fault)
+    }
+}
+
+impl From<BlockFault> for Failed {
+    fn from(fault: BlockFault) -> Failed {
+        Failed::Block(fault)
+    }
+}
+
+impl From<Refused> for Failed {
+    fn from(refused: Refused) -> Failed {
+        Failed::Refused(refused)
     }
 }
 

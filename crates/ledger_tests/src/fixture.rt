@@ -6,7 +6,7 @@ use commit::Ledger;
 use policy_eval::Verify;
 use rules::{Flag, Refused, Row};
 use std::alloc::{AllocError, Global};
-use transaction::{Identity, Version};
+use transaction::Identity;
 use values::{Key, Name, is_key, is_name};
 use world::World;
 
@@ -92,8 +92,8 @@ impl Peer {
         self.ledger.view()
     }
 
-    /// Takes the next block, and answers the numbers of its flags.
-    pub fn take<V: Verify>(
+    // Takes the next block, and answers the numbers of its flags.
+    fn take<V: Verify>(
         &mut self,
         alloc: Global,
         bytes: &[u8],
@@ -103,45 +103,18 @@ impl Peer {
         Ok(numbers(alloc, accepted.flags.as_slice())?)
     }
 
-    pub fn refusal_of(&mut self, bytes: &[u8]) -> Option<Refused> {
-        self.ledger.submit_one(bytes, &SaysOk).err()
+    pub fn refusal_of<V: Verify>(&mut self, bytes: &[u8], verifier: &V) -> Option<Refused> {
+        self.ledger.submit_one(bytes, verifier).err()
     }
 
     /// Takes the next block, and tells whether its flags have these numbers.
-    pub fn is_taken(&mut self, alloc: Global, bytes: &[u8], flags: &[u8]) -> Result<bool, Refused> {
-        Ok(self.take(alloc, bytes, &SaysOk)?.as_slice() == flags)
-    }
-
-    /// Whether the key has a row of this version, with this text of its own policy, which is empty where it has none.
-    pub fn has_row(
-        &self,
+    pub fn is_taken<V: Verify>(
+        &mut self,
         alloc: Global,
-        namespace: &[u8],
-        at: &[u8],
-        version: Version,
-        policy: &str,
-    ) -> Result<bool, Failed> {
-        match row_at(alloc, self.world(), namespace, at)? {
-            None => Ok(false),
-            Some(row) => Ok(row.version == version && policy_text(alloc, row)?.as_str() == policy),
-        }
+        bytes: &[u8],
+        verifier: &V,
+        flags: &[u8],
+    ) -> Result<bool, Refused> {
+        Ok(self.take(alloc, bytes, verifier)?.as_slice() == flags)
     }
-}
-
-/// The peer that has taken these blocks, all but the last, and then the last, whose flags have these numbers.
-pub fn after(alloc: Global, blocks: &[&[u8]], flags: &[u8]) -> Result<Peer, Failed> {
-    let mut peer = Peer::open(alloc)?;
-    let mut are_these = false;
-    for block in blocks {
-        are_these = peer.is_taken(alloc, block, flags)?;
-    }
-    if !are_these {
-        return Err(Failed::Missing("the last block's flags"));
-    }
-    Ok(peer)
-}
-
-/// Whether the last of these blocks has these flags.
-pub fn are_flags(alloc: Global, blocks: &[&[u8]], flags: &[u8]) -> bool {
-    after(alloc, blocks, flags).is_ok()
 }

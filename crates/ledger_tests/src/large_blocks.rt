@@ -1,67 +1,57 @@
-//! Blocks of more than a transaction can hold, which nothing refuses.
+//! A block of more bytes than a transaction can have.
 
-use crate::building::{P0, are_flags_of, body, endorsed};
 use crate::failed::Failed;
-use crate::fixture::{Peer, SaysOk, row_at};
-use block::BlockFault;
-use rules::{Refused, Row};
+use crate::fixture::row_at;
+use crate::scripted::ScriptedPeer;
+use rules::Row;
 use std::alloc::{AllocError, Global};
-use values::Bytes;
+use world::World;
 
-const LARGE: u32 = 1_000_000;
+const LARGE: usize = 400_000;
 
-// Writes this key of `cc`, with a value of LARGE bytes.
-fn large_tx(alloc: Global, key: u8) -> Result<Bytes, AllocError> {
-    let mut sets = Vec::from_slice(alloc, b"\0\x01\x02cc\0\0\0\0\0\x01\0\x01")?;
-    sets.extend_from_slice(&[key, 1])?;
-    sets.extend_from_slice(&LARGE.to_be_bytes())?;
-    sets.extend_from_slice(&vec![in alloc; 7; LARGE as usize]?)?;
-    sets.extend_from_slice(b"\0\0")?;
-    endorsed(body(alloc, u16::from(key), b"cc", &sets)?, &[P0])
+const KEYS: [&str; 3] = ["a", "b", "c"];
+
+fn put_tx(alloc: Global, script: &mut String, key: &str, value: &str) -> Result<(), AllocError> {
+    let tx = format!(in alloc;
+        "tx Org1:client:c0 n{key} cc\nns cc\nwrite {key} {value}\nendorse Org1:peer:p0\n"
+    )?;
+    script.push_str(tx.as_str())
 }
 
-fn large_txs(alloc: Global) -> Result<Vec<Bytes>, AllocError> {
-    let mut txs = Vec::new(alloc);
-    for key in b"abc" {
-        txs.push(large_tx(alloc, *key)?)?;
+// Each key gets a value of LARGE bytes.
+fn large_script(alloc: Global) -> Result<String, AllocError> {
+    let value = "v".repeat(alloc, LARGE)?;
+    let mut script = String::new(alloc);
+    for key in KEYS {
+        put_tx(alloc, &mut script, key, value.as_str())?;
     }
-    Ok(txs)
+    Ok(script)
 }
 
 fn is_large(row: Option<&Row>) -> bool {
     match row {
         None => false,
-        Some(row) => row.value.get().len() == LARGE as usize,
+        Some(row) => row.value.get().len() == LARGE,
     }
 }
 
-#[test]
-fn three_megabytes(rt: HostRuntime) -> Result<(), Failed> {
-    let alloc = rt.alloc();
-    let mut peer = Peer::open(alloc)?;
-    let txs = large_txs(alloc)?;
-    assert!(rt; are_flags_of(alloc, &mut peer, &txs, &SaysOk, &[0, 0, 0])?);
-    for key in b"abc" {
-        assert!(rt; is_large(row_at(alloc, peer.world(), b"cc", &[*key])?));
+fn are_large(alloc: Global, world: &World) -> Result<bool, Failed> {
+    for key in KEYS {
+        if !is_large(row_at(alloc, world, b"cc", key.as_bytes())?) {
+            return Ok(false);
+        }
     }
-    Ok(())
+    Ok(true)
 }
 
-// A block whose one transaction has a byte too many.
-fn too_long(alloc: Global) -> Result<Vec<u8>, AllocError> {
-    let mut bytes = Vec::from_slice(alloc, b"FBK1\0\0\0\0\0\0\0\0\0")?;
-    bytes.extend_from_slice(&[0; 32])?;
-    bytes.extend_from_slice(b"\0\0\0\x01\0\x10\0\x01")?;
-    bytes.extend_from_slice(&vec![in alloc; 0; 1_048_577]?)?;
-    Ok(bytes)
+fn is_taken(alloc: Global) -> Result<bool, Failed> {
+    let mut peer = ScriptedPeer::open(alloc)?;
+    let script = large_script(alloc)?;
+    Ok(peer.is_taken(alloc, script.as_str(), &[0, 0, 0])? && are_large(alloc, peer.world())?)
 }
 
 #[test]
-fn a_transaction_that_is_too_long(rt: HostRuntime) -> Result<(), Failed> {
-    let alloc = rt.alloc();
-    let mut peer = Peer::open(alloc)?;
-    let bytes = too_long(alloc)?;
-    let want = Refused::Malformed(BlockFault::TxTooLong);
-    assert!(rt; peer.refusal_of(&bytes) == Some(want));
+fn more_than_a_mebibyte(rt: HostRuntime) -> Result<(), Failed> {
+    assert!(rt; is_taken(rt.alloc())?);
     Ok(())
 }

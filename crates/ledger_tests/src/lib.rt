@@ -9,32 +9,28 @@ mod building;
 #[cfg(test)]
 mod chain;
 #[cfg(test)]
-mod endorsing;
-#[cfg(test)]
 mod failed;
 #[cfg(test)]
 mod fixture;
 #[cfg(test)]
 mod large_blocks;
 #[cfg(test)]
-mod ledger;
-#[cfg(test)]
 mod long_block;
 #[cfg(test)]
 mod memory;
 #[cfg(test)]
-mod policy_writes;
-#[cfg(test)]
 mod random_txs;
-#[cfg(test)]
-mod reading;
 #[cfg(test)]
 mod refusals;
 #[cfg(test)]
+mod scripted;
+#[cfg(test)]
 mod shown;
 #[cfg(test)]
-mod signing;
+mod submitting;
 #[cfg(test)]
 mod told;
 #[cfg(test)]
 mod vectors;
+#[cfg(test)]
+mod worked_chains;

@@ -1,102 +1,89 @@
 //! A long block, of which every second transaction reads what the one before it has written.
 
-use crate::building::{CREATOR, P0, body, endorsed, flags_of};
+use crate::building::CREATOR;
 use crate::failed::Failed;
-use crate::fixture::{Peer, SaysOk};
+use crate::scripted::ScriptedPeer;
+use crate::shown::is_row;
+use crate::vectors::LeftRow;
 use header_hash::tx_id;
 use rules::{FirstUse, Flag};
 use std::alloc::{AllocError, Global};
-use transaction::Version;
-use values::Bytes;
+use world::World;
 
 // More than a byte can count. Of the last two transactions the first is valid and the second isn't.
-const LENGTH: u16 = 300;
-
-fn put_key(bytes: &mut Vec<u8>, number: u16) -> Result<(), AllocError> {
-    bytes.extend_from_slice(b"\0\x03k")?;
-    bytes.extend_from_slice(&number.to_be_bytes())?;
-    Ok(())
-}
-
-// A value write of the key of this number.
-fn put_write(bytes: &mut Vec<u8>, number: u16) -> Result<(), AllocError> {
-    put_key(bytes, number)?;
-    bytes.extend_from_slice(b"\x01\0\0\0\x01v")?;
-    Ok(())
-}
+const LENGTH: u32 = 300;
 
 // Writes the keys 0 to LENGTH.
-fn first_tx(alloc: Global) -> Result<Bytes, AllocError> {
-    let mut sets = Vec::from_slice(alloc, b"\0\x01\x02cc\0\0\0\0")?;
-    sets.extend_from_slice(&(LENGTH + 1).to_be_bytes())?;
+fn first_script(alloc: Global) -> Result<String, AllocError> {
+    let mut script = String::from_str(
+        alloc,
+        "tx Org1:client:c0 first cc\nendorse Org1:peer:p0\nns cc\n",
+    )?;
     for number in 0..=LENGTH {
-        put_write(&mut sets, number)?;
+        let write = format!(in alloc; "write k{number} v\n")?;
+        script.push_str(write.as_str())?;
     }
-    sets.extend_from_slice(b"\0\0")?;
-    endorsed(body(alloc, LENGTH, b"cc", &sets)?, &[P0])
+    Ok(script)
 }
 
 // Reads the key of its number at (0, 0), and writes the next one.
-fn later_tx(alloc: Global, number: u16) -> Result<Bytes, AllocError> {
-    let mut sets = Vec::from_slice(alloc, b"\0\x01\x02cc\0\x01")?;
-    put_key(&mut sets, number)?;
-    sets.extend_from_slice(b"\x01\0\0\0\0\0\0\0\0\0\0\0\0\0\0\0\x01")?;
-    put_write(&mut sets, number.saturating_add(1))?;
-    sets.extend_from_slice(b"\0\0")?;
-    endorsed(body(alloc, number, b"cc", &sets)?, &[P0])
+fn put_later(alloc: Global, script: &mut String, number: u32, next: u32) -> Result<(), AllocError> {
+    let tx = format!(in alloc;
+        "tx Org1:client:c0 n{number} cc\nns cc\nread k{number} 0 0\nwrite k{next} v\nendorse Org1:peer:p0\n"
+    )?;
+    script.push_str(tx.as_str())
 }
 
-fn later_txs(alloc: Global) -> Result<Vec<Bytes>, AllocError> {
-    let mut txs = Vec::with_capacity(alloc, LENGTH as usize)?;
+fn later_script(alloc: Global) -> Result<String, AllocError> {
+    let mut script = String::new(alloc);
     for number in 0..LENGTH {
-        txs.push(later_tx(alloc, number)?)?;
+        put_later(alloc, &mut script, number, number + 1)?;
     }
-    Ok(txs)
+    Ok(script)
 }
 
-fn is_every_second_stale(flags: &[u8]) -> bool {
-    let mut is_stale = false;
-    for flag in flags {
-        if *flag != if is_stale { 11 } else { 0 } {
-            return false;
-        }
-        is_stale = !is_stale;
+// 0 and 11 in turn.
+fn flags(alloc: Global) -> Result<Vec<u8>, AllocError> {
+    let mut flags = Vec::new(alloc);
+    for _ in 0..LENGTH / 2 {
+        flags.extend_from_slice(&[0, 11])?;
     }
-    flags.len() == LENGTH as usize
+    Ok(flags)
 }
 
-// The peer behind both blocks.
-fn long_chain(alloc: Global) -> Result<Peer, Failed> {
-    let mut peer = Peer::open(alloc)?;
-    let first = first_tx(alloc)?;
-    flags_of(alloc, &mut peer, &[first], &SaysOk)?;
-    let later = later_txs(alloc)?;
-    let flags = flags_of(alloc, &mut peer, &later, &SaysOk)?;
-    if !is_every_second_stale(&flags) {
-        return Err(Failed::Missing("0 11 0 11 .."));
-    }
-    Ok(peer)
+fn are_taken(alloc: Global, peer: &mut ScriptedPeer) -> Result<bool, Failed> {
+    let first = first_script(alloc)?;
+    let later = later_script(alloc)?;
+    let flags = flags(alloc)?;
+    Ok(peer.is_taken(alloc, first.as_str(), &[0])? && peer.is_taken(alloc, later.as_str(), &flags)?)
 }
 
-#[test]
-fn every_second_one_is_stale(rt: HostRuntime) -> Result<(), Failed> {
-    let alloc = rt.alloc();
-    let peer = long_chain(alloc)?;
-    // The last valid one, at place 298, has written key 299.
-    assert!(rt;
-        peer.has_row(
-            alloc,
-            b"cc",
-            b"k\x01\x2b",
-            Version { block: 1, tx: 298 },
-            ""
-        )?
-    );
+// The last valid one, at place 298, has written key 299.
+fn is_left(alloc: Global, world: &World) -> Result<bool, Failed> {
+    let row = LeftRow {
+        value: b"v",
+        block: 1,
+        tx: 298,
+        policy: "",
+    };
     let used = FirstUse {
         block: 1,
         place: 299,
         flag: Flag::MvccReadConflict,
     };
-    assert!(rt; peer.world().first_use(&tx_id(b"\x01\x2b", CREATOR)) == Some(used));
+    Ok(
+        world.first_use(&tx_id(b"n299", CREATOR)) == Some(used)
+            && is_row(alloc, world, b"cc", b"k299", &Some(row))?,
+    )
+}
+
+fn is_so(alloc: Global) -> Result<bool, Failed> {
+    let mut peer = ScriptedPeer::open(alloc)?;
+    Ok(are_taken(alloc, &mut peer)? && is_left(alloc, peer.world())?)
+}
+
+#[test]
+fn every_second_one_is_stale(rt: HostRuntime) -> Result<(), Failed> {
+    assert!(rt; is_so(rt.alloc())?);
     Ok(())
 }

@@ -1,18 +1,69 @@
 use crate::failed::Failed;
-use crate::fixture::{Peer, after};
-use crate::shown::shown;
-use crate::vectors::worked::three_transactions;
+use crate::scripted::ScriptedPeer;
+use crate::shown::{is_row, shown};
+use crate::vectors::LeftRow;
 use rules::Refused;
 use std::alloc::Global;
 
-// Whether a want of memory left the world as it was shown before, and anything else is the answer.
-fn is_as_wanted(
+const FIRST: &str = "\
+tx Org1:client:c0 n1 cc
+ns cc
+write a v
+write c v
+endorse Org1:peer:p0
+";
+
+// A write, a policy write and a range.
+const THREE: &str = "\
+tx Org1:client:c0 n2 cc
+ns cc
+write k value
+endorse Org1:peer:p0
+tx Org1:client:c0 n3 cc
+ns cc
+policy a AND('Org1.peer','Org2.peer')
+endorse Org1:peer:p0
+tx Org1:client:c0 n4 cc
+ns cc
+range b d all
+result c 0 0
+endorse Org1:peer:p0
+";
+
+// Whether the refusal was want of memory, and left the world as it was shown before, in which `k` isn't written.
+fn is_as_before(
     alloc: Global,
-    peer: &Peer,
-    answer: Refused,
+    peer: &ScriptedPeer,
+    refused: Refused,
     before: &[u8],
 ) -> Result<bool, Failed> {
-    Ok(answer == Refused::Memory && shown(alloc, peer.world())?.as_slice() == before)
+    Ok(
+        refused == Refused::Memory
+            && shown(alloc, peer.world())?.as_slice() == before
+            && is_row(alloc, peer.world(), b"cc", b"k", &None)?,
+    )
+}
+
+fn changes_nothing(alloc: Global, peer: &mut ScriptedPeer) -> Result<bool, Failed> {
+    let before = shown(alloc, peer.world())?;
+    let block = peer.block(alloc, THREE)?;
+    if let Some(refused) = peer.refusal_of(block.as_slice()) {
+        return Ok(
+            is_as_before(alloc, peer, refused, &before)?
+                && peer.is_taken(alloc, THREE, &[0, 0, 0])?,
+        );
+    }
+    Ok(true)
+}
+
+fn is_behind_both(alloc: Global, peer: &ScriptedPeer) -> Result<bool, Failed> {
+    let row = LeftRow {
+        value: b"value",
+        block: 1,
+        tx: 0,
+        policy: "",
+    };
+    Ok(peer.world().height() == 2 && is_row(alloc, peer.world(), b"cc", b"k", &Some(row))?)
 }
 
 // To be run with memory that is refused at any one allocation of the submit: then the world is as before, and
@@ -20,13 +71,9 @@ fn is_as_wanted(
 #[test]
 fn refused_memory_changes_nothing(rt: HostRuntime) -> Result<(), Failed> {
     let alloc = rt.alloc();
-    let [first, block] = *three_transactions();
-    let mut peer = after(alloc, &[first], &[0])?;
-    let before = shown(alloc, peer.world())?;
-    if let Some(refused) = peer.refusal_of(block) {
-        assert!(rt; is_as_wanted(alloc, &peer, refused, &before)?);
-        assert!(rt; peer.is_taken(alloc, block, &[0, 0, 0])?);
-    }
-    assert!(rt; peer.world().height() == 2);
+    let mut peer = ScriptedPeer::open(alloc)?;
+    assert!(rt; peer.is_taken(alloc, FIRST, &[0])?);
+    assert!(rt; changes_nothing(alloc, &mut peer)?);
+    assert!(rt; is_behind_both(alloc, &peer)?);
     Ok(())
 }

@@ -1,11 +1,10 @@
 //! Refused bytes between the blocks of the chain.
 
 use crate::failed::Failed;
-use crate::fixture::Peer;
+use crate::fixture::{Peer, SaysOk};
 use crate::shown::shown;
 use crate::vectors::first_blocks::first_blocks;
 use crate::vectors::later_blocks::later_blocks;
-use crate::vectors::worked::transaction_without_bytes;
 use block::BlockFault;
 use rules::Refused;
 use std::alloc::Global;
@@ -27,7 +26,7 @@ fn is_refused(
     bytes: &[u8],
     want: Refused,
 ) -> Result<bool, Failed> {
-    let answer = peer.refusal_of(bytes);
+    let answer = peer.refusal_of(bytes, &SaysOk);
     Ok(answer == Some(want) && shown(alloc, peer.world())?.as_slice() == before)
 }
 
@@ -96,7 +95,7 @@ fn changed_bytes(rt: HostRuntime) -> Result<(), Failed> {
             assert!(rt; refuses_flipped(alloc, &mut peer, block.bytes)?);
             assert!(rt; refuses_cut(alloc, &mut peer, block.bytes)?);
         }
-        assert!(rt; peer.is_taken(alloc, block.bytes, block.flags)?);
+        assert!(rt; peer.is_taken(alloc, block.bytes, &SaysOk, block.flags)?);
     }
     assert!(rt; peer.world().header_hash() == Some(*last_hash()));
     Ok(())
@@ -126,20 +125,8 @@ fn refuses_other_numbers(alloc: Global, peer: &mut Peer) -> Result<bool, Failed>
 fn other_numbers(rt: HostRuntime) -> Result<(), Failed> {
     let mut peer = Peer::open(rt.alloc())?;
     for block in first_blocks().iter().take(4) {
-        assert!(rt; peer.is_taken(rt.alloc(), block.bytes, block.flags)?);
+        assert!(rt; peer.is_taken(rt.alloc(), block.bytes, &SaysOk, block.flags)?);
     }
     assert!(rt; refuses_other_numbers(rt.alloc(), &mut peer)?);
-    Ok(())
-}
-
-// Block 0 has an empty previous hash.
-#[test]
-fn previous_hash_at_the_beginning(rt: HostRuntime) -> Result<(), Failed> {
-    let mut peer = Peer::open(rt.alloc())?;
-    let before = shown(rt.alloc(), peer.world())?;
-    let [with_previous, without] = *transaction_without_bytes();
-    let want = Refused::WrongPrevious;
-    assert!(rt; is_refused(rt.alloc(), &mut peer, &before, with_previous, want)?);
-    assert!(rt; peer.is_taken(rt.alloc(), without, &[2])?);
     Ok(())
 }

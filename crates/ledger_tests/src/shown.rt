@@ -4,12 +4,12 @@ use crate::failed::Failed;
 use crate::fixture::{key, name, policy_text, row_at};
 use crate::vectors::rows::rows;
 use crate::vectors::uses::uses;
-use crate::vectors::{Left, read_use};
+use crate::vectors::{Left, LeftRow, read_use};
 use rules::{HistoryEntry, Row};
 use std::alloc::{AllocError, Global};
 use world::World;
 
-pub fn show_row(alloc: Global, shown: &mut Vec<u8>, row: Option<&Row>) -> Result<(), AllocError> {
+fn show_row(alloc: Global, shown: &mut Vec<u8>, row: Option<&Row>) -> Result<(), AllocError> {
     let Some(row) = row else {
         shown.push(0)?;
         return Ok(());
@@ -20,6 +20,35 @@ pub fn show_row(alloc: Global, shown: &mut Vec<u8>, row: Option<&Row>) -> Result
     shown.extend_from_slice(&row.version.tx.to_be_bytes())?;
     shown.extend_from_slice(policy_text(alloc, row)?.as_bytes())?;
     Ok(())
+}
+
+// What `show_row` shows of the row that is wanted.
+fn show_wanted(wanted: &mut Vec<u8>, row: &Option<LeftRow>) -> Result<(), AllocError> {
+    let Some(row) = row else {
+        wanted.push(0)?;
+        return Ok(());
+    };
+    wanted.push(1)?;
+    wanted.extend_from_slice(row.value)?;
+    wanted.extend_from_slice(&row.block.to_be_bytes())?;
+    wanted.extend_from_slice(&row.tx.to_be_bytes())?;
+    wanted.extend_from_slice(row.policy.as_bytes())?;
+    Ok(())
+}
+
+// Whether the row is this one, or none.
+pub fn is_row(
+    alloc: Global,
+    world: &World,
+    namespace: &[u8],
+    at: &[u8],
+    row: &Option<LeftRow>,
+) -> Result<bool, Failed> {
+    let mut shown = Vec::new(alloc);
+    show_row(alloc, &mut shown, row_at(alloc, world, namespace, at)?)?;
+    let mut wanted = Vec::new(alloc);
+    show_wanted(&mut wanted, row)?;
+    Ok(shown.as_slice() == wanted.as_slice())
 }
 
 // As `Left::history` has it.

@@ -23,11 +23,25 @@ pub struct Left {
 }
 
 /// A value, its version, and the text of its own policy, which is empty where it has none.
+#[derive(Clone, Copy)]
 pub struct LeftRow {
     pub value: &'static [u8],
     pub block: u64,
     pub tx: u32,
     pub policy: &'static str,
+}
+
+/// The script of a block, and the numbers of its flags.
+pub struct Scripted {
+    pub script: &'static str,
+    pub flags: &'static [u8],
+}
+
+/// The blocks of a chain, and the row that they leave at the key `k` of `cc`.
+pub struct WorkedChain {
+    pub name: &'static str,
+    pub blocks: &'static [Scripted],
+    pub row: Option<LeftRow>,
 }
 
 /// The first use of an id, with the number of its flag.

@@ -1,387 +1,637 @@
 //! Chains that each show one thing, made by vectors/make.py.
 
-pub fn reads_of_keys_written_before() -> &'static [&'static [u8]; 2] {
-    &READS_OF_KEYS_WRITTEN_BEFORE
+use super::{LeftRow, Scripted, WorkedChain};
+
+pub fn worked() -> &'static [WorkedChain] {
+    &WORKED
 }
 
-static READS_OF_KEYS_WRITTEN_BEFORE: [&'static [u8]; 2] = [
-    b"FBK1\0\0\0\0\0\0\0\0\0\x7f\xcc%\xb4\xea\x9c\xe9\xbe&\xa3/e\xc5\xe9pvG}QR\xe1\x8d\xec\xe1\xd0\
-    &\xdd\xe1b\xa4)\xd5\0\0\0\x01\0\0\0\xa3\x02ch4d941d69b676a61aff49cd6e78f11d3727d68eebad17b93\
-    3dd85233f09067498\x04Org1\x01\x02c0\x02n1\x02cc\0\x01\x02cc\0\0\0\0\0\x05\0\x02k1\x01\0\0\0\
-    \x01v\0\x02k2\x01\0\0\0\x01v\0\x02k3\x01\0\0\0\x01v\0\x02k4\x01\0\0\0\x01v\0\x02k5\x01\0\0\0\
-    \x01v\0\0\x01\x04Org1\x02\x02p0\0\x02ok\0\x02ok",
-    b"FBK1\0\0\0\0\0\0\0\x01 ^\x9bId\x1eP\x9b\xb6d,x9\xac9\x8e\xd4\xf1\x9b{\x0f\xb4d\x9a\xfc\x91\
-    \x1a.>`c=\xd0L=2\xb5!\xb6\xc8\x82\x1b\x8d\xd8\xdf\xf8\x1c|i\x10-]J+\0\xec\x9bMU\x08/g\xc1\
-    \xcf`\0\0\0\x05\0\0\0\x85\x02chb76915c274f990013592df05fee17b746f061366372c51ee83dc9d555cca5\
-    389\x04Org1\x01\x02c0\x02n2\x02cc\0\x01\x02cc\0\0\0\0\0\x02\0\x02k1\x01\0\0\0\x01v\0\x02k2\
-    \x01\0\0\0\x01v\0\0\x01\x04Org1\x02\x02p0\0\x02ok\0\x02ok\0\0\0\x8c\x02chdf9ae39a69c858c1a7b\
-    d54294d1c59f242892a6ba276255f2d18b918f5f6da6f\x04Org1\x01\x02c0\x02n3\x02cc\0\x01\x02cc\0\
-    \x01\0\x02k1\x01\0\0\0\0\0\0\0\0\0\0\0\0\0\0\0\x01\0\x02k3\x01\0\0\0\x01v\0\0\x01\x04Org1\
-    \x02\x02p0\0\x02ok\0\x02ok\0\0\0{\x02ch72661a15dd44728362993ee41acd0f4100d5e99f81cd71c82b1dd\
-    caaa752cd0d\x04Org1\x01\x02c0\x02n4\x02cc\0\x01\x02cc\0\0\0\0\0\x01\0\x02k2\x01\0\0\0\x01v\0\
-    \0\x01\x04Org1\x02\x02p0\0\x02ok\0\x02ok\0\0\0\x8c\x02chc645fc47b120eee38305fa70923ee9b94bf2\
-    7df6048d8e92ad6ad5160b1fbb51\x04Org1\x01\x02c0\x02n5\x02cc\0\x01\x02cc\0\x01\0\x02k2\x01\0\0\
-    \0\0\0\0\0\0\0\0\0\0\0\0\0\x01\0\x02k2\x01\0\0\0\x01v\0\0\x01\x04Org1\x02\x02p0\0\x02ok\0\
-    \x02ok\0\0\0\x8c\x02ch291332360adafa3423b9c53a39a9e2d7728ec1023a0de7c05e53a03574b1fdb7\x04Or\
-    g1\x01\x02c0\x02n6\x02cc\0\x01\x02cc\0\x01\0\x02k5\x01\0\0\0\0\0\0\0\0\0\0\0\0\0\0\0\x01\0\
-    \x02k6\x01\0\0\0\x01v\0\0\x01\x04Org1\x02\x02p0\0\x02ok\0\x02ok",
-];
-
-pub fn absent_after_a_delete() -> &'static [&'static [u8]; 2] {
-    &ABSENT_AFTER_A_DELETE
-}
-
-static ABSENT_AFTER_A_DELETE: [&'static [u8]; 2] = [
-    b"FBK1\0\0\0\0\0\0\0\0\0\xebzA\x7fH:\xa7YgN\x0doHE\x1c\x85\xdb\x95\x04e\xb5\x041\xf2\x9cE\xf2\
-    \x98t\x81\x19\x8b\0\0\0\x01\0\0\0z\x02ch4d941d69b676a61aff49cd6e78f11d3727d68eebad17b933dd85\
-    233f09067498\x04Org1\x01\x02c0\x02n1\x02cc\0\x01\x02cc\0\0\0\0\0\x01\0\x01k\x01\0\0\0\x01v\0\
-    \0\x01\x04Org1\x02\x02p0\0\x02ok\0\x02ok",
-    b"FBK1\0\0\0\0\0\0\0\x01 0dv\xd4\xef\xd0\xcdz\x161\xb0\x84>\x93\x1e<v\xec\x835\"\xe9:d|*PlIR\
-    \x0e\xb1\xcc\xe8\x9f\x06e\xabb'K\x05I\xae\xfd\xa9\xd0E\xb9\x9c\xbe(\xa2\xa9\xe4\x15\x07(\xe9\
-    \xac\xa8\0\xc3\x1b\0\0\0\x02\0\0\0u\x02chb76915c274f990013592df05fee17b746f061366372c51ee83d\
-    c9d555cca5389\x04Org1\x01\x02c0\x02n2\x02cc\0\x01\x02cc\0\0\0\0\0\x01\0\x01k\0\0\0\x01\x04Or\
-    g1\x02\x02p0\0\x02ok\0\x02ok\0\0\0u\x02chdf9ae39a69c858c1a7bd54294d1c59f242892a6ba276255f2d1\
-    8b918f5f6da6f\x04Org1\x01\x02c0\x02n3\x02cc\0\x01\x02cc\0\x01\0\x01k\0\0\0\0\0\0\0\x01\x04Or\
-    g1\x02\x02p0\0\x02ok\0\x02ok",
-];
-
-pub fn read_of_a_write_in_the_block() -> &'static [&'static [u8]; 2] {
-    &READ_OF_A_WRITE_IN_THE_BLOCK
-}
-
-static READ_OF_A_WRITE_IN_THE_BLOCK: [&'static [u8]; 2] = [
-    b"FBK1\0\0\0\0\0\0\0\0\0\xe3\xb0\xc4B\x98\xfc\x1c\x14\x9a\xfb\xf4\xc8\x99o\xb9$'\xaeA\xe4d\x9b\
-    \x93L\xa4\x95\x99\x1bxR\xb8U\0\0\0\0",
-    b"FBK1\0\0\0\0\0\0\0\x01 \x9c\xaeo\\\x10uo\xeb\xc4\x07\xbb\xa9_\xc28SwL\x1fe\xf1\x03T\x89[\xfd\
-    \xabdC\xd6n\xd3\xe7H\xd9O\x853\xe6;~/|3\x17\x03\xe1\xef\x924\x15\xfe\xeb\x1cQ\xe1\x93\xf6m,\
-    \xc3\x0e\xc4\xa6\0\0\0\x02\0\0\0z\x02ch4d941d69b676a61aff49cd6e78f11d3727d68eebad17b933dd852\
-    33f09067498\x04Org1\x01\x02c0\x02n1\x02cc\0\x01\x02cc\0\0\0\0\0\x01\0\x01k\x01\0\0\0\x01v\0\
-    \0\x01\x04Org1\x02\x02p0\0\x02ok\0\x02ok\0\0\0\x81\x02chb76915c274f990013592df05fee17b746f06\
-    1366372c51ee83dc9d555cca5389\x04Org1\x01\x02c0\x02n2\x02cc\0\x01\x02cc\0\x01\0\x01k\x01\0\0\
-    \0\0\0\0\0\x01\0\0\0\0\0\0\0\0\0\0\x01\x04Org1\x02\x02p0\0\x02ok\0\x02ok",
-];
-
-pub fn read_of_an_invalid_write() -> &'static [&'static [u8]; 2] {
-    &READ_OF_AN_INVALID_WRITE
-}
-
-static READ_OF_AN_INVALID_WRITE: [&'static [u8]; 2] = [
-    b"FBK1\0\0\0\0\0\0\0\0\0\xe3\xb0\xc4B\x98\xfc\x1c\x14\x9a\xfb\xf4\xc8\x99o\xb9$'\xaeA\xe4d\x9b\
-    \x93L\xa4\x95\x99\x1bxR\xb8U\0\0\0\0",
-    b"FBK1\0\0\0\0\0\0\0\x01 \x9c\xaeo\\\x10uo\xeb\xc4\x07\xbb\xa9_\xc28SwL\x1fe\xf1\x03T\x89[\xfd\
-    \xabdC\xd6n\xd3\xee\xb8\xaa\xab2}\xaf\xb1'\x7f\x0f()\xdc\x8c\xde\xb7\xd2\x93\xe5\xac\x1an.\\\
-    \x84\xad\x9a{K\x03\xee\0\0\0\x02\0\0\0m\x02ch4d941d69b676a61aff49cd6e78f11d3727d68eebad17b93\
-    3dd85233f09067498\x04Org1\x01\x02c0\x02n1\x02cc\0\x01\x02cc\0\0\0\0\0\x01\0\x01k\x01\0\0\0\
-    \x01v\0\0\0\0\x02ok\0\0\0\x81\x02chb76915c274f990013592df05fee17b746f061366372c51ee83dc9d555\
-    cca5389\x04Org1\x01\x02c0\x02n2\x02cc\0\x01\x02cc\0\x01\0\x01k\x01\0\0\0\0\0\0\0\x01\0\0\0\0\
-    \0\0\0\0\0\0\x01\x04Org1\x02\x02p0\0\x02ok\0\x02ok",
-];
-
-pub fn policy_write_of_a_stale_reader() -> &'static [&'static [u8]; 2] {
-    &POLICY_WRITE_OF_A_STALE_READER
-}
-
-static POLICY_WRITE_OF_A_STALE_READER: [&'static [u8]; 2] = [
-    b"FBK1\0\0\0\0\0\0\0\0\0\x03uO\x91\xda\xa3\xa2L\xa5M\xb7\xbc\\\xacm\x8aZ\x1d/\xe1\x8f[\xdbKT\
-    \xd8\xdb\xfc\xe0_\x1f\xf1\0\0\0\x01\0\0\0\x83\x02ch4d941d69b676a61aff49cd6e78f11d3727d68eeba\
-    d17b933dd85233f09067498\x04Org1\x01\x02c0\x02n1\x02cc\0\x01\x02cc\0\0\0\0\0\x02\0\x01k\x01\0\
-    \0\0\x01v\0\x01x\x01\0\0\0\x01v\0\0\x01\x04Org1\x02\x02p0\0\x02ok\0\x02ok",
-    b"FBK1\0\0\0\0\0\0\0\x01 g\x14\xa7\xeaSlN\x18\x12\xa6\xd3\x93\xc6\xf3\xb5\xe1\x8a\xd5\x1bA\xfb\
-    \x88\"vB\xbc\xda\xae0\xfa!k\xc2\x04.\x94\xd7\xf5|j=\x07teONN\xb8\x1bt\x8e\"-\x9f0\x1b\x84\
-    \xcfs\xea8\xb9\x98\x94\0\0\0\x02\0\0\0\x97\x02chb76915c274f990013592df05fee17b746f061366372c\
-    51ee83dc9d555cca5389\x04Org1\x01\x02c0\x02n2\x02cc\0\x01\x02cc\0\x01\0\x01x\0\0\0\0\0\0\x01\
-    \0\x01k\x01\0\x1cAND('Org1.peer','Org2.peer')\x01\x04Org1\x02\x02p0\0\x02ok\0\x02ok\0\0\0z\
-    \x02chdf9ae39a69c858c1a7bd54294d1c59f242892a6ba276255f2d18b918f5f6da6f\x04Org1\x01\x02c0\x02\
-    n3\x02cc\0\x01\x02cc\0\0\0\0\0\x01\0\x01k\x01\0\0\0\x01v\0\0\x01\x04Org1\x02\x02p0\0\x02ok\0\
-    \x02ok",
-];
-
-pub fn policy_write_of_a_deleted_key() -> &'static [&'static [u8]; 2] {
-    &POLICY_WRITE_OF_A_DELETED_KEY
-}
-
-static POLICY_WRITE_OF_A_DELETED_KEY: [&'static [u8]; 2] = [
-    b"FBK1\0\0\0\0\0\0\0\0\0\xebzA\x7fH:\xa7YgN\x0doHE\x1c\x85\xdb\x95\x04e\xb5\x041\xf2\x9cE\xf2\
-    \x98t\x81\x19\x8b\0\0\0\x01\0\0\0z\x02ch4d941d69b676a61aff49cd6e78f11d3727d68eebad17b933dd85\
-    233f09067498\x04Org1\x01\x02c0\x02n1\x02cc\0\x01\x02cc\0\0\0\0\0\x01\0\x01k\x01\0\0\0\x01v\0\
-    \0\x01\x04Org1\x02\x02p0\0\x02ok\0\x02ok",
-    b"FBK1\0\0\0\0\0\0\0\x01 0dv\xd4\xef\xd0\xcdz\x161\xb0\x84>\x93\x1e<v\xec\x835\"\xe9:d|*PlIR\
-    \x0e\xb1\xd1\x91\xd0\xd8\x0a\x19\xceaB\x84\xc4\xb2\xc7\xb3tX\x01v\x92ji\xd2\x0bUT*\0\xdc}[%\
-    \x88\0\0\0\x03\0\0\0u\x02chb76915c274f990013592df05fee17b746f061366372c51ee83dc9d555cca5389\
-    \x04Org1\x01\x02c0\x02n2\x02cc\0\x01\x02cc\0\0\0\0\0\x01\0\x01k\0\0\0\x01\x04Org1\x02\x02p0\
-    \0\x02ok\0\x02ok\0\0\0\x93\x02chdf9ae39a69c858c1a7bd54294d1c59f242892a6ba276255f2d18b918f5f6\
-    da6f\x04Org1\x01\x02c0\x02n3\x02cc\0\x01\x02cc\0\0\0\0\0\0\0\x01\0\x01k\x01\0\x1cAND('Org1.p\
-    eer','Org2.peer')\x01\x04Org1\x02\x02p0\0\x02ok\0\x02ok\0\0\0u\x02ch72661a15dd44728362993ee4\
-    1acd0f4100d5e99f81cd71c82b1ddcaaa752cd0d\x04Org1\x01\x02c0\x02n4\x02cc\0\x01\x02cc\0\x01\0\
-    \x01k\0\0\0\0\0\0\0\x01\x04Org1\x02\x02p0\0\x02ok\0\x02ok",
-];
-
-pub fn key_with_a_policy_of_its_own() -> &'static [&'static [u8]; 2] {
-    &KEY_WITH_A_POLICY_OF_ITS_OWN
-}
-
-static KEY_WITH_A_POLICY_OF_ITS_OWN: [&'static [u8]; 2] = [
-    b"FBK1\0\0\0\0\0\0\0\0\0\xa51\x8e\xc6\x8f~{\x03w\x1c&A\xb2\x9c\xa2\xc9\xe4\xa0ra\xd0\xaeQ\x0dM\
-    x\xd1<*V\x09E\0\0\0\x01\0\0\0\x9e\x02ch4d941d69b676a61aff49cd6e78f11d3727d68eebad17b933dd852\
-    33f09067498\x04Org1\x01\x02c0\x02n1\x02cc\0\x01\x02cc\0\0\0\0\0\x01\0\x02k1\x01\0\0\0\x01v\0\
-    \x01\0\x02k1\x01\0\x1cAND('Org1.peer','Org2.peer')\x01\x04Org1\x02\x02p0\0\x02ok\0\x02ok",
-    b"FBK1\0\0\0\0\0\0\0\x01 \xb88\xfamb\xe8\x17\xa6#B\x15\xfa\x03\x17\x91q\x83i\x1av\x7f\xf9\xb5\
-    \xc9\xba%z\xf7\xf3Zr\xd0\xa6c\xa1:\xa6j\xb0\xaf\xccP\xeaI\xc0\xdb\x1eMj\x0b[<%I \x9b\x0c\x9a\
-    }\xdd\xcc\xe8\xb3\x02\0\0\0\x02\0\0\0{\x02chb76915c274f990013592df05fee17b746f061366372c51ee\
-    83dc9d555cca5389\x04Org1\x01\x02c0\x02n2\x02cc\0\x01\x02cc\0\0\0\0\0\x01\0\x02k1\x01\0\0\0\
-    \x01v\0\0\x01\x04Org1\x02\x02p0\0\x02ok\0\x02ok\0\0\0\x88\x02chdf9ae39a69c858c1a7bd54294d1c5\
-    9f242892a6ba276255f2d18b918f5f6da6f\x04Org1\x01\x02c0\x02n3\x02cc\0\x01\x02cc\0\0\0\0\0\x01\
-    \0\x02k1\x01\0\0\0\x01v\0\0\x02\x04Org1\x02\x02p0\0\x02ok\x04Org2\x02\x02q0\0\x02ok\0\x02ok",
-];
-
-pub fn policy_write_in_a_later_block() -> &'static [&'static [u8]; 3] {
-    &POLICY_WRITE_IN_A_LATER_BLOCK
-}
-
-static POLICY_WRITE_IN_A_LATER_BLOCK: [&'static [u8]; 3] = [
-    b"FBK1\0\0\0\0\0\0\0\0\060\xa4\xb2mS\xbd?&\x19E\x9f|\xf3\x07\"\"\xd5\xca\xbc\x06\"\x852\xf7\
-    \xa7a\x8ee9-\xf0\0\0\0\x01\0\0\0{\x02ch4d941d69b676a61aff49cd6e78f11d3727d68eebad17b933dd852\
-    33f09067498\x04Org1\x01\x02c0\x02n1\x02cc\0\x01\x02cc\0\0\0\0\0\x01\0\x01k\x01\0\0\0\x02v1\0\
-    \0\x01\x04Org1\x02\x02p0\0\x02ok\0\x02ok",
-    b"FBK1\0\0\0\0\0\0\0\x01 v\xb7[\x1f1\x92\xbc\xbb0\xb8\xfee\x92k\x09\x81\xf2\xc0B\xab\xe1\xc9\
-    \x01@<\x9cSP\xc0\xf1\xa7O\xa5\xe4\xa7\xf4\x8e\x13UA\x19\xd2\x81\x90\xc6\x84\xea.g\xb0I\x09u\
-    \\\x99\x99\xc8\x9d\xec\x1eH\xb6\xbf\xef\0\0\0\x01\0\0\0u\x02chb76915c274f990013592df05fee17b\
-    746f061366372c51ee83dc9d555cca5389\x04Org1\x01\x02c0\x02n2\x02cc\0\x01\x02cc\0\0\0\0\0\x01\0\
-    \x01k\0\0\0\x01\x04Org1\x02\x02p0\0\x02ok\0\x02ok",
-    b"FBK1\0\0\0\0\0\0\0\x02 i\xb0\xba\xe5\xe25P\x7f\x80&s\x8a\xfcE+?L\x1d\x91\xd2\x04\xb0\x05\xe2\
-    \xaf\x90OE\x1ef\xc5\x99|\x15\xd9\x88%\xb5\"\xf8\xe3|\x954\x96 K.<GKI\x8b\x1ez\xbf\x824a0\x19\
-    \xa1H\xfd\0\0\0\x01\0\0\0\x93\x02chdf9ae39a69c858c1a7bd54294d1c59f242892a6ba276255f2d18b918f\
-    5f6da6f\x04Org1\x01\x02c0\x02n3\x02cc\0\x01\x02cc\0\0\0\0\0\0\0\x01\0\x01k\x01\0\x1cAND('Org\
-    1.peer','Org2.peer')\x01\x04Org1\x02\x02p0\0\x02ok\0\x02ok",
-];
-
-pub fn one_peer_twice() -> &'static [&'static [u8]; 2] {
-    &ONE_PEER_TWICE
-}
-
-static ONE_PEER_TWICE: [&'static [u8]; 2] = [
-    b"FBK1\0\0\0\0\0\0\0\0\0\xe3\xb0\xc4B\x98\xfc\x1c\x14\x9a\xfb\xf4\xc8\x99o\xb9$'\xaeA\xe4d\x9b\
-    \x93L\xa4\x95\x99\x1bxR\xb8U\0\0\0\0",
-    b"FBK1\0\0\0\0\0\0\0\x01 \x9c\xaeo\\\x10uo\xeb\xc4\x07\xbb\xa9_\xc28SwL\x1fe\xf1\x03T\x89[\xfd\
-    \xabdC\xd6n\xd3\x97\xa5.\x0e\x8f0\xad\xdbP4\xdb\x80\x9e;\xc4\xf2\xe9\x9eq\xb4\xb64\x0c\xa9\
-    \x19\x12~O\xba\x9d\x88a\0\0\0\x02\0\0\0\x8b\x02ch4d941d69b676a61aff49cd6e78f11d3727d68eebad1\
-    7b933dd85233f09067498\x04Org1\x01\x02c0\x02n1\x04pair\0\x01\x04pair\0\0\0\0\0\x01\0\x01k\x01\
-    \0\0\0\x01v\0\0\x02\x04Org1\x02\x02p0\0\x02ok\x04Org1\x02\x02p0\0\x02ok\0\x02ok\0\0\0\x8b\
-    \x02chb76915c274f990013592df05fee17b746f061366372c51ee83dc9d555cca5389\x04Org1\x01\x02c0\x02\
-    n2\x04pair\0\x01\x04pair\0\0\0\0\0\x01\0\x01k\x01\0\0\0\x01v\0\0\x02\x04Org1\x02\x02p0\0\x02\
-    ok\x04Org1\x02\x02p1\0\x02ok\0\x02ok",
-];
-
-pub fn admin_before_peer() -> &'static [&'static [u8]; 2] {
-    &ADMIN_BEFORE_PEER
-}
-
-static ADMIN_BEFORE_PEER: [&'static [u8]; 2] = [
-    b"FBK1\0\0\0\0\0\0\0\0\0\xe3\xb0\xc4B\x98\xfc\x1c\x14\x9a\xfb\xf4\xc8\x99o\xb9$'\xaeA\xe4d\x9b\
-    \x93L\xa4\x95\x99\x1bxR\xb8U\0\0\0\0",
-    b"FBK1\0\0\0\0\0\0\0\x01 \x9c\xaeo\\\x10uo\xeb\xc4\x07\xbb\xa9_\xc28SwL\x1fe\xf1\x03T\x89[\xfd\
-    \xabdC\xd6n\xd3|\x92\xa28$\x0bE\x80\x82\x8ff\x8b)p?\x96\xa4\x1e\x03\x16{\x9b\xa1Q\x9bRf\xa7\
-    \x09\xe8\xa6\x8b\0\0\0\x02\0\0\0\x8c\x02ch4d941d69b676a61aff49cd6e78f11d3727d68eebad17b933dd\
-    85233f09067498\x04Org1\x01\x02c0\x02n1\x05chief\0\x01\x05chief\0\0\0\0\0\x01\0\x01k\x01\0\0\
-    \0\x01v\0\0\x02\x04Org1\0\x01a\0\x02ok\x04Org1\x02\x02p0\0\x02ok\0\x02ok\0\0\0\x8c\x02chb769\
-    15c274f990013592df05fee17b746f061366372c51ee83dc9d555cca5389\x04Org1\x01\x02c0\x02n2\x05chie\
-    f\0\x01\x05chief\0\0\0\0\0\x01\0\x01k\x01\0\0\0\x01v\0\0\x02\x04Org1\x02\x02p0\0\x02ok\x04Or\
-    g1\0\x01a\0\x02ok\0\x02ok",
-];
-
-pub fn inner_gates() -> &'static [&'static [u8]; 2] {
-    &INNER_GATES
-}
-
-static INNER_GATES: [&'static [u8]; 2] = [
-    b"FBK1\0\0\0\0\0\0\0\0\0\xe3\xb0\xc4B\x98\xfc\x1c\x14\x9a\xfb\xf4\xc8\x99o\xb9$'\xaeA\xe4d\x9b\
-    \x93L\xa4\x95\x99\x1bxR\xb8U\0\0\0\0",
-    b"FBK1\0\0\0\0\0\0\0\x01 \x9c\xaeo\\\x10uo\xeb\xc4\x07\xbb\xa9_\xc28SwL\x1fe\xf1\x03T\x89[\xfd\
-    \xabdC\xd6n\xd3\xed\xc6\xe3\xa6d\xca\xd1\x11\xe4\xed\xe6\0\x9bd\x9b\xb5K\x8d\xf9(\xbb\x03\"^\
-    \xe1h\xd1]\xf9\xf4\xd6\xe9\0\0\0\x02\0\0\0\x82\x02ch4d941d69b676a61aff49cd6e78f11d3727d68eeb\
-    ad17b933dd85233f09067498\x04Org1\x01\x02c0\x02n1\x06either\0\x01\x06either\0\0\0\0\0\x01\0\
-    \x01k\x01\0\0\0\x01v\0\0\x01\x04Org1\x02\x02p0\0\x02ok\0\x02ok\0\0\0\x8f\x02chb76915c274f990\
-    013592df05fee17b746f061366372c51ee83dc9d555cca5389\x04Org1\x01\x02c0\x02n2\x06greedy\0\x01\
-    \x06greedy\0\0\0\0\0\x01\0\x01k\x01\0\0\0\x01v\0\0\x02\x04Org1\x02\x02p0\0\x02ok\x04Org1\x02\
-    \x02p1\0\x02ok\0\x02ok",
-];
-
-pub fn insert_into_a_range() -> &'static [&'static [u8]; 2] {
-    &INSERT_INTO_A_RANGE
-}
-
-static INSERT_INTO_A_RANGE: [&'static [u8]; 2] = [
-    b"FBK1\0\0\0\0\0\0\0\0\0K\x13k\x0cp\xee5\x8d\xd3\xb0\xec\xd7\x90\x8e}\xdd/'`%\xc9\x17\xb0\x02\
-    \x11\x8fJ\xf8\xa55w,\0\0\0\x01\0\0\0\x83\x02ch4d941d69b676a61aff49cd6e78f11d3727d68eebad17b9\
-    33dd85233f09067498\x04Org1\x01\x02c0\x02n1\x02cc\0\x01\x02cc\0\0\0\0\0\x02\0\x01a\x01\0\0\0\
-    \x01v\0\x01c\x01\0\0\0\x01v\0\0\x01\x04Org1\x02\x02p0\0\x02ok\0\x02ok",
-    b"FBK1\0\0\0\0\0\0\0\x01 6\xe4\xd2\xd2\x8f@@\x9cU\xe7\xe1\x10\xf5O\xf4f\xf6Fuw\xea3\x19\x8f\
-    \xb9\xab[B\x110\xeb\x92r\xee'y)d\xa3JL\x87\x07\xba\xbe\xf1\xb5+r\x13\xf9\x87\xafx\xb4\xcd\
-    \xaf\xe4\\\xef\xf2&\x12\xf0\0\0\0\x02\0\0\0z\x02chb76915c274f990013592df05fee17b746f06136637\
-    2c51ee83dc9d555cca5389\x04Org1\x01\x02c0\x02n2\x02cc\0\x01\x02cc\0\0\0\0\0\x01\0\x01b\x01\0\
-    \0\0\x01v\0\0\x01\x04Org1\x02\x02p0\0\x02ok\0\x02ok\0\0\0\x98\x02chdf9ae39a69c858c1a7bd54294\
-    d1c59f242892a6ba276255f2d18b918f5f6da6f\x04Org1\x01\x02c0\x02n3\x02cc\0\x01\x02cc\0\0\0\x01\
-    \0\x01a\0\x01d\x01\0\x02\0\x01a\0\0\0\0\0\0\0\0\0\0\0\0\0\x01c\0\0\0\0\0\0\0\0\0\0\0\0\0\0\0\
-    \0\x01\x04Org1\x02\x02p0\0\x02ok\0\x02ok",
-];
-
-pub fn invalid_insert_into_a_range() -> &'static [&'static [u8]; 2] {
-    &INVALID_INSERT_INTO_A_RANGE
-}
-
-static INVALID_INSERT_INTO_A_RANGE: [&'static [u8]; 2] = [
-    b"FBK1\0\0\0\0\0\0\0\0\0K\x13k\x0cp\xee5\x8d\xd3\xb0\xec\xd7\x90\x8e}\xdd/'`%\xc9\x17\xb0\x02\
-    \x11\x8fJ\xf8\xa55w,\0\0\0\x01\0\0\0\x83\x02ch4d941d69b676a61aff49cd6e78f11d3727d68eebad17b9\
-    33dd85233f09067498\x04Org1\x01\x02c0\x02n1\x02cc\0\x01\x02cc\0\0\0\0\0\x02\0\x01a\x01\0\0\0\
-    \x01v\0\x01c\x01\0\0\0\x01v\0\0\x01\x04Org1\x02\x02p0\0\x02ok\0\x02ok",
-    b"FBK1\0\0\0\0\0\0\0\x01 6\xe4\xd2\xd2\x8f@@\x9cU\xe7\xe1\x10\xf5O\xf4f\xf6Fuw\xea3\x19\x8f\
-    \xb9\xab[B\x110\xeb\x92\xef\x97\xeee\xc4Q\xc3\xd2R\xaf\x94\xe34\xcd\x10\xf2\x92\x05\xed\xd0\
-    \x11.\x06\xfa\xaa\xa9\x90Cr\x0e\x89x\0\0\0\x02\0\0\0m\x02chb76915c274f990013592df05fee17b746\
-    f061366372c51ee83dc9d555cca5389\x04Org1\x01\x02c0\x02n2\x02cc\0\x01\x02cc\0\0\0\0\0\x01\0\
-    \x01b\x01\0\0\0\x01v\0\0\0\0\x02ok\0\0\0\x98\x02chdf9ae39a69c858c1a7bd54294d1c59f242892a6ba2\
-    76255f2d18b918f5f6da6f\x04Org1\x01\x02c0\x02n3\x02cc\0\x01\x02cc\0\0\0\x01\0\x01a\0\x01d\x01\
-    \0\x02\0\x01a\0\0\0\0\0\0\0\0\0\0\0\0\0\x01c\0\0\0\0\0\0\0\0\0\0\0\0\0\0\0\0\x01\x04Org1\x02\
-    \x02p0\0\x02ok\0\x02ok",
-];
-
-pub fn insert_behind_the_last_result() -> &'static [&'static [u8]; 2] {
-    &INSERT_BEHIND_THE_LAST_RESULT
-}
-
-static INSERT_BEHIND_THE_LAST_RESULT: [&'static [u8]; 2] = [
-    b"FBK1\0\0\0\0\0\0\0\0\0K\x13k\x0cp\xee5\x8d\xd3\xb0\xec\xd7\x90\x8e}\xdd/'`%\xc9\x17\xb0\x02\
-    \x11\x8fJ\xf8\xa55w,\0\0\0\x01\0\0\0\x83\x02ch4d941d69b676a61aff49cd6e78f11d3727d68eebad17b9\
-    33dd85233f09067498\x04Org1\x01\x02c0\x02n1\x02cc\0\x01\x02cc\0\0\0\0\0\x02\0\x01a\x01\0\0\0\
-    \x01v\0\x01c\x01\0\0\0\x01v\0\0\x01\x04Org1\x02\x02p0\0\x02ok\0\x02ok",
-    b"FBK1\0\0\0\0\0\0\0\x01 6\xe4\xd2\xd2\x8f@@\x9cU\xe7\xe1\x10\xf5O\xf4f\xf6Fuw\xea3\x19\x8f\
-    \xb9\xab[B\x110\xeb\x92\x96w\xc5-R\x01Y\xdbH\x97R%|\x0dM\xcf\xf6\xdf\xee\x02r\xe7\x16\x9a\
-    \xd5\x05\x1c\xdeyxd\xf7\0\0\0\x02\0\0\0{\x02chb76915c274f990013592df05fee17b746f061366372c51\
-    ee83dc9d555cca5389\x04Org1\x01\x02c0\x02n2\x02cc\0\x01\x02cc\0\0\0\0\0\x01\0\x02cc\x01\0\0\0\
-    \x01v\0\0\x01\x04Org1\x02\x02p0\0\x02ok\0\x02ok\0\0\0\x98\x02chdf9ae39a69c858c1a7bd54294d1c5\
-    9f242892a6ba276255f2d18b918f5f6da6f\x04Org1\x01\x02c0\x02n3\x02cc\0\x01\x02cc\0\0\0\x01\0\
-    \x01a\0\x01d\0\0\x02\0\x01a\0\0\0\0\0\0\0\0\0\0\0\0\0\x01c\0\0\0\0\0\0\0\0\0\0\0\0\0\0\0\0\
-    \x01\x04Org1\x02\x02p0\0\x02ok\0\x02ok",
-];
-
-pub fn insert_and_no_result() -> &'static [&'static [u8]; 2] {
-    &INSERT_AND_NO_RESULT
-}
-
-static INSERT_AND_NO_RESULT: [&'static [u8]; 2] = [
-    b"FBK1\0\0\0\0\0\0\0\0\0K\x13k\x0cp\xee5\x8d\xd3\xb0\xec\xd7\x90\x8e}\xdd/'`%\xc9\x17\xb0\x02\
-    \x11\x8fJ\xf8\xa55w,\0\0\0\x01\0\0\0\x83\x02ch4d941d69b676a61aff49cd6e78f11d3727d68eebad17b9\
-    33dd85233f09067498\x04Org1\x01\x02c0\x02n1\x02cc\0\x01\x02cc\0\0\0\0\0\x02\0\x01a\x01\0\0\0\
-    \x01v\0\x01c\x01\0\0\0\x01v\0\0\x01\x04Org1\x02\x02p0\0\x02ok\0\x02ok",
-    b"FBK1\0\0\0\0\0\0\0\x01 6\xe4\xd2\xd2\x8f@@\x9cU\xe7\xe1\x10\xf5O\xf4f\xf6Fuw\xea3\x19\x8f\
-    \xb9\xab[B\x110\xeb\x92_\xf5\x8c\xb4\xcflM\x1f\xa3[\x9d\xdd\xdev\x9bi\x9a\xe5U\x0e\xbd\xb6\
-    \xaf_!:\x88\xfc[\x14\x94\xfb\0\0\0\x02\0\0\0z\x02chb76915c274f990013592df05fee17b746f0613663\
-    72c51ee83dc9d555cca5389\x04Org1\x01\x02c0\x02n2\x02cc\0\x01\x02cc\0\0\0\0\0\x01\0\x01b\x01\0\
-    \0\0\x01v\0\0\x01\x04Org1\x02\x02p0\0\x02ok\0\x02ok\0\0\0z\x02chdf9ae39a69c858c1a7bd54294d1c\
-    59f242892a6ba276255f2d18b918f5f6da6f\x04Org1\x01\x02c0\x02n3\x02cc\0\x01\x02cc\0\0\0\x01\0\
-    \x01a\0\x01d\0\0\0\0\0\0\0\x01\x04Org1\x02\x02p0\0\x02ok\0\x02ok",
-];
-
-pub fn later_insert_and_no_result() -> &'static [&'static [u8]; 2] {
-    &LATER_INSERT_AND_NO_RESULT
-}
-
-static LATER_INSERT_AND_NO_RESULT: [&'static [u8]; 2] = [
-    b"FBK1\0\0\0\0\0\0\0\0\0K\x13k\x0cp\xee5\x8d\xd3\xb0\xec\xd7\x90\x8e}\xdd/'`%\xc9\x17\xb0\x02\
-    \x11\x8fJ\xf8\xa55w,\0\0\0\x01\0\0\0\x83\x02ch4d941d69b676a61aff49cd6e78f11d3727d68eebad17b9\
-    33dd85233f09067498\x04Org1\x01\x02c0\x02n1\x02cc\0\x01\x02cc\0\0\0\0\0\x02\0\x01a\x01\0\0\0\
-    \x01v\0\x01c\x01\0\0\0\x01v\0\0\x01\x04Org1\x02\x02p0\0\x02ok\0\x02ok",
-    b"FBK1\0\0\0\0\0\0\0\x01 6\xe4\xd2\xd2\x8f@@\x9cU\xe7\xe1\x10\xf5O\xf4f\xf6Fuw\xea3\x19\x8f\
-    \xb9\xab[B\x110\xeb\x92\x16R\xf8\xa1/\xd6\xf4<\xc1b\xac^F\x8b^\xce\xd4\xa1\xdd*/\xa4x\xb2n\
-    \x1bf\xbc\xa7G\xb8\xf8\0\0\0\x02\0\0\0{\x02chb76915c274f990013592df05fee17b746f061366372c51e\
-    e83dc9d555cca5389\x04Org1\x01\x02c0\x02n2\x02cc\0\x01\x02cc\0\0\0\0\0\x01\0\x02cc\x01\0\0\0\
-    \x01v\0\0\x01\x04Org1\x02\x02p0\0\x02ok\0\x02ok\0\0\0z\x02chdf9ae39a69c858c1a7bd54294d1c59f2\
-    42892a6ba276255f2d18b918f5f6da6f\x04Org1\x01\x02c0\x02n3\x02cc\0\x01\x02cc\0\0\0\x01\0\x01a\
-    \0\x01d\0\0\0\0\0\0\0\x01\x04Org1\x02\x02p0\0\x02ok\0\x02ok",
-];
-
-pub fn phantom_before_stale() -> &'static [&'static [u8]; 2] {
-    &PHANTOM_BEFORE_STALE
-}
-
-static PHANTOM_BEFORE_STALE: [&'static [u8]; 2] = [
-    b"FBK1\0\0\0\0\0\0\0\0\0\xd7TY\x0f\"\x9d0p\x81\xaa\xf6X\xf7\xd2\x8d\x9a\xc2C\0o\xf9\x0f\x9ak\
-    \xc5\xce\xca|\xc3:U\xf7\0\0\0\x01\0\0\0z\x02ch4d941d69b676a61aff49cd6e78f11d3727d68eebad17b9\
-    33dd85233f09067498\x04Org1\x01\x02c0\x02n1\x02cc\0\x01\x02cc\0\0\0\0\0\x01\0\x01a\x01\0\0\0\
-    \x01v\0\0\x01\x04Org1\x02\x02p0\0\x02ok\0\x02ok",
-    b"FBK1\0\0\0\0\0\0\0\x01 \xb0\xb92m\x95\x1a(\xcdL\"\xc9\xe3\xe4\xfc\xb6\xd1\x089\xa1\xf7\x9dx\
-    \xc6H6\xfc;\x14\x17\x0c\x1a\x86\xab4+\xdc\x9d\xe5\x90\xe2@\xe4\xe6`\xfe\x9c&!N\x1aNQ'\xa6% \
-    \xe2\xc2\xf7\xe3\xb3\xb0d\xfa\0\0\0\x01\0\0\0\x95\x02chb76915c274f990013592df05fee17b746f061\
-    366372c51ee83dc9d555cca5389\x04Org1\x01\x02c0\x02n2\x02cc\0\x02\x02cc\0\0\0\x01\0\x01a\0\x01\
-    d\x01\0\0\0\0\0\0\x02dd\0\x01\0\x01a\x01\0\0\0\0\0\0\0\0\0\0\0\0\0\0\0\0\0\0\x01\x04Org1\x02\
-    \x02p0\0\x02ok\0\x02ok",
-];
-
-pub fn phantom_and_stale() -> &'static [&'static [u8]; 2] {
-    &PHANTOM_AND_STALE
-}
-
-static PHANTOM_AND_STALE: [&'static [u8]; 2] = [
-    b"FBK1\0\0\0\0\0\0\0\0\0\xd7TY\x0f\"\x9d0p\x81\xaa\xf6X\xf7\xd2\x8d\x9a\xc2C\0o\xf9\x0f\x9ak\
-    \xc5\xce\xca|\xc3:U\xf7\0\0\0\x01\0\0\0z\x02ch4d941d69b676a61aff49cd6e78f11d3727d68eebad17b9\
-    33dd85233f09067498\x04Org1\x01\x02c0\x02n1\x02cc\0\x01\x02cc\0\0\0\0\0\x01\0\x01a\x01\0\0\0\
-    \x01v\0\0\x01\x04Org1\x02\x02p0\0\x02ok\0\x02ok",
-    b"FBK1\0\0\0\0\0\0\0\x01 \xb0\xb92m\x95\x1a(\xcdL\"\xc9\xe3\xe4\xfc\xb6\xd1\x089\xa1\xf7\x9dx\
-    \xc6H6\xfc;\x14\x17\x0c\x1a\x86{*a\x9c:S\x80\xec?\xfe\xc1\xb5\xcf#q\xa9\xe5(8\xf6\xe5\x807)\
-    \xa0\x9aUe\xaf\x98L\x14\0\0\0\x01\0\0\0~\x02chb76915c274f990013592df05fee17b746f061366372c51\
-    ee83dc9d555cca5389\x04Org1\x01\x02c0\x02n2\x02cc\0\x01\x02cc\0\x01\0\x01a\0\0\x01\0\x01a\0\
-    \x01d\x01\0\0\0\0\0\0\x01\x04Org1\x02\x02p0\0\x02ok\0\x02ok",
-];
-
-pub fn id_of_an_invalid_transaction() -> &'static [&'static [u8]; 3] {
-    &ID_OF_AN_INVALID_TRANSACTION
-}
-
-static ID_OF_AN_INVALID_TRANSACTION: [&'static [u8]; 3] = [
-    b"FBK1\0\0\0\0\0\0\0\0\0\xe3\xb0\xc4B\x98\xfc\x1c\x14\x9a\xfb\xf4\xc8\x99o\xb9$'\xaeA\xe4d\x9b\
-    \x93L\xa4\x95\x99\x1bxR\xb8U\0\0\0\0",
-    b"FBK1\0\0\0\0\0\0\0\x01 \x9c\xaeo\\\x10uo\xeb\xc4\x07\xbb\xa9_\xc28SwL\x1fe\xf1\x03T\x89[\xfd\
-    \xabdC\xd6n\xd3\xafE\x09y\xe1\x81\xd7\xc0\x12\xd5\x88\x9d\x1f$MR\xef\xa1\x0a\xf9\xbc\xd2\xc1\
-    \xe1\xb6is\x0b\x1d\xd5'H\0\0\0\x02\0\0\0l\x02ch1a4732c88eb14cbdb21732b87c91334c3d3a2f3b67872\
-    e5031cf4db4b996372f\x04Org1\x01\x02c0\x01n\x02cc\0\x01\x02cc\0\0\0\0\0\x01\0\x01k\x01\0\0\0\
-    \x01v\0\0\0\0\x02ok\0\0\0y\x02ch1a4732c88eb14cbdb21732b87c91334c3d3a2f3b67872e5031cf4db4b996\
-    372f\x04Org1\x01\x02c0\x01n\x02cc\0\x01\x02cc\0\0\0\0\0\x01\0\x01k\x01\0\0\0\x01v\0\0\x01\
-    \x04Org1\x02\x02p0\0\x02ok\0\x02ok",
-    b"FBK1\0\0\0\0\0\0\0\x02 \x18\xee\x03<X+\x9a*\x88\x02\x8e\x0c &\x06+\xc6=C\x1c\x1aL\xe7V=_\xe1\
-    \xf0C$\xd0\xec+Z\xdc\xd5\xbe \xc6\xa7\xa7\xbfW\xc4(\xc6\x11\x86\x13\xc4{P\x8c\x93v\xd8;\xab\
-    \xc8mC\xc1\xa6\x06\0\0\0\x01\0\0\0y\x02ch1a4732c88eb14cbdb21732b87c91334c3d3a2f3b67872e5031c\
-    f4db4b996372f\x04Org1\x01\x02c0\x01n\x02cc\0\x01\x02cc\0\0\0\0\0\x01\0\x01k\x01\0\0\0\x01v\0\
-    \0\x01\x04Org1\x02\x02p0\0\x02ok\0\x02ok",
-];
-
-pub fn three_transactions() -> &'static [&'static [u8]; 2] {
-    &THREE_TRANSACTIONS
-}
-
-static THREE_TRANSACTIONS: [&'static [u8]; 2] = [
-    b"FBK1\0\0\0\0\0\0\0\0\0K\x13k\x0cp\xee5\x8d\xd3\xb0\xec\xd7\x90\x8e}\xdd/'`%\xc9\x17\xb0\x02\
-    \x11\x8fJ\xf8\xa55w,\0\0\0\x01\0\0\0\x83\x02ch4d941d69b676a61aff49cd6e78f11d3727d68eebad17b9\
-    33dd85233f09067498\x04Org1\x01\x02c0\x02n1\x02cc\0\x01\x02cc\0\0\0\0\0\x02\0\x01a\x01\0\0\0\
-    \x01v\0\x01c\x01\0\0\0\x01v\0\0\x01\x04Org1\x02\x02p0\0\x02ok\0\x02ok",
-    b"FBK1\0\0\0\0\0\0\0\x01 6\xe4\xd2\xd2\x8f@@\x9cU\xe7\xe1\x10\xf5O\xf4f\xf6Fuw\xea3\x19\x8f\
-    \xb9\xab[B\x110\xeb\x92\xdf'NT\xda\xa7-\x09\xd0\xf1\xc3\x83\xda\x82\xdd}\x8d\xf3\xb4\xd1\x8b\
-    e\x87\xa5\"\xd4\xf1\xd50I\xfd%\0\0\0\x03\0\0\0~\x02chb76915c274f990013592df05fee17b746f06136\
-    6372c51ee83dc9d555cca5389\x04Org1\x01\x02c0\x02n2\x02cc\0\x01\x02cc\0\0\0\0\0\x01\0\x01k\x01\
-    \0\0\0\x05value\0\0\x01\x04Org1\x02\x02p0\0\x02ok\0\x02ok\0\0\0\x93\x02chdf9ae39a69c858c1a7b\
-    d54294d1c59f242892a6ba276255f2d18b918f5f6da6f\x04Org1\x01\x02c0\x02n3\x02cc\0\x01\x02cc\0\0\
-    \0\0\0\0\0\x01\0\x01a\x01\0\x1cAND('Org1.peer','Org2.peer')\x01\x04Org1\x02\x02p0\0\x02ok\0\
-    \x02ok\0\0\0\x89\x02ch72661a15dd44728362993ee41acd0f4100d5e99f81cd71c82b1ddcaaa752cd0d\x04Or\
-    g1\x01\x02c0\x02n4\x02cc\0\x01\x02cc\0\0\0\x01\0\x01b\0\x01d\x01\0\x01\0\x01c\0\0\0\0\0\0\0\
-    \0\0\0\0\0\0\0\0\0\x01\x04Org1\x02\x02p0\0\x02ok\0\x02ok",
-];
-
-pub fn transaction_without_bytes() -> &'static [&'static [u8]; 2] {
-    &TRANSACTION_WITHOUT_BYTES
-}
-
-static TRANSACTION_WITHOUT_BYTES: [&'static [u8]; 2] = [
-    b"FBK1\0\0\0\0\0\0\0\0 \xe3\xb0\xc4B\x98\xfc\x1c\x14\x9a\xfb\xf4\xc8\x99o\xb9$'\xaeA\xe4d\x9b\
-    \x93L\xa4\x95\x99\x1bxR\xb8U\xe3\xb0\xc4B\x98\xfc\x1c\x14\x9a\xfb\xf4\xc8\x99o\xb9$'\xaeA\
-    \xe4d\x9b\x93L\xa4\x95\x99\x1bxR\xb8U\0\0\0\x01\0\0\0\0",
-    b"FBK1\0\0\0\0\0\0\0\0\0\xe3\xb0\xc4B\x98\xfc\x1c\x14\x9a\xfb\xf4\xc8\x99o\xb9$'\xaeA\xe4d\x9b\
-    \x93L\xa4\x95\x99\x1bxR\xb8U\0\0\0\x01\0\0\0\0",
+static WORKED: [WorkedChain; 21] = [
+    WorkedChain {
+        name: "reads_of_keys_written_before",
+        blocks: &[
+            Scripted {
+                script: "\
+tx Org1:client:c0 n1 cc
+ns cc
+write k1 v
+write k2 v
+write k3 v
+write k4 v
+write k5 v
+endorse Org1:peer:p0
+",
+                flags: &[0],
+            },
+            Scripted {
+                script: "\
+tx Org1:client:c0 n2 cc
+ns cc
+write k1 v
+write k2 v
+endorse Org1:peer:p0
+tx Org1:client:c0 n3 cc
+ns cc
+read k1 0 0
+write k3 v
+endorse Org1:peer:p0
+tx Org1:client:c0 n4 cc
+ns cc
+write k2 v
+endorse Org1:peer:p0
+tx Org1:client:c0 n5 cc
+ns cc
+read k2 0 0
+write k2 v
+endorse Org1:peer:p0
+tx Org1:client:c0 n6 cc
+ns cc
+read k5 0 0
+write k6 v
+endorse Org1:peer:p0
+",
+                flags: &[0, 11, 0, 11, 0],
+            },
+        ],
+        row: None,
+    },
+    WorkedChain {
+        name: "absent_after_a_delete",
+        blocks: &[
+            Scripted {
+                script: "\
+tx Org1:client:c0 n1 cc
+ns cc
+write k v
+endorse Org1:peer:p0
+",
+                flags: &[0],
+            },
+            Scripted {
+                script: "\
+tx Org1:client:c0 n2 cc
+ns cc
+delete k
+endorse Org1:peer:p0
+tx Org1:client:c0 n3 cc
+ns cc
+read k absent
+endorse Org1:peer:p0
+",
+                flags: &[0, 0],
+            },
+        ],
+        row: None,
+    },
+    WorkedChain {
+        name: "read_of_a_write_in_the_block",
+        blocks: &[
+            Scripted {
+                script: "",
+                flags: &[],
+            },
+            Scripted {
+                script: "\
+tx Org1:client:c0 n1 cc
+ns cc
+write k v
+endorse Org1:peer:p0
+tx Org1:client:c0 n2 cc
+ns cc
+read k 1 0
+endorse Org1:peer:p0
+",
+                flags: &[0, 0],
+            },
+        ],
+        row: Some(LeftRow {
+            value: b"v",
+            block: 1,
+            tx: 0,
+            policy: "",
+        }),
+    },
+    WorkedChain {
+        name: "read_of_an_invalid_write",
+        blocks: &[
+            Scripted {
+                script: "",
+                flags: &[],
+            },
+            Scripted {
+                script: "\
+tx Org1:client:c0 n1 cc
+ns cc
+write k v
+tx Org1:client:c0 n2 cc
+ns cc
+read k 1 0
+endorse Org1:peer:p0
+",
+                flags: &[10, 11],
+            },
+        ],
+        row: None,
+    },
+    WorkedChain {
+        name: "policy_write_of_a_stale_reader",
+        blocks: &[
+            Scripted {
+                script: "\
+tx Org1:client:c0 n1 cc
+ns cc
+write k v
+write x v
+endorse Org1:peer:p0
+",
+                flags: &[0],
+            },
+            Scripted {
+                script: "\
+tx Org1:client:c0 n2 cc
+ns cc
+read x absent
+policy k AND('Org1.peer','Org2.peer')
+endorse Org1:peer:p0
+tx Org1:client:c0 n3 cc
+ns cc
+write k v
+endorse Org1:peer:p0
+",
+                flags: &[11, 10],
+            },
+        ],
+        row: Some(LeftRow {
+            value: b"v",
+            block: 0,
+            tx: 0,
+            policy: "",
+        }),
+    },
+    WorkedChain {
+        name: "policy_write_of_a_deleted_key",
+        blocks: &[
+            Scripted {
+                script: "\
+tx Org1:client:c0 n1 cc
+ns cc
+write k v
+endorse Org1:peer:p0
+",
+                flags: &[0],
+            },
+            Scripted {
+                script: "\
+tx Org1:client:c0 n2 cc
+ns cc
+delete k
+endorse Org1:peer:p0
+tx Org1:client:c0 n3 cc
+ns cc
+policy k AND('Org1.peer','Org2.peer')
+endorse Org1:peer:p0
+tx Org1:client:c0 n4 cc
+ns cc
+read k absent
+endorse Org1:peer:p0
+",
+                flags: &[0, 0, 0],
+            },
+        ],
+        row: None,
+    },
+    WorkedChain {
+        name: "key_with_a_policy_of_its_own",
+        blocks: &[
+            Scripted {
+                script: "\
+tx Org1:client:c0 n1 cc
+ns cc
+write k v
+policy k AND('Org1.peer','Org2.peer')
+endorse Org1:peer:p0
+",
+                flags: &[0],
+            },
+            Scripted {
+                script: "\
+tx Org1:client:c0 n2 cc
+ns cc
+write k v
+endorse Org1:peer:p0
+tx Org1:client:c0 n3 cc
+ns cc
+write k v
+endorse Org1:peer:p0
+endorse Org2:peer:q0
+",
+                flags: &[10, 0],
+            },
+        ],
+        row: Some(LeftRow {
+            value: b"v",
+            block: 1,
+            tx: 1,
+            policy: "AND('Org1.peer','Org2.peer')",
+        }),
+    },
+    WorkedChain {
+        name: "policy_write_in_a_later_block",
+        blocks: &[
+            Scripted {
+                script: "\
+tx Org1:client:c0 n1 cc
+ns cc
+write k v1
+endorse Org1:peer:p0
+",
+                flags: &[0],
+            },
+            Scripted {
+                script: "\
+tx Org1:client:c0 n2 cc
+ns cc
+delete k
+endorse Org1:peer:p0
+",
+                flags: &[0],
+            },
+            Scripted {
+                script: "\
+tx Org1:client:c0 n3 cc
+ns cc
+policy k AND('Org1.peer','Org2.peer')
+endorse Org1:peer:p0
+",
+                flags: &[0],
+            },
+        ],
+        row: None,
+    },
+    WorkedChain {
+        name: "policy_of_the_key_for_that_of_the_named_chaincode",
+        blocks: &[
+            Scripted {
+                script: "\
+tx Org1:client:c0 n1 both
+ns both
+write j v
+write k v
+policy k 'Org1.peer'
+endorse Org1:peer:p0
+endorse Org2:peer:q0
+",
+                flags: &[0],
+            },
+            Scripted {
+                script: "\
+tx Org1:client:c0 n2 both
+ns both
+nopolicy k
+endorse Org1:peer:p0
+tx Org1:client:c0 n3 both
+ns both
+nopolicy j
+endorse Org1:peer:p0
+tx Org1:client:c0 n4 both
+ns cc
+nopolicy k
+endorse Org1:peer:p0
+tx Org1:client:c0 n5 both
+endorse Org1:peer:p0
+",
+                flags: &[0, 10, 10, 10],
+            },
+        ],
+        row: None,
+    },
+    WorkedChain {
+        name: "policy_write_without_definition",
+        blocks: &[
+            Scripted {
+                script: "",
+                flags: &[],
+            },
+            Scripted {
+                script: "\
+tx Org1:client:c0 n1 cc
+ns zz
+nopolicy k
+endorse Org1:peer:p0
+tx Org1:client:c0 n2 cc
+ns cc
+nopolicy k
+endorse Org1:peer:p0
+",
+                flags: &[25, 0],
+            },
+        ],
+        row: None,
+    },
+    WorkedChain {
+        name: "one_peer_twice",
+        blocks: &[
+            Scripted {
+                script: "",
+                flags: &[],
+            },
+            Scripted {
+                script: "\
+tx Org1:client:c0 n1 pair
+ns pair
+write k v
+endorse Org1:peer:p0
+endorse Org1:peer:p0
+tx Org1:client:c0 n2 pair
+ns pair
+write k v
+endorse Org1:peer:p0
+endorse Org1:peer:p1
+",
+                flags: &[10, 0],
+            },
+        ],
+        row: None,
+    },
+    WorkedChain {
+        name: "admin_before_peer",
+        blocks: &[
+            Scripted {
+                script: "",
+                flags: &[],
+            },
+            Scripted {
+                script: "\
+tx Org1:client:c0 n1 chief
+ns chief
+write k v
+endorse Org1:admin:a
+endorse Org1:peer:p0
+tx Org1:client:c0 n2 chief
+ns chief
+write k v
+endorse Org1:peer:p0
+endorse Org1:admin:a
+",
+                flags: &[10, 0],
+            },
+        ],
+        row: None,
+    },
+    WorkedChain {
+        name: "inner_gates",
+        blocks: &[
+            Scripted {
+                script: "",
+                flags: &[],
+            },
+            Scripted {
+                script: "\
+tx Org1:client:c0 n1 either
+ns either
+write k v
+endorse Org1:peer:p0
+tx Org1:client:c0 n2 greedy
+ns greedy
+write k v
+endorse Org1:peer:p0
+endorse Org1:peer:p1
+",
+                flags: &[0, 10],
+            },
+        ],
+        row: None,
+    },
+    WorkedChain {
+        name: "insert_into_a_range",
+        blocks: &[
+            Scripted {
+                script: "\
+tx Org1:client:c0 n1 cc
+ns cc
+write a v
+write c v
+endorse Org1:peer:p0
+",
+                flags: &[0],
+            },
+            Scripted {
+                script: "\
+tx Org1:client:c0 n2 cc
+ns cc
+write b v
+endorse Org1:peer:p0
+tx Org1:client:c0 n3 cc
+ns cc
+range a d all
+result a 0 0
+result c 0 0
+endorse Org1:peer:p0
+",
+                flags: &[0, 12],
+            },
+        ],
+        row: None,
+    },
+    WorkedChain {
+        name: "invalid_insert_into_a_range",
+        blocks: &[
+            Scripted {
+                script: "\
+tx Org1:client:c0 n1 cc
+ns cc
+write a v
+write c v
+endorse Org1:peer:p0
+",
+                flags: &[0],
+            },
+            Scripted {
+                script: "\
+tx Org1:client:c0 n2 cc
+ns cc
+write b v
+tx Org1:client:c0 n3 cc
+ns cc
+range a d all
+result a 0 0
+result c 0 0
+endorse Org1:peer:p0
+",
+                flags: &[10, 0],
+            },
+        ],
+        row: None,
+    },
+    WorkedChain {
+        name: "insert_behind_the_last_result",
+        blocks: &[
+            Scripted {
+                script: "\
+tx Org1:client:c0 n1 cc
+ns cc
+write a v
+write c v
+endorse Org1:peer:p0
+",
+                flags: &[0],
+            },
+            Scripted {
+                script: "\
+tx Org1:client:c0 n2 cc
+ns cc
+write cc v
+endorse Org1:peer:p0
+tx Org1:client:c0 n3 cc
+ns cc
+range a d part
+result a 0 0
+result c 0 0
+endorse Org1:peer:p0
+",
+                flags: &[0, 0],
+            },
+        ],
+        row: None,
+    },
+    WorkedChain {
+        name: "insert_and_no_result",
+        blocks: &[
+            Scripted {
+                script: "\
+tx Org1:client:c0 n1 cc
+ns cc
+write a v
+write c v
+endorse Org1:peer:p0
+",
+                flags: &[0],
+            },
+            Scripted {
+                script: "\
+tx Org1:client:c0 n2 cc
+ns cc
+write b v
+endorse Org1:peer:p0
+tx Org1:client:c0 n3 cc
+ns cc
+range a d part
+endorse Org1:peer:p0
+",
+                flags: &[0, 0],
+            },
+        ],
+        row: None,
+    },
+    WorkedChain {
+        name: "later_insert_and_no_result",
+        blocks: &[
+            Scripted {
+                script: "\
+tx Org1:client:c0 n1 cc
+ns cc
+write a v
+write c v
+endorse Org1:peer:p0
+",
+                flags: &[0],
+            },
+            Scripted {
+                script: "\
+tx Org1:client:c0 n2 cc
+ns cc
+write cc v
+endorse Org1:peer:p0
+tx Org1:client:c0 n3 cc
+ns cc
+range a d part
+endorse Org1:peer:p0
+",
+                flags: &[0, 0],
+            },
+        ],
+        row: None,
+    },
+    WorkedChain {
+        name: "phantom_before_stale",
+        blocks: &[
+            Scripted {
+                script: "\
+tx Org1:client:c0 n1 cc
+ns cc
+write a v
+endorse Org1:peer:p0
+",
+                flags: &[0],
+            },
+            Scripted {
+                script: "\
+tx Org1:client:c0 n2 cc
+ns cc
+range a d all
+ns dd
+read a 0 0
+endorse Org1:peer:p0
+",
+                flags: &[12],
+            },
+        ],
+        row: None,
+    },
+    WorkedChain {
+        name: "phantom_and_stale",
+        blocks: &[
+            Scripted {
+                script: "\
+tx Org1:client:c0 n1 cc
+ns cc
+write a v
+endorse Org1:peer:p0
+",
+                flags: &[0],
+            },
+            Scripted {
+                script: "\
+tx Org1:client:c0 n2 cc
+ns cc
+read a absent
+range a d all
+endorse Org1:peer:p0
+",
+                flags: &[11],
+            },
+        ],
+        row: None,
+    },
+    WorkedChain {
+        name: "id_of_an_invalid_transaction",
+        blocks: &[
+            Scripted {
+                script: "",
+                flags: &[],
+            },
+            Scripted {
+                script: "\
+tx Org1:client:c0 n cc
+ns cc
+write k v
+tx Org1:client:c0 n cc
+ns cc
+write k v
+endorse Org1:peer:p0
+",
+                flags: &[10, 9],
+            },
+            Scripted {
+                script: "\
+tx Org1:client:c0 n cc
+ns cc
+write k v
+endorse Org1:peer:p0
+",
+                flags: &[9],
+            },
+        ],
+        row: None,
+    },
 ];

@@ -1,0 +1,83 @@
+//! A peer whose blocks are drafted from scripts.
+
+use crate::failed::Failed;
+use crate::fixture::{Peer, name};
+use block::{Header, decode_block};
+use drafts::draft;
+use key_book::KeyBook;
+use rules::Refused;
+use std::alloc::Global;
+use values::Bytes;
+use world::World;
+
+const KEYS: &str = "\
+Org1:client:c0 11
+Org1:peer:p0 22
+Org1:peer:p1 33
+Org1:admin:a 44
+Org2:peer:q0 55
+";
+
+// The header that the next block stands behind.
+fn last_header(alloc: Global, world: &World) -> Result<Option<Header>, Failed> {
+    let Some(last) = world.height().checked_sub(1) else {
+        return Ok(None);
+    };
+    match world.block(last) {
+        Some(block) => Ok(Some(decode_block(alloc, block.bytes.as_slice())?.header)),
+        None => Err(Failed::Missing("the last block")),
+    }
+}
+
+fn drafted(
+    alloc: Global,
+    keys: &KeyBook,
+    after: Option<Header>,
+    script: &str,
+) -> Result<Bytes, Failed> {
+    if let Some(header) = &after {
+        if header.number == u64::MAX {
+            return Err(Failed::Missing("a number"));
+        }
+    }
+    let channel = name(alloc, b"ch")?;
+    Ok(draft(alloc, &channel, keys, after, script)?)
+}
+
+/// A peer with the keys of all who sign.
+#[derive(Drop)]
+pub struct ScriptedPeer {
+    peer: Peer,
+    keys: KeyBook,
+}
+
+impl ScriptedPeer {
+    pub fn open(alloc: Global) -> Result<ScriptedPeer, Failed> {
+        let keys = KeyBook::read(alloc, KEYS)?;
+        let peer = Peer::open(alloc)?;
+        Ok(ScriptedPeer { peer, keys })
+    }
+
+    pub fn world(&self) -> &World {
+        self.peer.world()
+    }
+
+    /// The bytes of the next block, which a script drafts.
+    pub fn block(&self, alloc: Global, script: &str) -> Result<Bytes, Failed> {
+        let after = last_header(alloc, self.world())?;
+        drafted(alloc, &self.keys, after, script)
+    }
+
+    pub fn refusal_of(&mut self, bytes: &[u8]) -> Option<Refused> {
+        self.peer.refusal_of(bytes, &self.keys)
+    }
+
+    /// Takes the next block, which a script drafts, and tells whether its flags have these numbers.
+    pub fn is_taken(&mut self, alloc: Global, script: &str, flags: &[u8]) -> Result<bool, Failed> {
+        let bytes = self.block(alloc, script)?;
+        Ok(
+            self.peer
+                .is_taken(alloc, bytes.as_slice(), &self.keys, flags)?,
+        )
+    }
+}
