@@ -29,7 +29,7 @@ Exit status:
   4  memory ran out";
 
 /// What the words ask for.
-#[derive(Debug, Drop)]
+#[derive(Drop)]
 pub(crate) enum Asked<'a> {
     Draft(Draft<'a>),
     Run(Run<'a>),

@@ -51,7 +51,7 @@ const OUT: Argument = Argument {
 };
 
 /// A script in, and a block out.
-#[derive(Clone, Copy, Debug)]
+#[derive(Clone, Copy)]
 pub(crate) struct Draft<'a> {
     configuration: ConfigurationPaths<'a>,
     after: Option<&'a str>,

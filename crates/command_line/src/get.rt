@@ -25,7 +25,7 @@ Example:
 };
 
 /// Blocks in, and one row out.
-#[derive(Debug, Drop)]
+#[derive(Drop)]
 pub(crate) struct Get<'a>(KeyedQuery<'a>);
 
 // The row of a key.

@@ -25,7 +25,7 @@ Example:
 };
 
 /// Blocks in, and what was written to a key out.
-#[derive(Debug, Drop)]
+#[derive(Drop)]
 pub(crate) struct History<'a>(KeyedQuery<'a>);
 
 // What was written to a key, newest first.

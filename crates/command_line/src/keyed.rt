@@ -7,7 +7,7 @@ use std::alloc::{AllocError, Global};
 use values::{Key, Name};
 
 /// The words of who asks for a key: the paths, the namespace and the key.
-#[derive(Debug, Drop)]
+#[derive(Drop)]
 pub(crate) struct KeyedQuery<'a> {
     pub(crate) paths: LedgerPaths<'a>,
     namespace: &'a str,

@@ -4,14 +4,14 @@ use clap::ArgMatches;
 use std::alloc::{AllocError, Global};
 
 /// The paths of what each subcommand begins with.
-#[derive(Clone, Copy, Debug)]
+#[derive(Clone, Copy)]
 pub(crate) struct ConfigurationPaths<'a> {
     pub(crate) channel: &'a str,
     pub(crate) keys: &'a str,
 }
 
 /// The paths of what a ledger is made of, the blocks' in their order.
-#[derive(Debug, Drop)]
+#[derive(Drop)]
 pub(crate) struct LedgerPaths<'a> {
     pub(crate) configuration: ConfigurationPaths<'a>,
     pub(crate) blocks: Vec<&'a str>,

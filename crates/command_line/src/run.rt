@@ -22,7 +22,7 @@ Example:
 };
 
 /// Blocks in, and a line for each out.
-#[derive(Debug, Drop)]
+#[derive(Drop)]
 pub(crate) struct Run<'a> {
     paths: LedgerPaths<'a>,
 }

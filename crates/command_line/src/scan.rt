@@ -48,7 +48,7 @@ const LIMIT: Argument = Argument {
 };
 
 /// Blocks in, and the rows of a namespace out.
-#[derive(Debug, Drop)]
+#[derive(Drop)]
 pub(crate) struct Scan<'a> {
     paths: LedgerPaths<'a>,
     namespace: &'a str,

@@ -6,7 +6,7 @@ use text_lines::Word;
 
 /// A value that prints as a word, but `deleted` as `%64eleted`, since a history says `deleted` of a
 /// deletion.
-#[derive(Clone, Copy, Debug)]
+#[derive(Clone, Copy)]
 pub(crate) struct ValueWord<'a>(pub(crate) &'a [u8]);
 
 impl fmt::Display for ValueWord<'_> {
