@@ -26,7 +26,10 @@ fn in_chain(i: usize) -> Flag {
 fn are_right(checked: &Checked, count: u32, keys: Keys) -> bool {
     let flags = checked.flags.as_slice();
     let are_right = match keys {
-        Keys::OfNext => flags.iter().enumerate().all(|(i, flag)| *flag == in_chain(i)),
+        Keys::OfNext => flags
+            .iter()
+            .enumerate()
+            .all(|(i, flag)| *flag == in_chain(i)),
         Keys::Apart => flags.iter().all(|flag| *flag == Flag::Valid),
     };
     are_right && checked.gathered == 0 && flags.len() == count as usize
