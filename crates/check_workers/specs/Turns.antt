@@ -1,4 +1,4 @@
--- What a worker does next, by cases.
+-- What a worker does next, by cases. No public contract cites this.
 use Rattle.std.specs.Prelude.{ℕ, List, ⊤}
 use Rattle.check_workers.specs.declared.turns.Turn.{Turn}
 use Rattle.check_workers.specs.declared.turns.Turn.TheVariants.{Settle, Find, End}
