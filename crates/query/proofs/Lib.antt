@@ -1,3 +1,4 @@
 pub mod Beginnings
 pub mod Counting
+pub mod Crossing
 pub mod Keeping
