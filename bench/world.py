@@ -52,11 +52,15 @@ fn key(alloc: Global, number: u64) -> anyhow::Result<Key> {
     Ok(Key::from_slice(alloc, bytes.as_slice())?)
 }
 
-fn change(alloc: Global, number: u64, version: Version) -> anyhow::Result<Change> {
+fn value(alloc: Global) -> anyhow::Result<Shared<Bytes>> {
+    Ok(Shared::new(alloc, Bytes::from_slice(alloc, &[7; 100])?)?)
+}
+
+fn change(alloc: Global, number: u64, version: Version, value: Shared<Bytes>) -> anyhow::Result<Change> {
     let namespace = namespace(alloc)?;
     let key = key(alloc, number)?;
     let row = Row {
-        value: Shared::new(alloc, Bytes::from_slice(alloc, &[7; 100])?)?,
+        value,
         version,
         policy: None,
     };
@@ -64,14 +68,20 @@ fn change(alloc: Global, number: u64, version: Version) -> anyhow::Result<Change
     Ok(Change::Put(Shared::new(alloc, keyed)?))
 }
 
-fn entry(alloc: Global, number: u64, version: Version, id: [u8; 64]) -> anyhow::Result<Shared<NewEntry>> {
+fn entry(
+    alloc: Global,
+    number: u64,
+    version: Version,
+    id: [u8; 64],
+    value: Shared<Bytes>,
+) -> anyhow::Result<Shared<NewEntry>> {
     let entry = NewEntry {
         namespace: namespace(alloc)?,
         key: key(alloc, number)?,
         entry: HistoryEntry {
             version,
             id,
-            value: Some(Shared::new(alloc, Bytes::from_slice(alloc, &[7; 100])?)?),
+            value: Some(value),
         },
     };
     Ok(Shared::new(alloc, entry)?)
@@ -120,8 +130,10 @@ fn delta_of(alloc: Global, block: u64, count: u32, keys: Keys) -> anyhow::Result
         let number = keys.number(place);
         let version = Version { block, tx: place };
         let id = id_of(block, place);
-        changes.push(change(alloc, number, version)?)?;
-        entries.push(entry(alloc, number, version, id)?)?;
+        // row and entry own one value, as they do behind a block
+        let value = value(alloc)?;
+        changes.push(change(alloc, number, version, value.share()?)?)?;
+        entries.push(entry(alloc, number, version, id, value)?)?;
         let first_use = FirstUse { block, place, flag: Flag::Valid };
         uses.push(NewUse { id, first_use })?;
     }
