@@ -7,6 +7,8 @@ mod asking;
 #[cfg(test)]
 mod building;
 #[cfg(test)]
+mod committing;
+#[cfg(test)]
 mod desk;
 #[cfg(test)]
 mod drawing;

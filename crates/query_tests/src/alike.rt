@@ -1,0 +1,61 @@
+//! Whether answers are the same.
+
+use crate::failed::Failed;
+use query::Reply;
+use rules::{CommittedBlock, HistoryEntry, KeyedRow, Row};
+use std::alloc::{AllocError, Global};
+use values::{Bytes, Shared};
+use world::World;
+
+/// Whether a reply is of this world's height.
+pub fn is_of<A>(reply: &Reply<A>, world: &World) -> bool {
+    reply.height == world.height() && reply.header_hash == world.header_hash()
+}
+
+fn is_same_value(one: &Option<Shared<Bytes>>, other: &Option<Shared<Bytes>>) -> bool {
+    match (one, other) {
+        (None, None) => true,
+        (Some(one), Some(other)) => one.get().is_same(other.get()),
+        _ => false,
+    }
+}
+
+fn has_same_policy(alloc: Global, one: &Row, other: &Row) -> Result<bool, AllocError> {
+    Ok(match (&one.policy, &other.policy) {
+        (None, None) => true,
+        (Some(one), Some(other)) => {
+            one.get().text(alloc)?.as_str() == other.get().text(alloc)?.as_str()
+        }
+        _ => false,
+    })
+}
+
+pub fn is_same_row(alloc: Global, one: &Row, other: &Row) -> Result<bool, AllocError> {
+    Ok(
+        one.version == other.version
+            && one.value.get().is_same(other.value.get())
+            && has_same_policy(alloc, one, other)?,
+    )
+}
+
+pub fn is_same_keyed_row(
+    alloc: Global,
+    one: &KeyedRow,
+    other: &KeyedRow,
+) -> Result<bool, AllocError> {
+    Ok(
+        one.namespace().is_same(&other.namespace())
+            && one.key().is_same(&other.key())
+            && is_same_row(alloc, one.row(), other.row())?,
+    )
+}
+
+pub fn is_same_entry(one: &HistoryEntry, other: &HistoryEntry) -> bool {
+    one.version == other.version && one.id == other.id && is_same_value(&one.value, &other.value)
+}
+
+pub fn is_same_block(one: &CommittedBlock, other: &CommittedBlock) -> bool {
+    one.bytes.is_same(&other.bytes)
+        && one.header_hash == other.header_hash
+        && one.flags.as_slice() == other.flags.as_slice()
+}

@@ -1,0 +1,94 @@
+//! Blocks that scripts draft, one behind the other, and what each changes.
+ghost use Rattle.std.specs.Prelude.{◌+◌, ◌<◌, ◌^◌, IfOk, IfSome};
+
+use crate::failed::Failed;
+use block::{Header, decode_block};
+use channel::Channel;
+use commit::Ledger;
+use drafts::draft;
+use key_book::KeyBook;
+use rules::Delta;
+use std::alloc::Global;
+use values::{Bytes, Key, KeyRef, Name, NameRef, is_key, is_name};
+use world::World;
+
+const CHANNEL: &str =
+    "channel ch\nchaincode cc OR('Org1.peer','Org2.peer')\nchaincode dd OR('Org1.peer')\n";
+
+const KEYS: &str = "Org1:client:c0 11\nOrg1:peer:p0 22\nOrg2:peer:q0 33\n";
+
+pub fn name(bytes: &[u8]) -> Result<NameRef<'_>, Failed> {
+    if !is_name(bytes) {
+        return Err(Failed::Missing("a name"));
+    }
+    Ok(NameRef::new(bytes))
+}
+
+pub fn key(bytes: &[u8]) -> Result<KeyRef<'_>, Failed> {
+    if !is_key(bytes) {
+        return Err(Failed::Missing("a key"));
+    }
+    Ok(KeyRef::new(bytes))
+}
+
+/// A ledger, and the blocks that it is to take next.
+#[derive(Drop)]
+pub struct Drafter {
+    alloc: Global,
+    channel: Name,
+    keys: KeyBook,
+    ledger: Ledger,
+    last: Option<Header>,
+}
+
+fn header_in(alloc: Global, bytes: &Bytes) -> Result<Header, Failed> {
+    let block = decode_block(alloc, bytes.as_slice())?;
+    Ok(block.header)
+}
+
+// The header, where another block can follow it.
+fn followed(last: Option<Header>) -> Result<Option<Header>, Failed>
+    ensures { IfOk result (λ header. IfSome header (λ h. h.number + 1 < 2 ^ 64)) }
+{
+    match last {
+        Some(header) if header.number == u64::MAX => Err(Failed::Missing("a number")),
+        _ => Ok(last),
+    }
+}
+
+impl Drafter {
+    pub fn open(alloc: Global) -> Result<Drafter, Failed> {
+        let channel = name(b"ch")?.copy(alloc)?;
+        Ok(Drafter {
+            alloc,
+            channel,
+            keys: KeyBook::read(alloc, KEYS)?,
+            ledger: Ledger::open(alloc, Channel::read(alloc, CHANNEL)?),
+            last: None,
+        })
+    }
+
+    /// What the ledger holds.
+    pub fn world(&self) -> &World {
+        self.ledger.view()
+    }
+
+    fn drafted(&self, script: &str) -> Result<Bytes, Failed> {
+        let last = followed(self.last)?;
+        Ok(draft(self.alloc, &self.channel, &self.keys, last, script)?)
+    }
+
+    fn take(&mut self, bytes: &Bytes) -> Result<(), Failed> {
+        self.last = Some(header_in(self.alloc, bytes)?);
+        self.ledger.submit_one(bytes.as_slice(), &self.keys)?;
+        Ok(())
+    }
+
+    /// What the block of this script changes, the next one; the ledger then has it.
+    pub fn next(&mut self, script: &str) -> Result<Delta, Failed> {
+        let bytes = self.drafted(script)?;
+        let delta = self.ledger.delta(bytes.as_slice(), &self.keys)?;
+        self.take(&bytes)?;
+        Ok(delta)
+    }
+}

@@ -1,0 +1,76 @@
+//! What ends a test before its assertions do.
+
+use block::BlockFault;
+use channel::ChannelFault;
+use drafts::DraftFault;
+use key_book::KeyBookFault;
+use query::{OpenFault, QueryFault};
+use rules::Refused;
+use std::alloc::{AllocError, AllocFailed};
+
+#[derive(Debug, Drop)]
+pub enum Failed {
+    Memory,
+    Channel(ChannelFault),
+    Keys(KeyBookFault),
+    Draft(DraftFault),
+    Block(BlockFault),
+    Refused(Refused),
+    Open(OpenFault),
+    Query(QueryFault),
+    Missing(&'static str),
+}
+
+impl From<AllocError> for Failed {
+    fn from(_e: AllocError) -> Failed {
+        Failed::Memory
+    }
+}
+
+impl<T: Drop> From<AllocFailed<T>> for Failed {
+    fn from(_e: AllocFailed<T>) -> Failed {
+        Failed::Memory
+    }
+}
+
+impl From<ChannelFault> for Failed {
+    fn from(fault: ChannelFault) -> Failed {
+        Failed::Channel(fault)
+    }
+}
+
+impl From<KeyBookFault> for Failed {
+    fn from(fault: KeyBookFault) -> Failed {
+        Failed::Keys(fault)
+    }
+}
+
+impl From<DraftFault> for Failed {
+    fn from(fault: DraftFault) -> Failed {
+        Failed::Draft(fault)
+    }
+}
+
+impl From<BlockFault> for Failed {
+    fn from(fault: BlockFault) -> Failed {
+        Failed::Block(fault)
+    }
+}
+
+impl From<Refused> for Failed {
+    fn from(refused: Refused) -> Failed {
+        Failed::Refused(refused)
+    }
+}
+
+impl From<OpenFault> for Failed {
+    fn from(fault: OpenFault) -> Failed {
+        Failed::Open(fault)
+    }
+}
+
+impl From<QueryFault> for Failed {
+    fn from(fault: QueryFault) -> Failed {
+        Failed::Query(fault)
+    }
+}

@@ -1,0 +1,20 @@
+//! Tests of published heights. Blocks are drafted from scripts; what handles answer is compared with what the scripts say, and
+//! with what a world of its own answers.
+#![tactic(auto)]
+
+#[cfg(test)]
+mod alike;
+#[cfg(test)]
+mod asking;
+#[cfg(test)]
+mod blocks;
+#[cfg(test)]
+mod failed;
+#[cfg(test)]
+mod heights;
+#[cfg(test)]
+mod publishing;
+#[cfg(test)]
+mod telling;
+#[cfg(test)]
+mod threads;

@@ -1,0 +1,43 @@
+//! Publishes what is linked.
+ghost use Rattle.std.specs.Prelude.{◌≡◌, IsTrue, IfOk};
+ghost use Rattle.rules.specs.Linked.{IsLinkedDelta};
+
+use crate::failed::Failed;
+use block_steps::{check_data_hash, check_place, decoded};
+use header_hash::{data_hash, header_hash};
+use query::{Publisher, Receipt};
+use rules::Delta;
+use std::alloc::Global;
+use std::sync::Wait;
+use world::World;
+
+// Whether a world's next block is the delta's.
+fn is_linked(alloc: Global, world: &World, delta: &Delta) -> Result<bool, Failed>
+    ensures { IfOk result (λ linked. IsTrue linked → IsLinkedDelta world.now delta.now) }
+{
+    let kept = delta.block.get();
+    let block = decoded(alloc, kept.bytes.as_slice())?;
+    let data_hash = data_hash(block.txs.as_slice());
+    check_place(world.height(), world.header_hash(), &block)?;
+    check_data_hash(&block, data_hash)?;
+    Ok(kept.header_hash == header_hash(&block.header) && kept.flags.len() == block.txs.len())
+}
+
+/// Publishes the next block.
+pub fn publish_next<R: Wait>(
+    rt: &R,
+    alloc: Global,
+    publisher: &mut Publisher,
+    delta: Delta,
+) -> Result<Receipt, Failed>
+    ensures book { publisher.new.book ≡ publisher.old.book }
+    ensures receipt { IfOk result (λ r. r.front.book ≡ publisher.old.book) }
+{
+    if publisher.failed() {
+        return Err(Failed::Missing("a publisher that goes on"));
+    }
+    if !is_linked(alloc, publisher.published(), &delta)? {
+        return Err(Failed::Missing("a linked delta"));
+    }
+    Ok(publisher.publish(rt, delta)?)
+}
