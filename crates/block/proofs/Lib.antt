@@ -6,6 +6,7 @@ pub mod Blocks
 pub mod Faulty
 pub mod FaultyAgain
 pub mod Answered
+mod Cuts
 pub mod Within
 mod Worked
 pub mod Transactions
