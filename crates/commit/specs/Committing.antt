@@ -6,6 +6,8 @@ use Rattle.block.specs.Grammar.{Spells}
 use Rattle.channel.specs.Configuration.{Configuration}
 use Rattle.policy_eval.specs.Accepts.{Accepts}
 use Rattle.rules.specs.declared.answer.Accepted.{Accepted}
+use Rattle.rules.specs.declared.answer.Refused as rules
+use Rattle.rules.specs.declared.answer.Refused.TheVariants.{Memory}
 use Rattle.rules.specs.declared.delta.Delta.{Delta}
 use Rattle.rules.specs.World.{World, empty_world, height_of}
 use Rattle.rules.specs.Linked.{IsLinked, IsRefused}
@@ -29,6 +31,13 @@ world_of c = applied_all empty_world c.list
 
 abbrev pub accepted_in : Receipt → Accepted
 accepted_in r = record { number = r.number; header_hash = r.header_hash; flags = r.flags }
+
+-- what a ledger would answer, which has no readers: that a committer has stopped is want of memory too
+abbrev pub answer_in : Result Receipt NotCommitted → Result Accepted rules.Refused
+answer_in (Ok r) = Ok (accepted_in r)
+answer_in (Err (Refused refused)) = Err refused
+answer_in (Err MemoryInCommit) = Err Memory
+answer_in (Err Stopped) = Err Memory
 
 -- What a receipt says is the step's answer. The world after the step is published whole, by one delta, and whoever
 -- learns the receipt knows all that was published up to it.

@@ -3,6 +3,7 @@
 
 mod by_workers;
 mod committer;
+mod laws;
 mod ledger;
 mod next_delta;
 mod not_committed;
@@ -11,6 +12,7 @@ mod serial;
 
 pub use channel::{Channel, ChannelFault};
 pub use committer::Committer;
+pub use laws::a_run_is_a_chain;
 pub use ledger::Ledger;
 pub use not_committed::NotCommitted;
 pub use opening::{MAX_WORKERS, OpenFault};

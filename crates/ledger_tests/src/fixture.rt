@@ -75,6 +75,10 @@ fn numbers(alloc: Global, flags: &[Flag]) -> Result<Vec<u8>, AllocError> {
     Ok(numbers)
 }
 
+pub fn configuration(alloc: Global) -> Result<Channel, ChannelFault> {
+    Channel::read(alloc, CHANNEL)
+}
+
 /// A ledger of that channel.
 #[derive(Drop)]
 pub struct Peer {
@@ -84,7 +88,7 @@ pub struct Peer {
 impl Peer {
     pub fn open(alloc: Global) -> Result<Peer, ChannelFault> {
         Ok(Peer {
-            ledger: Ledger::open(alloc, Channel::read(alloc, CHANNEL)?),
+            ledger: Ledger::open(alloc, configuration(alloc)?),
         })
     }
 

@@ -7,6 +7,8 @@ mod alike;
 #[cfg(test)]
 mod building;
 #[cfg(test)]
+mod by_workers;
+#[cfg(test)]
 mod chain;
 #[cfg(test)]
 mod failed;

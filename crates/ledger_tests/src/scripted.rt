@@ -58,6 +58,10 @@ impl ScriptedPeer {
         Ok(ScriptedPeer { peer, keys })
     }
 
+    pub fn keys(&self) -> &KeyBook {
+        &self.keys
+    }
+
     pub fn world(&self) -> &World {
         self.peer.world()
     }

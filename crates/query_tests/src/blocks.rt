@@ -3,8 +3,8 @@ ghost use Rattle.std.specs.Prelude.{◌+◌, ◌<◌, ◌^◌, IfOk, IfSome};
 
 use crate::failed::Failed;
 use block::{Header, decode_block};
-use channel::Channel;
-use commit::Ledger;
+use channel::{Channel, ChannelFault};
+use commit::{Accepted, Ledger, Refused};
 use drafts::draft;
 use key_book::KeyBook;
 use rules::Delta;
@@ -29,6 +29,11 @@ pub fn key(bytes: &[u8]) -> Result<KeyRef<'_>, Failed> {
         return Err(Failed::Missing("a key"));
     }
     Ok(KeyRef::new(bytes))
+}
+
+/// The channel of all blocks.
+pub fn configuration(alloc: Global) -> Result<Channel, ChannelFault> {
+    Channel::read(alloc, CHANNEL)
 }
 
 /// A ledger, and the blocks that it is to take next.
@@ -63,9 +68,14 @@ impl Drafter {
             alloc,
             channel,
             keys: KeyBook::read(alloc, KEYS)?,
-            ledger: Ledger::open(alloc, Channel::read(alloc, CHANNEL)?),
+            ledger: Ledger::open(alloc, configuration(alloc)?),
             last: None,
         })
+    }
+
+    /// The keys that all signatures are made and checked with.
+    pub fn keys(&self) -> &KeyBook {
+        &self.keys
     }
 
     /// What the ledger holds.
@@ -73,22 +83,33 @@ impl Drafter {
         self.ledger.view()
     }
 
-    fn drafted(&self, script: &str) -> Result<Bytes, Failed> {
+    /// The bytes of this script's block, the next one.
+    pub fn drafted(&self, script: &str) -> Result<Bytes, Failed> {
         let last = followed(self.last)?;
         Ok(draft(self.alloc, &self.channel, &self.keys, last, script)?)
     }
 
-    fn take(&mut self, bytes: &Bytes) -> Result<(), Failed> {
-        self.last = Some(header_in(self.alloc, bytes)?);
-        self.ledger.submit_one(bytes.as_slice(), &self.keys)?;
-        Ok(())
+    /// What the ledger answers to these bytes. A block that it takes is the one that the next one follows.
+    pub fn submit(&mut self, bytes: &Bytes) -> Result<Result<Accepted, Refused>, Failed> {
+        let answer = self.ledger.submit_one(bytes.as_slice(), &self.keys);
+        if answer.is_ok() {
+            self.last = Some(header_in(self.alloc, bytes)?);
+        }
+        Ok(answer)
+    }
+
+    /// What these bytes would change.
+    pub fn delta(&self, bytes: &Bytes) -> Result<Delta, Failed> {
+        Ok(self.ledger.delta(bytes.as_slice(), &self.keys)?)
     }
 
     /// What the block of this script changes, the next one; the ledger then has it.
     pub fn next(&mut self, script: &str) -> Result<Delta, Failed> {
         let bytes = self.drafted(script)?;
-        let delta = self.ledger.delta(bytes.as_slice(), &self.keys)?;
-        self.take(&bytes)?;
-        Ok(delta)
+        let delta = self.delta(&bytes)?;
+        match self.submit(&bytes)? {
+            Ok(_) => Ok(delta),
+            Err(refused) => Err(Failed::Refused(refused)),
+        }
     }
 }

@@ -1,5 +1,5 @@
-//! Tests of published heights. Blocks are drafted from scripts; what handles answer is compared with what the scripts say, and
-//! with what a world of its own answers.
+//! Tests of published heights, and of the committer that publishes them. Blocks are drafted from scripts; what handles answer is
+//! compared with what the scripts say, and with what a world of its own answers.
 #![tactic(auto)]
 
 #[cfg(test)]
@@ -9,11 +9,15 @@ mod asking;
 #[cfg(test)]
 mod blocks;
 #[cfg(test)]
+mod committing;
+#[cfg(test)]
 mod failed;
 #[cfg(test)]
 mod heights;
 #[cfg(test)]
 mod publishing;
+#[cfg(test)]
+mod spoiling;
 #[cfg(test)]
 mod telling;
 #[cfg(test)]

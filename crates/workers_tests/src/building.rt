@@ -13,7 +13,7 @@ use std::alloc::{AllocError, Global};
 use transaction::{TxFault, Version, decode_tx};
 use values::{Bytes, Key, Name, Shared, is_key, is_name};
 
-pub const KEYS: &str = "Org1:client:c0 11\nOrg1:peer:p0 22\nOrg2:peer:q0 33\n";
+const KEYS: &str = "Org1:client:c0 11\nOrg1:peer:p0 22\nOrg2:peer:q0 33\n";
 
 const POLICY: &[u8] = b"OR('Org1.peer','Org2.peer')";
 

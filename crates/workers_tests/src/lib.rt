@@ -7,11 +7,7 @@ mod asking;
 #[cfg(test)]
 mod building;
 #[cfg(test)]
-mod committing;
-#[cfg(test)]
 mod desk;
-#[cfg(test)]
-mod drawing;
 #[cfg(test)]
 mod events;
 #[cfg(test)]

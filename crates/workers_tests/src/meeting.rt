@@ -4,7 +4,7 @@ ghost use Rattle.std.specs.Prelude.{◌≤◌};
 
 use crate::building::{Ground, Keys};
 use crate::failed::Failed;
-use crate::holding::{Late, Meeting};
+use crate::holding::Late;
 use check_workers::{Checked, check_all};
 use gates::{Gate, Phase, Reverse};
 use key_chains::Job;
@@ -12,6 +12,7 @@ use rules::Flag;
 use std::alloc::{AllocError, Global};
 use std::sync::Wait;
 use std::thread::Threads;
+use trials::Meeting;
 
 // Each second transaction of a chain is valid, each other one stale.
 fn in_chain(i: usize) -> Flag {

@@ -2,10 +2,8 @@
 
 ghost use Rattle.std.specs.Prelude.{◌≤◌};
 
-use crate::building::Ground;
-use crate::drawing::{ROWS, script};
+use crate::building::{Ground, RowCase};
 use crate::failed::Failed;
-use crate::holding::Yielding;
 use check_workers::{Checked, check_all};
 use key_chains::Job;
 use random_numbers::Random;
@@ -13,6 +11,23 @@ use rules::Flag;
 use std::alloc::{AllocError, Global};
 use std::sync::Wait;
 use std::thread::Threads;
+use trials::{Yielding, script};
+
+// The rows before each block. Two of the keys that scripts use have none.
+const ROWS: [RowCase<'static>; 3] = [
+    RowCase {
+        key: b"a",
+        policy: None,
+    },
+    RowCase {
+        key: b"b",
+        policy: Some(b"'Org1.peer'"),
+    },
+    RowCase {
+        key: b"c",
+        policy: Some(b"AND('Org1.peer','Org2.peer')"),
+    },
+];
 
 const JOBS: u32 = 2_000;
 

@@ -1,24 +1,5 @@
-//! Scripts of small blocks at random: few keys, reads and writes of every kind, most of them right.
-
-use crate::building::RowCase;
 use random_numbers::Random;
 use std::alloc::{AllocError, Global};
-
-/// The rows before each block. Two of the keys that are used have none.
-pub const ROWS: [RowCase<'static>; 3] = [
-    RowCase {
-        key: b"a",
-        policy: None,
-    },
-    RowCase {
-        key: b"b",
-        policy: Some(b"'Org1.peer'"),
-    },
-    RowCase {
-        key: b"c",
-        policy: Some(b"AND('Org1.peer','Org2.peer')"),
-    },
-];
 
 const KEYS: [&str; 5] = ["a", "b", "c", "d", "e"];
 
@@ -137,7 +118,8 @@ fn put_tx(
     Ok(())
 }
 
-/// A script of one to twelve transactions.
+/// A script of one to twelve transactions of `Org1:client:c0` on the chaincode `cc`, endorsed by `Org1:peer:p0` and
+/// `Org2:peer:q0`, by one or by none of them.
 pub fn script(alloc: Global, random: &mut Random) -> Result<String, AllocError> {
     let mut script = String::new(alloc);
     for number in 0..=random.below(12) {

@@ -1,0 +1,490 @@
+#!/usr/bin/env python3
+"""Times a peer by its workers: transactions a second, memory, and how far that is from hashing alone.
+
+Run as `bench/peer.py [WORKLOAD ..]` from anywhere, on a quiet machine with four cores that has the kit; it needs 4 GB under
+TMPDIR. It builds a program over the repository's crates in a scratch folder, which hands the blocks of a workload to a
+`commit::Committer` of 1, 2 and 4 workers, or to the `commit::Ledger`, which has one thread and none to start.
+
+Each transaction has two endorsements, which its policy asks for; values are of 100 bytes, keys of 16. The seed is fixed.
+
+- `small`: 20 blocks of 50 transactions, which read two of 1,000 keys and write two others.
+- `typical`: 100 blocks of 500 of the same.
+- `contended`: as typical, but all four keys are drawn by Zipf's law, so that the first key is in each seventh draw.
+- `wide`: 5 blocks of 4,096 transactions, each of which reads and writes keys that no other one has.
+- `chain`: 2 blocks of 4,096 transactions, each of which reads what the one before it wrote.
+- `state`: 20 blocks of 500 as in typical, over 1,000,000 keys.
+- `history`: 100 blocks of 500 transactions, all of which write the same 10 keys.
+- `ranges`: 20 blocks of 500 transactions that read a range of 10 keys and write a key elsewhere.
+- `policies`: 20 blocks of 500 transactions that write two keys with policies of their own.
+
+`hashing` is the time in which one thread of the same sha2 hashes, for one transaction, what has to be hashed: its part of
+the data hash, its id, and the HMAC-SHA-256 of what its creator and its endorsers sign, each from the key on. `ratio` is the
+time for a transaction with one worker, divided by that. `faster` is one worker's time divided by that of two and four.
+
+A second table has the time for one transaction with one worker, by the size of a block, the length of the chain and the
+keys of the state; the slope is that of its logarithm by theirs: 0 where it doesn't grow.
+
+Times are the least of five runs; `memory` is the most of a run with four workers, in MB. Behind both tables it says what
+load the machine had before and after.
+"""
+
+import math
+import os
+import pathlib
+import random
+import subprocess
+import sys
+import tempfile
+
+from scratch import RUNS, build
+from encoding import Namespace, Tx, data_hash, header_hash, identity, spelled_block, spelled_tx, tx_id
+from signing import Keys
+
+CRATES = ["block", "transaction", "values", "header_hash", "key_book", "gates", "commit"]
+WORKERS = [1, 2, 4]
+CHANNEL = "channel ch\nchaincode cc AND('Org1.peer','Org2.peer')\n"
+CREATOR, PEERS = "Org1:client:c0", ["Org1:peer:p0", "Org2:peer:q0"]
+KEYS = "".join(f"{who} {number:02x}{'5a' * 31}\n" for number, who in enumerate([CREATOR] + PEERS))
+VALUE = b"v" * 100
+POLICY = b"AND('Org1.peer','Org2.peer')"
+
+# Its words are the number of workers, 0 for the ledger, or `hash`, and files of blocks. For each it prints the nanoseconds that
+# it took, or that its hashing took, and how many of its transactions are valid.
+PROGRAM = r"""
+#![tactic(auto)]
+
+use anyhow::bail;
+use block::decode_block;
+use commit::{Channel, Committer, Flag, Ledger};
+use gates::Open;
+use header_hash::{DataHasher, tx_id};
+use key_book::{KeyBook, hmac_sha256};
+use std::alloc::Global;
+use std::io::Print;
+use std::rt::{AllocGlobal, Files};
+use std::sync::Wait;
+use std::thread::Threads;
+use std::time::{Clock, Instant};
+use std::{env, fs};
+use transaction::{SpelledTx, append_identity, decode_tx, encode_body};
+use values::Slice;
+
+fn copied(alloc: Global, parts: &[&[u8]]) -> anyhow::Result<Vec<u8>> {
+    let mut bytes = Vec::new(alloc);
+    for part in parts {
+        bytes.extend_from_slice(part)?;
+    }
+    Ok(bytes)
+}
+
+// What is hashed of a block beside its transactions: signed messages, and what ids are made of.
+#[derive(Drop)]
+struct Hashed {
+    signed: Vec<Vec<u8>>,
+    ids: Vec<Vec<u8>>,
+}
+
+fn add(alloc: Global, all: &mut Hashed, tx: &SpelledTx<'_>) -> anyhow::Result<()> {
+    all.signed.push(copied(alloc, &[tx.creator_message()])?)?;
+    all.ids.push(copied(alloc, &[tx.tx().nonce.as_slice(), tx.creator_bytes()])?)?;
+    for endorsement in tx.tx().endorsements.as_slice() {
+        let Ok(body) = encode_body(alloc, tx.tx()) else {
+            bail!("no body");
+        };
+        let mut message = body.into_vec();
+        append_identity(&mut message, &endorsement.endorser)?;
+        all.signed.push(message)?;
+    }
+    Ok(())
+}
+
+fn messages(alloc: Global, txs: &[Slice<'_>]) -> anyhow::Result<Hashed> {
+    let mut all = Hashed {
+        signed: Vec::new(alloc),
+        ids: Vec::new(alloc),
+    };
+    for bytes in txs {
+        match decode_tx(alloc, bytes.as_slice()) {
+            Ok(tx) => add(alloc, &mut all, &tx)?,
+            Err(_) => bail!("no transaction"),
+        }
+    }
+    Ok(all)
+}
+
+fn hash_all(txs: &[Slice<'_>], all: &Hashed) -> u8 {
+    let mut sum = 0u8;
+    let mut hasher = DataHasher::new();
+    for tx in txs {
+        hasher.add(tx.as_slice());
+    }
+    sum ^= hasher.finish()[0];
+    for message in &all.signed {
+        sum ^= hmac_sha256(&[7; 32], message.as_slice())[0];
+    }
+    for message in &all.ids {
+        sum ^= tx_id(message.as_slice(), &[])[0];
+    }
+    sum
+}
+
+// What is summed is shown, so that nothing is left out.
+fn hashing<R: Clock + Print>(rt: &R, alloc: Global, bytes: &[u8]) -> anyhow::Result<()> {
+    let Ok(block) = decode_block(alloc, bytes) else {
+        bail!("no block");
+    };
+    let all = messages(alloc, block.txs.as_slice())?;
+    let start = Instant::now(rt)?;
+    let sum = hash_all(block.txs.as_slice(), &all);
+    let nanos = start.elapsed(rt)?.as_nanos();
+    println!(rt; "{nanos} {sum}")?;
+    Ok(())
+}
+
+fn valid(flags: &[Flag]) -> u32 {
+    let mut count = 0u32;
+    for flag in flags {
+        count = count.wrapping_add(u32::from(flag.is_valid()));
+    }
+    count
+}
+
+fn by_ledger<R: Clock + Print>(rt: &R, ledger: &mut Ledger, keys: &KeyBook, bytes: &[u8]) -> anyhow::Result<()> {
+    let start = Instant::now(rt)?;
+    let answer = ledger.submit_one(bytes, keys);
+    let nanos = start.elapsed(rt)?.as_nanos();
+    let Ok(accepted) = answer else {
+        bail!("refused");
+    };
+    let count = valid(accepted.flags.as_slice());
+    println!(rt; "{nanos} {count}")?;
+    Ok(())
+}
+
+fn by_committer<R: Clock + Print + Threads + Wait + Sync>(
+    rt: &R,
+    committer: &mut Committer,
+    keys: &KeyBook,
+    bytes: &[u8],
+) -> anyhow::Result<()> {
+    let start = Instant::now(rt)?;
+    let answer = committer.submit(rt, bytes, keys, &Open);
+    let nanos = start.elapsed(rt)?.as_nanos();
+    let Ok(receipt) = answer else {
+        bail!("refused");
+    };
+    let count = valid(receipt.flags.as_slice());
+    println!(rt; "{nanos} {count}")?;
+    Ok(())
+}
+
+fn text(bytes: &[u8]) -> anyhow::Result<&str> {
+    match std::str::from_utf8(bytes) {
+        Ok(text) => Ok(text),
+        Err(_) => bail!("no text"),
+    }
+}
+
+fn channel<R: AllocGlobal + Files>(rt: &R) -> anyhow::Result<Channel> {
+    let bytes = fs::read(rt, "channel.txt")?;
+    match Channel::read(rt.alloc(), text(&bytes)?) {
+        Ok(channel) => Ok(channel),
+        Err(_) => bail!("no channel"),
+    }
+}
+
+fn key_book<R: AllocGlobal + Files>(rt: &R) -> anyhow::Result<KeyBook> {
+    let bytes = fs::read(rt, "keys.txt")?;
+    match KeyBook::read(rt.alloc(), text(&bytes)?) {
+        Ok(keys) => Ok(keys),
+        Err(_) => bail!("no key book"),
+    }
+}
+
+fn hash_blocks<R: AllocGlobal + Files + Clock + Print>(rt: &R, paths: &[String]) -> anyhow::Result<()> {
+    for path in paths {
+        let bytes = fs::read(rt, path.as_str())?;
+        hashing(rt, rt.alloc(), &bytes)?;
+    }
+    Ok(())
+}
+
+fn submit_to_ledger<R: AllocGlobal + Files + Clock + Print>(rt: &R, paths: &[String]) -> anyhow::Result<()> {
+    let keys = key_book(rt)?;
+    let mut ledger = Ledger::open(rt.alloc(), channel(rt)?);
+    for path in paths {
+        let bytes = fs::read(rt, path.as_str())?;
+        by_ledger(rt, &mut ledger, &keys, &bytes)?;
+    }
+    Ok(())
+}
+
+fn submit_to<R: AllocGlobal + Files + Clock + Print + Threads + Wait + Sync>(
+    rt: &R,
+    committer: &mut Committer,
+    paths: &[String],
+) -> anyhow::Result<()> {
+    let keys = key_book(rt)?;
+    for path in paths {
+        let bytes = fs::read(rt, path.as_str())?;
+        by_committer(rt, committer, &keys, &bytes)?;
+    }
+    Ok(())
+}
+
+fn submit_to_committer<R: AllocGlobal + Files + Clock + Print + Threads + Wait + Sync>(
+    rt: &R,
+    workers: usize,
+    paths: &[String],
+) -> anyhow::Result<()> {
+    let Ok((mut committer, _handles)) = Committer::open(rt.alloc(), rt, channel(rt)?, workers, 0) else {
+        bail!("no committer");
+    };
+    let ended = submit_to(rt, &mut committer, paths);
+    committer.close(rt);
+    ended
+}
+
+fn main(rt: HostRuntime) -> anyhow::Result<()> {
+    let mut words = env::args(&rt)?.skip(1);
+    let Some(way) = words.next() else {
+        bail!("no way");
+    };
+    let mut paths = Vec::new(rt.alloc());
+    for path in words {
+        paths.push(path)?;
+    }
+    match way.as_str() {
+        "hash" => hash_blocks(&rt, &paths),
+        "0" => submit_to_ledger(&rt, &paths),
+        "1" => submit_to_committer(&rt, 1, &paths),
+        "2" => submit_to_committer(&rt, 2, &paths),
+        "4" => submit_to_committer(&rt, 4, &paths),
+        _ => bail!("no way"),
+    }
+}
+"""
+
+
+def key(number):
+    return b"key%013d" % number
+
+
+class Blocks:
+    """Linked blocks as files of a folder, the first of which makes the state that the others find."""
+
+    def __init__(self, folder, state):
+        self.folder, self.keys, self.previous, self.paths, self.nonce = folder, Keys(KEYS), b"", [], 0
+        self.random, self.state, self.sizes = random.Random(1), state, []
+        folder.mkdir()
+        (folder / "channel.txt").write_text(CHANNEL)
+        (folder / "keys.txt").write_text(KEYS)
+
+    @property
+    def number(self):
+        return len(self.paths)
+
+    def tx(self, reads=(), writes=(), ranges=(), policies=()):
+        """A signed transaction with these reads at versions, writes, ranges and policies."""
+        self.nonce += 1
+        nonce, creator = b"%d" % self.nonce, identity(CREATOR)
+        namespace = Namespace(b"cc")
+        namespace.reads += sorted(dict(reads).items())
+        namespace.ranges += ranges
+        namespace.writes += [(name, VALUE) for name in sorted(set(writes))]
+        namespace.policies += [(name, POLICY) for name in sorted(set(policies))]
+        tx = Tx(b"ch", tx_id(nonce, creator), creator, nonce, b"cc", [namespace], [], b"")
+        self.keys.endorse(tx, PEERS)
+        self.keys.sign_whole(tx, CREATOR)
+        return spelled_tx(tx)
+
+    def add(self, txs):
+        hash_of_data = data_hash(txs)
+        path = self.folder / f"{self.number}.blk"
+        path.write_bytes(spelled_block(self.number, self.previous, hash_of_data, txs))
+        self.previous = header_hash(self.number, self.previous, hash_of_data)
+        self.paths.append(path.name)
+        self.sizes.append(len(txs))
+
+    def fill(self, with_policies=False):
+        """Block 0 writes all keys, 2,500 a transaction; their versions."""
+        step = 2500
+        parts = [[key(n) for n in range(start, min(start + step, self.state))] for start in range(0, self.state, step)]
+        self.add([self.tx(writes=part, policies=part if with_policies else ()) for part in parts])
+        self.version = lambda n: (0, n // step)
+
+    def read(self, n):
+        return key(n), self.version(n)
+
+    def mixed(self, count):
+        """A block of transactions that read two keys of the first half, and write two of the other."""
+        half = self.state // 2
+        draw = lambda: self.random.randrange(half)
+        self.add([self.tx([self.read(draw()), self.read(draw())], [key(half + draw()), key(half + draw())]) for _ in range(count)])
+
+
+def mixed(blocks, count, size):
+    blocks.fill()
+    for _ in range(count):
+        blocks.mixed(size)
+
+
+def contended(blocks, count, size):
+    """All keys by Zipf's law. A read has the version of block 0, so it holds where nobody wrote the key before."""
+    blocks.fill()
+    keys = range(blocks.state)
+    weights = [1 / (n + 1) for n in keys]
+    for _ in range(count):
+        drawn = blocks.random.choices(keys, weights, k=4 * size)
+        blocks.add([blocks.tx(map(blocks.read, drawn[i:i + 2]), map(key, drawn[i + 2:i + 4])) for i in range(0, 4 * size, 4)])
+
+
+def wide(blocks, count, size):
+    blocks.fill()
+    for block in range(count):
+        first = block * size
+        blocks.add([blocks.tx([blocks.read(n)], [key(n)]) for n in range(first, first + size)])
+
+
+def chain(blocks, count, size):
+    blocks.fill()
+    for _ in range(count):
+        number = blocks.number
+        blocks.add([blocks.tx([(key(i), (number, i - 1))] if i else [], [key(i + 1)]) for i in range(size)])
+
+
+def history(blocks, count, size):
+    blocks.fill()
+    for _ in range(count):
+        blocks.add([blocks.tx(writes=[key(i % 10)]) for i in range(size)])
+
+
+def ranges(blocks, count, size):
+    """The ranges lie in the first half of the keys, which nobody writes."""
+    blocks.fill()
+    half = blocks.state // 2
+    for _ in range(count):
+        txs = []
+        for _ in range(size):
+            first = blocks.random.randrange(half - 10)
+            found = [blocks.read(n) for n in range(first, first + 10)]
+            txs.append(blocks.tx(ranges=[(key(first), key(first + 10), True, found)], writes=[key(half + blocks.random.randrange(half))]))
+        blocks.add(txs)
+
+
+def policies(blocks, count, size):
+    blocks.fill(with_policies=True)
+    for _ in range(count):
+        draw = lambda: key(blocks.random.randrange(blocks.state))
+        blocks.add([blocks.tx(writes=[draw(), draw()]) for _ in range(size)])
+
+
+# name: how its blocks are made, the keys of the state, how many blocks, transactions of each
+WORKLOADS = {
+    "small": (mixed, 2000, 20, 50),
+    "typical": (mixed, 2000, 100, 500),
+    "contended": (contended, 2000, 100, 500),
+    "wide": (wide, 20_480, 5, 4096),
+    "chain": (chain, 10, 2, 4096),
+    "state": (mixed, 1_000_000, 20, 500),
+    "history": (history, 10, 100, 500),
+    "ranges": (ranges, 2000, 20, 500),
+    "policies": (policies, 2000, 20, 500),
+}
+
+
+def timed(program, way, blocks):
+    """For each block the least nanoseconds, and the most memory of a run, in KB."""
+    runs, memory = [], 0
+    for _ in range(RUNS):
+        process = subprocess.Popen([program, way, *blocks.paths], cwd=blocks.folder, stdout=subprocess.PIPE, text=True)
+        lines = [int(line.split()[0]) for line in process.stdout]
+        _, status, usage = os.wait4(process.pid, 0)
+        if status != 0 or len(lines) != len(blocks.paths):
+            sys.exit(f"the run of {way} failed: {status}")
+        runs.append(lines)
+        memory = max(memory, usage.ru_maxrss)
+    return [min(each) for each in zip(*runs)], memory
+
+
+def for_one(nanos, blocks, first=1):
+    """The microseconds for a transaction, over all blocks from the first one on."""
+    return sum(nanos[first:]) / sum(blocks.sizes[first:]) / 1000
+
+
+def told(program, name, blocks):
+    hashing = for_one(timed(program, "hash", blocks)[0], blocks)
+    ledger = for_one(timed(program, "0", blocks)[0], blocks)
+    each = []
+    for workers in WORKERS:
+        nanos, memory = timed(program, str(workers), blocks)
+        each.append(for_one(nanos, blocks))
+    rates = " ".join(f"{1_000_000 / time:>8,.0f}" for time in each)
+    faster = " ".join(f"{each[0] / time:.2f}" for time in each[1:])
+    print(f"{name:>10} {hashing:>8.1f} {ledger:>7.1f} {each[0]:>7.1f} {each[0] / hashing:>6.2f} {rates} {faster:>10} {memory // 1000:>7,}", flush=True)
+
+
+def slope(found):
+    """Of the logarithm of the times by that of the sizes, by least squares."""
+    xs, ys = [math.log(size) for size in found], [math.log(time) for time in found.values()]
+    x, y = sum(xs) / len(xs), sum(ys) / len(ys)
+    return sum((a - x) * (b - y) for a, b in zip(xs, ys)) / sum((a - x) ** 2 for a in xs)
+
+
+def grows(title, found, least=0):
+    times = ", ".join(f"{size:,}: {time:.1f}" for size, time in found.items())
+    print(f"{title}: {times} µs; slope {slope({s: t for s, t in found.items() if s >= least}):.3f}", flush=True)
+
+
+def by_size(program, folder):
+    found = {}
+    for size, count in {1: 40, 10: 40, 100: 20, 1000: 8, 4096: 4}.items():
+        blocks = Blocks(folder / f"size{size}", 2000)
+        mixed(blocks, count, size)
+        found[size] = for_one(timed(program, "1", blocks)[0], blocks)
+    grows("by transactions of a block, slope from 100 on", found, 100)
+
+
+def by_length(program, folder):
+    blocks = Blocks(folder / "length", 2000)
+    mixed(blocks, 10_000, 10)
+    nanos, found = timed(program, "1", blocks)[0], {}
+    for length in (100, 1000, 10_000):
+        found[length] = sum(nanos[length - 90:length]) / 900 / 1000
+    grows("by blocks before", found)
+
+
+def by_state(program, folder):
+    found = {}
+    for state in (1000, 10_000, 100_000, 1_000_000):
+        blocks = Blocks(folder / f"state{state}", state)
+        mixed(blocks, 10, 500)
+        found[state] = for_one(timed(program, "1", blocks)[0], blocks)
+    grows("by keys of the state", found)
+
+
+def load():
+    return " ".join(pathlib.Path("/proc/loadavg").read_text().split()[:3])
+
+
+def main():
+    wanted = sys.argv[1:] or [*WORKLOADS, "growth"]
+    before = load()
+    with tempfile.TemporaryDirectory() as name:
+        folder = pathlib.Path(name)
+        program = build(folder / "program", "peer", PROGRAM, own=CRATES, kit=["anyhow"])
+        if set(wanted) & set(WORKLOADS):
+            print("             µs for one transaction          transactions a second, by 1, 2, 4")
+            print("            hashing  ledger  worker  ratio  workers                       faster      memory")
+        for title, (make, state, count, size) in WORKLOADS.items():
+            if title in wanted:
+                blocks = Blocks(folder / title, state)
+                make(blocks, count, size)
+                told(program, title, blocks)
+        if "growth" in wanted:
+            for grown in (by_size, by_length, by_state):
+                grown(program, folder)
+    print(f"load before: {before}; after: {load()}; {os.cpu_count()} processors")
+
+
+main()

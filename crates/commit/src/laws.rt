@@ -1,0 +1,15 @@
+ghost use Rattle.std.specs.Prelude.{ℕ, List, map, Result};
+ghost use Rattle.policy_eval.specs.Accepts.{Accepts};
+ghost use Rattle.query.specs.declared.receipt.Receipt.{Receipt};
+ghost use Rattle.rules.specs.Chain.{Chain};
+ghost use Rattle.commit.specs.declared.not_committed.NotCommitted.{NotCommitted};
+ghost use Rattle.commit.specs.Committing.{Committing, Runs, answer_in, world_of};
+ghost use Rattle.commit.specs.Submissions.{submissions};
+
+/// A law, and no work: what a committer answers to a list of strings, and the world that it has published after them, are
+/// what a ledger may answer that takes them on one thread. Where the committer stops, that is the ledger's want of memory.
+pub fn a_run_is_a_chain()
+    ensures { (accepts : Accepts) (old new : Committing) (blocks : List (List ℕ)) (answers : List (Result Receipt NotCommitted))
+        → Runs accepts old blocks answers new
+        → Chain old.channel (world_of old) (submissions accepts blocks) (map answer_in answers) (world_of new) }
+{}

@@ -1,0 +1,118 @@
+//! The short chains once more, by committers of few and of many workers.
+
+use crate::failed::Failed;
+use crate::fixture::configuration;
+use crate::scripted::ScriptedPeer;
+use crate::vectors::worked::worked;
+use crate::vectors::{Scripted, WorkedChain};
+use commit::{Committer, Flag};
+use gates::{Gate, Open, Reverse};
+use std::alloc::Global;
+use std::sync::Wait;
+use std::thread::Threads;
+
+const WORKERS: [usize; 3] = [1, 2, 64];
+
+fn are_numbered(flags: &[Flag], numbers: &[u8]) -> bool {
+    flags.len() == numbers.len()
+        && flags
+            .iter()
+            .zip(numbers)
+            .all(|(flag, number)| flag.number() == *number)
+}
+
+fn is_committed<R: Threads + Wait + Sync, G: Gate + Sync>(
+    rt: &R,
+    committer: &mut Committer,
+    peer: &ScriptedPeer,
+    bytes: &[u8],
+    flags: &[u8],
+    gate: &G,
+) -> bool {
+    match committer.submit(rt, bytes, peer.keys(), gate) {
+        Ok(receipt) => are_numbered(receipt.flags.as_slice(), flags) && committer.gathered() == 0,
+        Err(_) => false,
+    }
+}
+
+// Whether both committers, one of which checks in reverse, find the flags that the peer finds.
+fn is_taken<R: Threads + Wait + Sync>(
+    rt: &R,
+    alloc: Global,
+    committer: &mut Committer,
+    in_reverse: &mut Committer,
+    peer: &mut ScriptedPeer,
+    block: &Scripted,
+) -> Result<bool, Failed> {
+    let bytes = peer.block(alloc, block.script)?;
+    let reverse = Reverse::new(alloc, block.flags.len() as u32)?;
+    Ok(
+        is_committed(rt, committer, peer, bytes.as_slice(), block.flags, &Open)
+            && is_committed(rt, in_reverse, peer, bytes.as_slice(), block.flags, &reverse)
+            && peer.is_taken(alloc, block.script, block.flags)?,
+    )
+}
+
+fn are_taken<R: Threads + Wait + Sync>(
+    rt: &R,
+    alloc: Global,
+    committer: &mut Committer,
+    in_reverse: &mut Committer,
+    chain: &WorkedChain,
+) -> Result<bool, Failed> {
+    let mut peer = ScriptedPeer::open(alloc)?;
+    for block in chain.blocks {
+        if !is_taken(rt, alloc, committer, in_reverse, &mut peer, block)? {
+            return Ok(false);
+        }
+    }
+    Ok(true)
+}
+
+fn opened<R: Wait>(rt: &R, alloc: Global, workers: usize) -> Result<Committer, Failed> {
+    match Committer::open(alloc, rt, configuration(alloc)?, workers, 0) {
+        Ok((committer, _handles)) => Ok(committer),
+        Err(_) => Err(Failed::Missing("a committer")),
+    }
+}
+
+fn is_so<R: Threads + Wait + Sync>(
+    rt: &R,
+    alloc: Global,
+    workers: usize,
+    chain: &WorkedChain,
+) -> Result<bool, Failed> {
+    let mut committer = opened(rt, alloc, workers)?;
+    let is_so = match opened(rt, alloc, workers) {
+        Ok(mut in_reverse) => {
+            let is_so = are_taken(rt, alloc, &mut committer, &mut in_reverse, chain);
+            in_reverse.close(rt);
+            is_so
+        }
+        Err(failed) => Err(failed),
+    };
+    committer.close(rt);
+    is_so
+}
+
+// The name of the first chain that isn't so.
+fn first_other<R: Threads + Wait + Sync>(
+    rt: &R,
+    alloc: Global,
+) -> Result<Option<&'static str>, Failed> {
+    for chain in worked() {
+        for workers in &WORKERS {
+            if !is_so(rt, alloc, *workers, chain)? {
+                return Ok(Some(chain.name));
+            }
+        }
+    }
+    Ok(None)
+}
+
+#[test]
+fn flags_by_workers(rt: HostRuntime) -> Result<(), Failed> {
+    let other = first_other(&rt, rt.alloc())?;
+    assert!(rt; other.is_none(), "{other:?}");
+    Ok(())
+}

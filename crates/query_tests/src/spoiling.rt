@@ -1,0 +1,87 @@
+//! Blocks that were spoiled on their way.
+
+use crate::failed::Failed;
+use block::{decode_block, encode_block};
+use header_hash::data_hash;
+use random_numbers::Random;
+use std::alloc::{AllocError, Global};
+use values::Bytes;
+
+// Where the count of transactions stands, behind no previous hash and behind one. The first one's length is next to it.
+const COUNTS: [usize; 2] = [45, 77];
+
+fn place(random: &mut Random, len: usize) -> usize {
+    let drawn = usize::from(random.below(251))
+        .wrapping_mul(251)
+        .wrapping_add(usize::from(random.below(251)));
+    drawn % len.max(1)
+}
+
+// One bit is another.
+fn flipped(alloc: Global, random: &mut Random, bytes: &[u8]) -> Result<Vec<u8>, AllocError> {
+    let mut copy = Vec::from_slice(alloc, bytes)?;
+    let place = place(random, bytes.len());
+    if let Some(byte) = copy.get_mut(place) {
+        *byte ^= 1u8.rotate_left(u32::from(random.below(8)));
+    }
+    Ok(copy)
+}
+
+// Up to eight bytes are gone.
+fn cut(alloc: Global, random: &mut Random, bytes: &[u8]) -> Result<Vec<u8>, AllocError> {
+    let start = place(random, bytes.len());
+    let end = start.saturating_add(usize::from(random.below(8)));
+    let mut copy = Vec::new(alloc);
+    for (i, byte) in bytes.iter().enumerate() {
+        if i < start || end < i {
+            copy.push(*byte)?;
+        }
+    }
+    Ok(copy)
+}
+
+// The count, or the first transaction's length, is another.
+fn miscounted(alloc: Global, random: &mut Random, bytes: &[u8]) -> Result<Vec<u8>, AllocError> {
+    let mut copy = Vec::from_slice(alloc, bytes)?;
+    let count = COUNTS[usize::from(random.below(2)) % 2];
+    if let Some(byte) = copy.get_mut(count.saturating_add(usize::from(random.below(8)))) {
+        *byte = byte.wrapping_add(random.below(255));
+    }
+    Ok(copy)
+}
+
+// The data hash is that of the transactions, where there are some.
+fn resealed(alloc: Global, bytes: &[u8]) -> Result<Bytes, Failed> {
+    let Ok(mut block) = decode_block(alloc, bytes) else {
+        return Ok(Bytes::from_slice(alloc, bytes)?);
+    };
+    block.header.data_hash = data_hash(block.txs.as_slice());
+    match encode_block(alloc, &block) {
+        Ok(bytes) => Ok(bytes),
+        Err(_) => Err(Failed::Missing("a spelling")),
+    }
+}
+
+// A bit, some bytes, a count or a length are others.
+fn changed(alloc: Global, random: &mut Random, bytes: &[u8]) -> Result<Vec<u8>, AllocError> {
+    match random.below(3) {
+        0 => flipped(alloc, random, bytes),
+        1 => cut(alloc, random, bytes),
+        _ => miscounted(alloc, random, bytes),
+    }
+}
+
+/// These bytes changed in some place, or another block in their place. Some are a block that is linked still, with a spoiled
+/// transaction.
+pub fn spoiled(
+    alloc: Global,
+    random: &mut Random,
+    bytes: &[u8],
+    other: &[u8],
+) -> Result<Bytes, Failed> {
+    match random.below(16) {
+        0 => resealed(alloc, flipped(alloc, random, bytes)?.as_slice()),
+        1..=3 => Ok(Bytes::from_slice(alloc, other)?),
+        _ => Ok(Bytes::from_vec(changed(alloc, random, bytes)?)),
+    }
+}

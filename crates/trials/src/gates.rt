@@ -1,0 +1,77 @@
+use gates::{Gate, Phase};
+use std::sync::atomic::{AtomicBool, AtomicU32, AtomicU64, Ordering};
+use std::thread;
+
+/// How often a worker that is held looks whether it may go on.
+const TURNS: u32 = 2_000_000;
+
+/// Holds the first who enters a phase until so many others have entered it.
+#[derive(Drop)]
+pub struct Meeting {
+    phase: Phase,
+    others: u32,
+    entered: AtomicU32,
+    met: AtomicBool,
+}
+
+impl Meeting {
+    pub fn of_others(others: u32, phase: Phase) -> Meeting {
+        Meeting {
+            phase,
+            others,
+            entered: AtomicU32::new(0),
+            met: AtomicBool::new(false),
+        }
+    }
+
+    /// Whether the others came before the turns were over.
+    pub fn is_met(&self) -> bool {
+        self.met.load(Ordering::SeqCst)
+    }
+
+    fn hold(&self) {
+        for _ in 0..TURNS {
+            if self.entered.load(Ordering::SeqCst) > self.others {
+                self.met.store(true, Ordering::SeqCst);
+                return;
+            }
+            thread::yield_now();
+        }
+    }
+}
+
+impl Gate for Meeting {
+    fn at(&self, phase: Phase, _index: u32) {
+        if phase == self.phase && self.entered.fetch_add(1, Ordering::SeqCst) == 0 {
+            self.hold();
+        }
+    }
+}
+
+/// Lets others go first, now and then.
+#[derive(Drop)]
+pub struct Yielding {
+    state: AtomicU64,
+}
+
+impl Yielding {
+    pub fn new(seed: u64) -> Yielding {
+        Yielding {
+            state: AtomicU64::new(seed),
+        }
+    }
+}
+
+impl Gate for Yielding {
+    fn at(&self, _phase: Phase, _index: u32) {
+        let drawn = self
+            .state
+            .fetch_add(0x9e37_79b9_7f4a_7c15, Ordering::SeqCst);
+        let mixed = (drawn ^ (drawn >> 31)).wrapping_mul(0xbf58_476d_1ce4_e5b9) >> 59;
+        if mixed < 8 {
+            for _ in 0..mixed {
+                thread::yield_now();
+            }
+        }
+    }
+}
