@@ -16,6 +16,8 @@ Each transaction has two endorsements, which its policy asks for; values are of 
 - `history`: 100 blocks of 500 transactions, all of which write the same 10 keys.
 - `ranges`: 20 blocks of 500 transactions that read a range of 10 keys and write a key elsewhere.
 - `policies`: 20 blocks of 500 transactions that write two keys with policies of their own.
+- `written`: a block whose first 2,048 transactions write one key, which 2,048 behind them read.
+- `overruled`: the same where no writer is valid, so that each reader passes all of them.
 
 `hashing` is the time in which one thread of the same sha2 hashes, for one transaction, what has to be hashed: its part of
 the data hash, its id, and the HMAC-SHA-256 of what its creator and its endorsers sign, each from the key on. `ratio` is the
@@ -61,7 +63,7 @@ use header_hash::{DataHasher, tx_id};
 use key_book::{KeyBook, hmac_sha256};
 use std::alloc::Global;
 use std::io::Print;
-use std::rt::{AllocGlobal, Files};
+use std::rt::Files;
 use std::sync::Wait;
 use std::thread::Threads;
 use std::time::{Clock, Instant};
@@ -379,17 +381,32 @@ def policies(blocks, count, size):
         blocks.add([blocks.tx(writes=[draw(), draw()]) for _ in range(size)])
 
 
-# name: how its blocks are made, the keys of the state, how many blocks, transactions of each
+def written(blocks, size):
+    blocks.fill()
+    last = (key(0), (1, size - 1))
+    blocks.add([blocks.tx(writes=[key(0)]) for _ in range(size)] + [blocks.tx([last]) for _ in range(size)])
+
+
+def overruled(blocks, size):
+    """The writers read a key at a version that it hasn't, so that no write of them counts."""
+    blocks.fill()
+    stale = (key(1), (9, 9))
+    blocks.add([blocks.tx([stale], [key(0)]) for _ in range(size)] + [blocks.tx([blocks.read(0)]) for _ in range(size)])
+
+
+# name: the keys of the state, and how the blocks behind the first are made: by what, how many, of how many transactions
 WORKLOADS = {
-    "small": (mixed, 2000, 20, 50),
-    "typical": (mixed, 2000, 100, 500),
-    "contended": (contended, 2000, 100, 500),
-    "wide": (wide, 20_480, 5, 4096),
-    "chain": (chain, 10, 2, 4096),
-    "state": (mixed, 1_000_000, 20, 500),
-    "history": (history, 10, 100, 500),
-    "ranges": (ranges, 2000, 20, 500),
-    "policies": (policies, 2000, 20, 500),
+    "small": (2000, mixed, 20, 50),
+    "typical": (2000, mixed, 100, 500),
+    "contended": (2000, contended, 100, 500),
+    "wide": (20_480, wide, 5, 4096),
+    "chain": (10, chain, 2, 4096),
+    "state": (1_000_000, mixed, 20, 500),
+    "history": (10, history, 100, 500),
+    "ranges": (2000, ranges, 20, 500),
+    "policies": (2000, policies, 20, 500),
+    "written": (10, written, 2048),
+    "overruled": (10, overruled, 2048),
 }
 
 
@@ -436,13 +453,19 @@ def grows(title, found, least=0):
     print(f"{title}: {times} µs; slope {slope({s: t for s, t in found.items() if s >= least}):.3f}", flush=True)
 
 
-def by_size(program, folder):
-    found = {}
-    for size, count in {1: 40, 10: 40, 100: 20, 1000: 8, 4096: 4}.items():
-        blocks = Blocks(folder / f"size{size}", 2000)
-        mixed(blocks, count, size)
-        found[size] = for_one(timed(program, "1", blocks)[0], blocks)
-    grows("by transactions of a block, slope from 100 on", found, 100)
+def by_size(program, folder, state):
+    """All sizes over one state, so that the dear one is made once."""
+    blocks, found, first = Blocks(folder / f"size{state}", state), {}, 1
+    sizes = {1: 40, 10: 40, 100: 20, 1000: 8, 4096: 4}
+    mixed(blocks, 0, 0)
+    for size, count in sizes.items():
+        for _ in range(count):
+            blocks.mixed(size)
+    nanos = timed(program, "1", blocks)[0]
+    for size, count in sizes.items():
+        found[size] = sum(nanos[first:first + count]) / (size * count) / 1000
+        first += count
+    grows(f"by transactions of a block, over {state:,} keys, slope from 100 on", found, 100)
 
 
 def by_length(program, folder):
@@ -476,14 +499,16 @@ def main():
         if set(wanted) & set(WORKLOADS):
             print("             µs for one transaction          transactions a second, by 1, 2, 4")
             print("            hashing  ledger  worker  ratio  workers                       faster      memory")
-        for title, (make, state, count, size) in WORKLOADS.items():
+        for title, (state, make, *sizes) in WORKLOADS.items():
             if title in wanted:
                 blocks = Blocks(folder / title, state)
-                make(blocks, count, size)
+                make(blocks, *sizes)
                 told(program, title, blocks)
         if "growth" in wanted:
-            for grown in (by_size, by_length, by_state):
-                grown(program, folder)
+            for state in (2000, 1_000_000):
+                by_size(program, folder, state)
+            by_length(program, folder)
+            by_state(program, folder)
     print(f"load before: {before}; after: {load()}; {os.cpu_count()} processors")
 
 

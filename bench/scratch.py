@@ -34,11 +34,22 @@ def take(crate, at):
         shutil.copytree(library, at / "out" / "rlib", symlinks=True, copy_function=link)
 
 
+def lines_below(names):
+    """The lines of crates.txt of these crates, and of all that they stand on."""
+    lines = {line.split(":")[0].split()[0]: line for line in (TOP / "crates.txt").read_text().splitlines() if ":" in line and not line.startswith("#")}
+    needed, left = set(), list(names)
+    while left:
+        name = left.pop()
+        if name in lines and name not in needed:
+            needed.add(name)
+            left += lines[name].split(":")[1].split()
+    return {name: line for name, line in lines.items() if name in needed}
+
+
 def build(folder, name, source, own, kit):
     """A program of one file, over `own` crates of this repository and over crates of the kit; its path.
 
-    `own` has all crates that the program stands on, lowest first. One whose library isn't built is proved in the scratch
-    folder, each time anew: build them first.
+    A crate whose library isn't built is proved in the scratch folder, each time anew: build them first.
     """
     crates = folder / "crates"
     (crates / name / "src").mkdir(parents=True)
@@ -46,10 +57,9 @@ def build(folder, name, source, own, kit):
     for part in ("specs", "proofs"):
         (crates / name / part).mkdir()
         (crates / name / part / "Lib.antt").write_text("")
-    lines = (TOP / "crates.txt").read_text().splitlines()
-    needed = [line for line in lines if line.split(":")[0] in own]
-    (folder / "crates.txt").write_text("\n".join(needed + [f"{name}: {' '.join(own + kit)}"]) + "\n")
-    for crate in own:
+    below = lines_below(own)
+    (folder / "crates.txt").write_text("\n".join([*below.values(), f"{name}: {' '.join([*own, *kit])}"]) + "\n")
+    for crate in below:
         take(TOP / "crates" / crate, crates / crate)
     built = subprocess.run(["rt", "run"], cwd=crates / name, capture_output=True, text=True, check=False)
     program = crates / name / "out" / name

@@ -22,9 +22,7 @@ from scratch import RUNS, build
 from encoding import Namespace, Tx, data_hash, header_hash, identity, spelled_block, spelled_tx, tx_id
 from signing import Keys
 
-CRATES = ["values", "transaction", "block", "header_hash", "policy", "policy_eval", "text_lines", "channel", "key_book",
-          "rules", "block_steps", "history_index", "state_db", "txid_index", "world", "candidates", "intake",
-          "key_chains", "endorsement_check", "mvcc", "serial_checks", "effects", "commit", "task_desk", "gates", "check_workers"]
+CRATES = ["block", "channel", "check_workers", "commit", "gates", "intake", "key_book", "key_chains", "rules", "serial_checks"]
 ONE_WORKER, FOUR_WORKERS = 1.3, 2.5
 TIMED = ["loop", "1", "2", "4", "threads"]
 CHANNEL = "channel ch\nchaincode cc AND('Org1.peer','Org2.peer')\n"

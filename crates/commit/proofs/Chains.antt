@@ -1,5 +1,5 @@
 -- What a committer answers to one string after the other is a chain of steps.
-use Rattle.std.proofs.Common.{◌≡◌, ℕ, List, [], ◌∷◌, Result, Ok, Err, refl, sym, ap, subst}
+use Rattle.std.proofs.Common.{◌≡◌, ℕ, List, [], ◌∷◌, Result, Ok, Err, ap, subst}
 use Rattle.std.specs.Prelude.{map}
 use Rattle.channel.specs.Configuration.{Configuration}
 use Rattle.policy_eval.specs.Accepts.{Accepts}
@@ -11,7 +11,7 @@ use Rattle.commit.specs.declared.not_committed.NotCommitted.TheVariants.{Refused
 use Rattle.commit.specs.Committing.{Committing, Submits, Runs, answer_in, world_of}
 use Rattle.commit.specs.Submissions.{submissions}
 
-Answer : Type 0
+abbrev Answer : Type 0
 Answer = Result Receipt NotCommitted
 
 is_step : (accepts : Accepts) (old new : Committing) (bytes : List ℕ) (answer : Answer)

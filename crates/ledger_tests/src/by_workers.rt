@@ -48,7 +48,14 @@ fn is_taken<R: Threads + Wait + Sync>(
     let reverse = Reverse::new(alloc, block.flags.len() as u32)?;
     Ok(
         is_committed(rt, committer, peer, bytes.as_slice(), block.flags, &Open)
-            && is_committed(rt, in_reverse, peer, bytes.as_slice(), block.flags, &reverse)
+            && is_committed(
+                rt,
+                in_reverse,
+                peer,
+                bytes.as_slice(),
+                block.flags,
+                &reverse,
+            )
             && peer.is_taken(alloc, block.script, block.flags)?,
     )
 }

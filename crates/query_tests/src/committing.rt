@@ -64,18 +64,16 @@ fn is_answered_alike<R: Threads + Wait + Sync, G: Gate + Sync>(
     Ok(is_same(&answer, &of_ledger) && committer.gathered() == 0)
 }
 
-fn are_keys_alike(
-    alloc: Global,
-    handle: &mut QueryHandle,
-    world: &World,
-) -> Result<bool, Failed> {
+fn are_keys_alike(alloc: Global, handle: &mut QueryHandle, world: &World) -> Result<bool, Failed> {
     for key in &KEYS {
         if !is_key_alike(alloc, handle, world, b"cc", key)? {
             return Ok(false);
         }
     }
-    Ok(is_range_alike(alloc, handle, world, b"cc", b"b ", 2)?
-        && is_range_alike(alloc, handle, world, b"cc", b"A ", 9)?)
+    Ok(
+        is_range_alike(alloc, handle, world, b"cc", b"b ", 2)?
+            && is_range_alike(alloc, handle, world, b"cc", b"A ", 9)?,
+    )
 }
 
 fn are_blocks_alike(

@@ -1,7 +1,7 @@
 //! Blocks that were spoiled on their way.
 
 use crate::failed::Failed;
-use block::{decode_block, encode_block};
+use block::{Block, Header, decode_block, encode_block};
 use header_hash::data_hash;
 use random_numbers::Random;
 use std::alloc::{AllocError, Global};
@@ -52,11 +52,18 @@ fn miscounted(alloc: Global, random: &mut Random, bytes: &[u8]) -> Result<Vec<u8
 
 // The data hash is that of the transactions, where there are some.
 fn resealed(alloc: Global, bytes: &[u8]) -> Result<Bytes, Failed> {
-    let Ok(mut block) = decode_block(alloc, bytes) else {
+    let Ok(block) = decode_block(alloc, bytes) else {
         return Ok(Bytes::from_slice(alloc, bytes)?);
     };
-    block.header.data_hash = data_hash(block.txs.as_slice());
-    match encode_block(alloc, &block) {
+    let sealed = Block {
+        header: Header {
+            number: block.header.number,
+            previous: block.header.previous,
+            data_hash: data_hash(block.txs.as_slice()),
+        },
+        txs: block.txs,
+    };
+    match encode_block(alloc, &sealed) {
         Ok(bytes) => Ok(bytes),
         Err(_) => Err(Failed::Missing("a spelling")),
     }

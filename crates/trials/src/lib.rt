@@ -1,8 +1,8 @@
 //! What tests of several crates try: scripts of blocks at random, and gates that hold workers back.
 #![tactic(auto)]
 
-mod gates;
+mod holding;
 mod scripts;
 
-pub use gates::{Meeting, Yielding};
+pub use holding::{Meeting, Yielding};
 pub use scripts::script;
