@@ -1,0 +1,96 @@
+-- Each place of a block has a reason.
+use Rattle.std.proofs.Common.{◌≡◌, ℕ, ◌<◌, Bool, true, false, ◌∷◌, [], List, length, take, Option, Some, None, refl, sym, ap, ◌∙◌}
+use Rattle.std.specs.Prelude.{not, is_none, if◌then◌else◌}
+use Rattle.std.specs.Str.{bytes_eq}
+use Rattle.transaction.specs.declared.transaction.Tx.{Tx}
+use Rattle.transaction.specs.Grammar.{identity_bytes, signed_bytes}
+use Rattle.header_hash.specs.Hashes.{tx_id_of}
+use Rattle.policy_eval.specs.Accepts.{Accepts}
+use Rattle.policy_eval.specs.Signers.{signers_of}
+use Rattle.channel.specs.Configuration.{Configuration}
+use Rattle.rules.specs.declared.flag.Flag.TheVariants.{BadCreatorSignature, BadProposalTxId, DuplicateTxId, TargetChainNotFound, BadRwset, InvalidChaincode}
+use Rattle.rules.specs.declared.read_verdict.ReadVerdict.{ReadVerdict}
+use Rattle.rules.specs.declared.read_verdict.ReadVerdict.TheVariants.{Good, Stale, Phantom}
+use Rattle.rules.specs.ReadWriteSets.{is_in_form}
+use Rattle.rules.specs.Reads.{read_verdict}
+use Rattle.rules.specs.Candidate.{Candidate, opened, first_failed, flagged_or, candidate_of, used_id, is_used, is_all_defined}
+use Rattle.rules.specs.Job.{Job, candidate_at, flag_by, open_flag, reads, reads_by}
+use Rattle.rules.specs.Fold.{running, endorsed, flag}
+use Rattle.rules.specs.Commit.{job_of}
+use Rattle.rules.specs.World.{World}
+use Rattle.rules.proofs.Candidates.{ids_of}
+use Rattle.reasons.specs.declared.reason.Reason.{Reason}
+use Rattle.reasons.specs.declared.reason.Reason.TheVariants.{NoFault, NoTransaction, BadSignature, OtherId, UsedId, NotEndorsed, ReadConflict, PhantomConflict, OtherChannel, NotInForm, Undefined}
+use Rattle.reasons.specs.Identity.{wanted_id}
+use Rattle.reasons.specs.Reason.{flag_of, tx_at, Explains, IsReason}
+use Rattle.reasons.proofs.Form.{form_fault_if}
+use Rattle.reasons.proofs.Identity.{first_use_if, undefined_if}
+use Rattle.reasons.proofs.Endorsement.{endorsement_fault_if}
+use Rattle.reasons.proofs.Conflicts.{stale_read_if, phantom_key_if}
+use Rattle.reasons.proofs.Places.{candidate-at}
+
+-- the candidate of a transaction by what the tests before the state say
+abbrev tested : (channel signed id used in_form defined : Bool) → Candidate → Candidate
+tested channel signed id used in_form defined c =
+    flagged_or (first_failed ((channel, TargetChainNotFound) ∷ (signed, BadCreatorSignature) ∷ (id, BadProposalTxId) ∷ []))
+    (flagged_or (first_failed ((not used, DuplicateTxId) ∷ (in_form, BadRwset) ∷ (defined, InvalidChaincode) ∷ [])) c)
+
+module _ (channel : Configuration) (accepts : Accepts) (w : World) (txs : List (Option Tx)) (i : ℕ) (inside : i < length txs) where
+  abbrev j : Job
+  j = job_of channel accepts w txs
+
+  abbrev HasReason : Type 0
+  HasReason = (reason : Reason) × IsReason channel accepts w txs i reason
+
+  flag-at : (c : Candidate) → candidate_at j i ≡ c → flag j i ≡ flag_by c (endorsed j i) (reads j i (running j i).state)
+  flag-at c e = ap (λ (x : Candidate). flag_by x (endorsed j i) (reads j i (running j i).state)) e
+
+  made : (reason : Reason) → flag j i ≡ flag_of reason → Explains channel accepts w txs i reason → HasReason
+  made reason f e = (reason, record { place = inside; flag_is = f; why = e })
+
+  -- ---- an open candidate
+
+  module _ (tx : Tx) (is : tx_at txs i ≡ Some tx) (in_form : is_in_form tx ≡ true) (defined : is_all_defined channel.definitions tx ≡ true) (e : candidate_at j i ≡ opened tx (signers_of accepts tx)) where
+    open_flag-at : (b : Bool) → endorsed j i ≡ b → (v : ReadVerdict) → read_verdict (running j i).state tx ≡ v → flag j i ≡ open_flag b v
+    open_flag-at b p v q =
+        let read : reads j i (running j i).state ≡ v = ap (reads_by (running j i).state) e ∙ q in
+        flag-at (opened tx (signers_of accepts tx)) e ∙ (λ t. open_flag (p t) (read t))
+
+    by_rules : (b : Bool) → endorsed j i ≡ b → (v : ReadVerdict) → read_verdict (running j i).state tx ≡ v → HasReason
+    by_rules false p v q = let f = endorsement_fault_if j i tx (signers_of accepts tx) defined in made (NotEndorsed f.0) (open_flag-at false p v q) (tx, is, f.1)
+    by_rules true p Good q = made NoFault (open_flag-at true p Good q) tt
+    by_rules true p Stale q = let x = stale_read_if j i tx q in made (ReadConflict x.0) (open_flag-at true p Stale q) (tx, is, x.1)
+    by_rules true p Phantom q = let x = phantom_key_if j i tx in_form q in made (PhantomConflict x.0) (open_flag-at true p Phantom q) (tx, is, x.1)
+
+    opened_reason : HasReason
+    opened_reason = by_rules (endorsed j i) refl (read_verdict (running j i).state tx) refl
+
+  -- ---- by the tests before the state
+
+  module _ (tx : Tx) (is : tx_at txs i ≡ Some tx) where
+    abbrev used : Bool
+    used = is_used w.first_uses (ids_of channel accepts (take i txs)) (used_id channel accepts (Some tx))
+
+    by_tests : (a b c u f d : Bool)
+        → bytes_eq tx.channel channel.name ≡ a → accepts tx.creator (signed_bytes tx) tx.signature ≡ b → bytes_eq tx.id (tx_id_of tx.nonce (identity_bytes tx.creator)) ≡ c
+        → used ≡ u → is_in_form tx ≡ f → is_all_defined channel.definitions tx ≡ d
+        → candidate_at j i ≡ tested a b c u f d (opened tx (signers_of accepts tx)) → HasReason
+    by_tests false b c u f d ea eb ec eu ef ed e = made (OtherChannel tx.channel) (flag-at _ e) (tx, is, refl)
+    by_tests true false c u f d ea eb ec eu ef ed e = made BadSignature (flag-at _ e) tt
+    by_tests true true false u f d ea eb ec eu ef ed e = made (OtherId (wanted_id tx)) (flag-at _ e) (tx, is, refl)
+    by_tests true true true true f d ea eb ec eu ef ed e =
+        let own : used_id channel accepts (Some tx) ≡ Some tx.id = λ t. if is_none (first_failed ((ea t, TargetChainNotFound) ∷ (eb t, BadCreatorSignature) ∷ (ec t, BadProposalTxId) ∷ [])) then Some tx.id else None in
+        let here = first_use_if channel accepts w txs i tx.id (ap (is_used w.first_uses (ids_of channel accepts (take i txs))) (sym own) ∙ eu) in
+        made (UsedId here.0) (flag-at _ e) (tx, is, here.1)
+    by_tests true true true false false d ea eb ec eu ef ed e = let fault = form_fault_if tx ef in made (NotInForm fault.0) (flag-at _ e) (tx, is, fault.1)
+    by_tests true true true false true false ea eb ec eu ef ed e = let name = undefined_if channel.definitions tx ed in made (Undefined name.0) (flag-at _ e) (tx, is, name.1)
+    by_tests true true true false true true ea eb ec eu ef ed e = opened_reason tx is ef ed e
+
+  by_tx : (o : Option Tx) → tx_at txs i ≡ o → candidate_at j i ≡ candidate_of channel accepts (is_used w.first_uses (ids_of channel accepts (take i txs)) (used_id channel accepts o)) o → HasReason
+  by_tx None is e = made NoTransaction (flag-at _ e) tt
+  by_tx (Some tx) is e =
+      by_tests tx is (bytes_eq tx.channel channel.name) (accepts tx.creator (signed_bytes tx) tx.signature) (bytes_eq tx.id (tx_id_of tx.nonce (identity_bytes tx.creator)))
+      (is_used w.first_uses (ids_of channel accepts (take i txs)) (used_id channel accepts (Some tx))) (is_in_form tx) (is_all_defined channel.definitions tx) refl refl refl refl refl refl e
+
+  pub some_reason : HasReason
+  some_reason = by_tx (tx_at txs i) refl (candidate-at channel accepts w.first_uses [] txs i)

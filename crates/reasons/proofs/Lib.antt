@@ -1,0 +1,11 @@
+mod Lists
+mod Differences
+mod Form
+mod Identity
+mod Endorsement
+mod Conflicts
+mod Places
+mod Uniqueness
+mod Existence
+mod BlockReasons
+mod rows

@@ -1,0 +1,21 @@
+-- The candidate of a place of a block.
+use Rattle.std.proofs.Common.{◌≡◌, ℕ, zero, suc, List, [], ◌∷◌, ◌++◌, take, get_or, Option, refl, sym, ap, ◌∙◌, append_assoc, append-nil}
+use Rattle.std.specs.Prelude.{option_to_list}
+use Rattle.transaction.specs.declared.transaction.Tx.{Tx}
+use Rattle.policy_eval.specs.Accepts.{Accepts}
+use Rattle.channel.specs.Configuration.{Configuration}
+use Rattle.rules.specs.declared.flag.Flag.TheVariants.{BadPayload}
+use Rattle.rules.specs.FirstUses.{FirstUses}
+use Rattle.rules.specs.Candidate.{flagged, used_id, is_used, candidate_of, candidates_from}
+use Rattle.rules.proofs.Candidates.{ids_of}
+use Rattle.reasons.specs.Reason.{tx_at}
+
+module _ (channel : Configuration) (accepts : Accepts) (uses : FirstUses) where
+  pub candidate-at : (earlier : List (List ℕ)) (txs : List (Option Tx)) (i : ℕ) → get_or (candidates_from channel accepts uses earlier txs) i (flagged BadPayload)
+      ≡ candidate_of channel accepts (is_used uses (earlier ++ ids_of channel accepts (take i txs)) (used_id channel accepts (tx_at txs i))) (tx_at txs i)
+  candidate-at earlier [] i = refl
+  candidate-at earlier (tx ∷ txs) zero = ap (λ (ids : List (List ℕ)). candidate_of channel accepts (is_used uses ids (used_id channel accepts tx)) tx) (sym (append-nil earlier))
+  candidate-at earlier (tx ∷ txs) (suc i) =
+      let own : List (List ℕ) = option_to_list (used_id channel accepts tx) in
+      candidate-at (earlier ++ own) txs i
+      ∙ ap (λ (ids : List (List ℕ)). candidate_of channel accepts (is_used uses ids (used_id channel accepts (tx_at txs i))) (tx_at txs i)) (append_assoc earlier own (ids_of channel accepts (take i txs)))

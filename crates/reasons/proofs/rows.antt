@@ -1,0 +1,9 @@
+-- Worked rows of reasons: each computes, and a wrong expectation is refused.
+mod Shared
+mod Looks
+mod Form
+mod Identity
+mod Endorsement
+mod Reads
+mod Ranges
+mod Reasons

@@ -1,0 +1,33 @@
+-- The id that a transaction should have, where its own was used first, and what has no definition.
+use Rattle.std.specs.Prelude.{◌≡◌, ℕ, List, ◌∷◌, Bool, not, map, find, position, Option, Some, None, option_to_list}
+use Rattle.std.specs.Str.{bytes_eq}
+use Rattle.std.specs.List.{list_any}
+use Rattle.std.specs.FinMap.{get}
+use Rattle.transaction.specs.declared.transaction.Tx.{Tx}
+use Rattle.transaction.specs.Grammar.{identity_bytes}
+use Rattle.header_hash.specs.Hashes.{tx_id_of}
+use Rattle.policy.specs.Policies.{Policies}
+use Rattle.policy_eval.specs.Accepts.{Accepts}
+use Rattle.channel.specs.Configuration.{Configuration}
+use Rattle.rules.specs.declared.flag.Flag.{Flag}
+use Rattle.rules.specs.Effect.{written_keys}
+use Rattle.rules.specs.Candidate.{is_defined, used_id}
+use Rattle.rules.specs.World.{World}
+use Rattle.reasons.specs.declared.id_use.IdUse.{IdUse}
+use Rattle.reasons.specs.declared.id_use.IdUse.TheVariants.{Earlier, Here}
+
+-- that of its nonce and its creator
+abbrev pub wanted_id : Tx → List ℕ
+wanted_id tx = tx_id_of tx.nonce (identity_bytes tx.creator)
+
+abbrev pub uses_id : Configuration → Accepts → List ℕ → Option Tx → Bool
+uses_id channel accepts id tx = list_any (bytes_eq id) (option_to_list (used_id channel accepts tx))
+
+-- The first use of an id: in an accepted block, or else at the first place of this one that uses it.
+abbrev pub IsFirstUse : Configuration → Accepts → World → List (Option Tx) → List ℕ → IdUse → Type 0
+IsFirstUse channel accepts w txs id (Earlier block place) = (flag : Flag) × (get w.first_uses id ≡ Some (record { block = block; place = place; flag = flag }))
+IsFirstUse channel accepts w txs id (Here place) = (get w.first_uses id ≡ None) × (position (uses_id channel accepts id) txs ≡ Some place)
+
+-- the first name without a definition: of the chaincode that is named, and then of the namespaces that are written
+abbrev pub first_undefined : Policies → Tx → Option (List ℕ)
+first_undefined definitions tx = find (λ name. not (is_defined definitions name)) (tx.chaincode ∷ map (λ k. k.0) (written_keys tx))

@@ -1,0 +1,26 @@
+//! Reasons: why each transaction of a block has its flag.
+#![tactic(auto)]
+
+mod endorsement_fault;
+mod form_fault;
+mod id_use;
+mod key_list;
+mod laws;
+mod phantom_key;
+mod policy_owner;
+mod policy_text_fault;
+mod queried_range;
+mod reason;
+mod stale_read;
+
+pub use endorsement_fault::EndorsementFault;
+pub use form_fault::FormFault;
+pub use id_use::IdUse;
+pub use key_list::KeyList;
+pub use laws::{each_place_has_one_reason, reasons_have_the_flags};
+pub use phantom_key::PhantomKey;
+pub use policy_owner::PolicyOwner;
+pub use policy_text_fault::PolicyTextFault;
+pub use queried_range::QueriedRange;
+pub use reason::Reason;
+pub use stale_read::StaleRead;

@@ -1,0 +1,15 @@
+use crate::queried_range::QueriedRange;
+use transaction::Version;
+use values::Key;
+
+/// The first key of the first range of a transaction that doesn't hold, where what was read and what is
+/// there differ.
+#[derive(Debug, Drop)]
+pub struct PhantomKey {
+    pub range: QueriedRange,
+    pub key: Key,
+    /// As the query found it, or none where the key was absent.
+    pub read: Option<Version>,
+    /// What is there once the valid transactions before are applied, or none where the key is absent.
+    pub there: Option<Version>,
+}
