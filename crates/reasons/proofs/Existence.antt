@@ -80,7 +80,7 @@ module _ (channel : Configuration) (accepts : Accepts) (w : World) (txs : List (
     by_tests true true false u f d ea eb ec eu ef ed e = made (OtherId (wanted_id tx)) (flag-at _ e) (tx, is, refl)
     by_tests true true true true f d ea eb ec eu ef ed e =
         let own : used_id channel accepts (Some tx) ≡ Some tx.id = λ t. if is_none (first_failed ((ea t, TargetChainNotFound) ∷ (eb t, BadCreatorSignature) ∷ (ec t, BadProposalTxId) ∷ [])) then Some tx.id else None in
-        let here = first_use_if channel accepts w txs i tx.id (ap (is_used w.first_uses (ids_of channel accepts (take i txs))) (sym own) ∙ eu) in
+        let here = first_use_if channel accepts w (take i txs) tx.id (ap (is_used w.first_uses (ids_of channel accepts (take i txs))) (sym own) ∙ eu) in
         made (UsedId here.0) (flag-at _ e) (tx, is, here.1)
     by_tests true true true false false d ea eb ec eu ef ed e = let fault = form_fault_if tx ef in made (NotInForm fault.0) (flag-at _ e) (tx, is, fault.1)
     by_tests true true true false true false ea eb ec eu ef ed e = let name = undefined_if channel.definitions tx ed in made (Undefined name.0) (flag-at _ e) (tx, is, name.1)

@@ -17,7 +17,7 @@ use Rattle.rules.proofs.Candidates.{ids_of}
 use Rattle.reasons.specs.declared.id_use.IdUse.{IdUse}
 use Rattle.reasons.specs.declared.id_use.IdUse.TheVariants.{Earlier, Here}
 use Rattle.reasons.specs.Identity.{uses_id, IsFirstUse, first_undefined}
-use Rattle.reasons.proofs.Lists.{some_is, some_and_none, found_if, any-take}
+use Rattle.reasons.proofs.Lists.{some_is, some_and_none, found_if}
 
 -- ---- a place
 
@@ -41,16 +41,14 @@ module _ (channel : Configuration) (accepts : Accepts) where
       list_any-append (bytes_eq id) (option_to_list (used_id channel accepts tx)) (ids_of channel accepts txs)
       ∙ ap (λ (b : Bool). uses_id channel accepts id tx || b) (any-ids id txs)
 
-  pub first_use_if : (w : World) (txs : List (Option Tx)) (i : ℕ) (id : List ℕ) → is_used w.first_uses (ids_of channel accepts (take i txs)) (Some id) ≡ true
-      → (place : IdUse) × IsFirstUse channel accepts w txs id place
-  first_use_if w txs i id e = by (get w.first_uses id) refl (sym (or-false (contains_key w.first_uses id || list_any (bytes_eq id) (ids_of channel accepts (take i txs)))) ∙ e)
+  pub first_use_if : (w : World) (before : List (Option Tx)) (id : List ℕ) → is_used w.first_uses (ids_of channel accepts before) (Some id) ≡ true
+      → (place : IdUse) × IsFirstUse channel accepts w before id place
+  first_use_if w before id e = by (get w.first_uses id) refl (sym (or-false (contains_key w.first_uses id || list_any (bytes_eq id) (ids_of channel accepts before))) ∙ e)
     where
-      by : (o : Option FirstUse) → get w.first_uses id ≡ o → (is_some o || list_any (bytes_eq id) (ids_of channel accepts (take i txs))) ≡ true
-          → (place : IdUse) × IsFirstUse channel accepts w txs id place
+      by : (o : Option FirstUse) → get w.first_uses id ≡ o → (is_some o || list_any (bytes_eq id) (ids_of channel accepts before)) ≡ true
+          → (place : IdUse) × IsFirstUse channel accepts w before id place
       by (Some u) is e = (Earlier u.block u.place, (u.flag, is))
-      by None is e =
-          let earlier : list_any (uses_id channel accepts id) (take i txs) ≡ true = sym (any-ids id (take i txs)) ∙ e in
-          (Here (position_or_len (uses_id channel accepts id) txs), (is, place_if (uses_id channel accepts id) txs (any-take (uses_id channel accepts id) txs i earlier)))
+      by None is e = (Here (position_or_len (uses_id channel accepts id) before), (is, place_if (uses_id channel accepts id) before (sym (any-ids id before) ∙ e)))
 
 pub one_use : (channel : Configuration) (accepts : Accepts) (w : World) (txs : List (Option Tx)) (id : List ℕ) (a b : IdUse)
     → IsFirstUse channel accepts w txs id a → IsFirstUse channel accepts w txs id b → a ≡ b

@@ -70,17 +70,7 @@ found-all p q (y ∷ ys) x h e = let both = both_true (q y) (list_all q ys) h in
     by true e here rest = ap q (sym (some_is y x e)) ∙ here
     by false e here rest = rest e
 
--- ---- a part of a list, and a place in it
-
-pub any-take : {X : Type 0} (p : X → Bool) (xs : List X) (i : ℕ) → list_any p (take i xs) ≡ true → list_any p xs ≡ true
-any-take p [] zero e = e
-any-take p [] (suc i) e = e
-any-take p (x ∷ xs) zero e = absurd cc
-any-take p (x ∷ xs) (suc i) e = by (p x) e (any-take p xs i)
-  where
-    by : (b : Bool) → (b || list_any p (take i xs)) ≡ true → (list_any p (take i xs) ≡ true → list_any p xs ≡ true) → (b || list_any p xs) ≡ true
-    by true e rest = refl
-    by false e rest = rest e
+-- ---- a place in a list
 
 pub get-inside : {X : Type 0} (xs : List X) (i : ℕ) → i < length xs → (x : X) × (slice_get xs i ≡ Some x)
 get-inside [] i lt = absurd (omega arith)

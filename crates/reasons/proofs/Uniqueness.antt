@@ -1,5 +1,5 @@
 -- A place has no two reasons.
-use Rattle.std.proofs.Common.{◌≡◌, ℕ, List, Option, Some, refl, sym, ap, subst, ◌∙◌}
+use Rattle.std.proofs.Common.{◌≡◌, ℕ, List, take, Option, Some, refl, sym, ap, subst, ◌∙◌}
 use Rattle.transaction.specs.declared.transaction.Tx.{Tx}
 use Rattle.policy_eval.specs.Accepts.{Accepts}
 use Rattle.policy_eval.specs.Signers.{signers_of}
@@ -33,7 +33,7 @@ module _ (channel : Configuration) (accepts : Accepts) (w : World) (txs : List (
   one_explanation NoTransaction NoTransaction e x y = refl
   one_explanation BadSignature BadSignature e x y = refl
   one_explanation (OtherId a) (OtherId b) e x y = ap OtherId (one_of txs i (λ v tx. v ≡ wanted_id tx) (λ tx c d p q. p ∙ sym q) a b x y)
-  one_explanation (UsedId a) (UsedId b) e x y = ap UsedId (one_of txs i (λ v tx. IsFirstUse channel accepts w txs tx.id v) (λ tx c d p q. one_use channel accepts w txs tx.id c d p q) a b x y)
+  one_explanation (UsedId a) (UsedId b) e x y = ap UsedId (one_of txs i (λ v tx. IsFirstUse channel accepts w (take i txs) tx.id v) (λ tx c d p q. one_use channel accepts w (take i txs) tx.id c d p q) a b x y)
   one_explanation (NotEndorsed a) (NotEndorsed b) e x y =
       ap NotEndorsed (one_of txs i (λ v tx. IsEndorsementFault j i tx (signers_of accepts tx) v) (λ tx c d p q. one_endorsement_fault j i tx (signers_of accepts tx) c d p q) a b x y)
   one_explanation (ReadConflict a) (ReadConflict b) e x y = ap ReadConflict (one_of txs i (λ v tx. IsStaleRead j i tx v) (λ tx c d p q. one_stale_read j i tx c d p q) a b x y)

@@ -23,10 +23,10 @@ wanted_id tx = tx_id_of tx.nonce (identity_bytes tx.creator)
 abbrev pub uses_id : Configuration → Accepts → List ℕ → Option Tx → Bool
 uses_id channel accepts id tx = list_any (bytes_eq id) (option_to_list (used_id channel accepts tx))
 
--- The first use of an id: in an accepted block, or else at the first place of this one that uses it.
+-- The first use of an id: in an accepted block, or else at the first of these places of the block that uses it.
 abbrev pub IsFirstUse : Configuration → Accepts → World → List (Option Tx) → List ℕ → IdUse → Type 0
-IsFirstUse channel accepts w txs id (Earlier block place) = (flag : Flag) × (get w.first_uses id ≡ Some (record { block = block; place = place; flag = flag }))
-IsFirstUse channel accepts w txs id (Here place) = (get w.first_uses id ≡ None) × (position (uses_id channel accepts id) txs ≡ Some place)
+IsFirstUse channel accepts w before id (Earlier block place) = (flag : Flag) × (get w.first_uses id ≡ Some (record { block = block; place = place; flag = flag }))
+IsFirstUse channel accepts w before id (Here place) = (get w.first_uses id ≡ None) × (position (uses_id channel accepts id) before ≡ Some place)
 
 -- the first name without a definition: of the chaincode that is named, and then of the namespaces that are written
 abbrev pub first_undefined : Policies → Tx → Option (List ℕ)

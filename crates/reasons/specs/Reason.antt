@@ -1,5 +1,5 @@
 -- Why a transaction has its flag.
-use Rattle.std.specs.Prelude.{◌≡◌, ℕ, ◌<◌, List, length, Option, Some, None, slice_index_or, ⊤}
+use Rattle.std.specs.Prelude.{◌≡◌, ℕ, ◌<◌, List, length, take, Option, Some, None, slice_index_or, ⊤}
 use Rattle.transaction.specs.declared.transaction.Tx.{Tx}
 use Rattle.policy_eval.specs.Accepts.{Accepts}
 use Rattle.policy_eval.specs.Signers.{signers_of}
@@ -46,7 +46,7 @@ Explains channel accepts w txs i NoTransaction = ⊤
 Explains channel accepts w txs i BadSignature = ⊤
 Explains channel accepts w txs i (OtherChannel name) = OfTx txs i (λ tx. name ≡ tx.channel)
 Explains channel accepts w txs i (OtherId wanted) = OfTx txs i (λ tx. wanted ≡ wanted_id tx)
-Explains channel accepts w txs i (UsedId place) = OfTx txs i (λ tx. IsFirstUse channel accepts w txs tx.id place)
+Explains channel accepts w txs i (UsedId place) = OfTx txs i (λ tx. IsFirstUse channel accepts w (take i txs) tx.id place)
 Explains channel accepts w txs i (NotInForm fault) = OfTx txs i (λ tx. form_fault tx ≡ Some fault)
 Explains channel accepts w txs i (Undefined chaincode) = OfTx txs i (λ tx. first_undefined channel.definitions tx ≡ Some chaincode)
 Explains channel accepts w txs i (NotEndorsed fault) = OfTx txs i (λ tx. IsEndorsementFault (job_of channel accepts w txs) i tx (signers_of accepts tx) fault)
