@@ -1,24 +1,29 @@
 -- A candidate whose reads or ranges don't hold has a first one that doesn't.
-use Rattle.std.proofs.Common.{◌≡◌, ℕ, Bool, true, false, cond, not, ◌&&◌, List, [], ◌∷◌, map, find, Some, refl, sym, ap, subst, ◌∙◌}
+use Rattle.std.proofs.Common.{◌≡◌, ℕ, ◌<◌, Bool, true, false, cond, not, ◌&&◌, List, [], ◌∷◌, map, find, Option, Some, None, IfSome, refl, sym, ap, subst, ◌∙◌}
 use Rattle.std.specs.List.{list_all}
 use Rattle.transaction.specs.declared.transaction.NsSet.{NsSet}
 use Rattle.transaction.specs.declared.transaction.Range.{Range}
 use Rattle.transaction.specs.declared.transaction.Tx.{Tx}
 use Rattle.rules.specs.declared.read_verdict.ReadVerdict.{ReadVerdict}
 use Rattle.rules.specs.declared.read_verdict.ReadVerdict.TheVariants.{Good, Stale, Phantom}
-use Rattle.rules.specs.State.{State}
+use Rattle.std.specs.FinMap.{get}
+use Rattle.transaction.specs.declared.transaction.Version.{Version}
+use Rattle.rules.specs.State.{StateKey, State, version_in}
 use Rattle.rules.specs.Ranges.{versions_now, results_of, range_holds}
 use Rattle.rules.specs.ReadWriteSets.{are_distinct, has_results_in_form, has_policy_in_form, is_set_in_form, is_in_form}
 use Rattle.rules.specs.Reads.{read_holds, set_verdict, or_next, first_fault, read_verdict}
-use Rattle.rules.specs.Job.{Job}
+use Rattle.rules.specs.Job.{Job, version_of}
 use Rattle.rules.specs.Fold.{running}
 use Rattle.rules.proofs.Booleans.{both_true}
 use Rattle.rules.proofs.OpenCandidates.{rising_results, sets_in_form}
 use Rattle.reasons.specs.declared.phantom_key.PhantomKey.{PhantomKey}
 use Rattle.reasons.specs.declared.stale_read.StaleRead.{StaleRead}
-use Rattle.reasons.specs.Reads.{is_good, stale_read, IsStaleRead}
+use Rattle.reasons.specs.Reads.{is_good, writes_row, stale_read, IsStaleRead, first_faulty}
 use Rattle.reasons.specs.Ranges.{version_there, version_read, IsFirstDifference, phantom_key, IsPhantomKey}
 use Rattle.reasons.proofs.Differences.{parted_if, first_difference, one_first_difference}
+use Rattle.reasons.specs.First.{last_below}
+use Rattle.reasons.proofs.Below.{last_below-lt}
+use Rattle.reasons.proofs.Writers.{left_by, written_version, unwritten_version}
 use Rattle.reasons.proofs.Lists.{some_is, not_true, found_if, found-passes, found-all}
 
 -- the results of its ranges are
@@ -63,6 +68,10 @@ module _ (j : Job) (i : ℕ) (tx : Tx) where
       let found = found_if (read_holds s n.name) n.reads (stale_reads (list_all (read_holds s n.name) n.reads) (list_all (range_holds s n.name) n.ranges) bad.2) in
       (stale_read j i n.name found.0, (n, found.0, bad.1, found.1, refl))
 
+  phantom_key_of : (n : NsSet) (r : Range) (key : List ℕ) → first_faulty (running j i).state tx ≡ Some n → find (λ y. not (range_holds (running j i).state n.name y)) n.ranges ≡ Some r
+      → IsFirstDifference (version_there (running j i).state n.name r) (version_read r) key → (x : PhantomKey) × IsPhantomKey j i tx x
+  phantom_key_of n r key faulty fails first = (phantom_key (running j i).state n.name r key, (n, r, key, faulty, fails, first, refl))
+
   pub phantom_key_if : is_in_form tx ≡ true → read_verdict (running j i).state tx ≡ Phantom → (x : PhantomKey) × IsPhantomKey j i tx x
   phantom_key_if in_form e =
       let s : State = (running j i).state in
@@ -74,7 +83,7 @@ module _ (j : Job) (i : ℕ) (tx : Tx) where
       let range : has_results_in_form r ≡ true = found-all (λ y. not (range_holds s n.name y)) has_results_in_form n.ranges r (ranges_in_form n set) found.1 in
       let fails : range_holds s n.name r ≡ false = not_true (range_holds s n.name r) (found-passes (λ y. not (range_holds s n.name y)) n.ranges r found.1) in
       let key = parted_if (versions_now s n.name r) (results_of r) fails in
-      (phantom_key s n.name r key.0, (n, r, key.0, bad.1, found.1, first_difference s n.name r (rising_results r range) key.0 key.1, refl))
+      phantom_key_of n r key.0 bad.1 found.1 (first_difference s n.name r (rising_results r range) key.0 key.1)
 
   -- ---- and one alone
 
@@ -93,3 +102,23 @@ module _ (j : Job) (i : ℕ) (tx : Tx) where
       (subst (λ (r : Range). IsFirstDifference (version_there s y.0.name r) (version_read r) y.2) (sym range) y.5) in
       let key : x.2 ≡ y.2 = one_first_difference (version_there s x.0.name x.1) (version_read x.1) x.2 y.2 x.5 first in
       x.6 ∙ (λ t. phantom_key s (set t).name (range t) (key t)) ∙ sym y.6
+
+  -- ---- the writer
+
+  pub stale_read_is_left : (x : StaleRead) (h : ℕ) → IsStaleRead j i tx x → x.writer ≡ Some h → IfSome x.there (λ v. v ≡ version_of j h)
+  stale_read_is_left x h y e =
+      let k : StateKey = (y.0.name, y.1.key) in
+      let writer : last_below (writes_row j k) i ≡ Some h = sym (ap (λ (z : StaleRead). z.writer) y.4) ∙ e in
+      subst (λ (v : Option Version). IfSome v (λ z. z ≡ version_of j h)) (sym (ap (λ (z : StaleRead). z.there) y.4))
+      (written_version j k (last_below (writes_row j k) i) (get (running j i).state k) h (left_by j k i) writer)
+
+  pub stale_read_is_old : (x : StaleRead) → IsStaleRead j i tx x → x.writer ≡ None → x.there ≡ version_in j.state (x.namespace, x.key)
+  stale_read_is_old x y e =
+      let k : StateKey = (y.0.name, y.1.key) in
+      let writer : last_below (writes_row j k) i ≡ None = sym (ap (λ (z : StaleRead). z.writer) y.4) ∙ e in
+      ap (λ (z : StaleRead). z.there) y.4
+      ∙ unwritten_version j k (last_below (writes_row j k) i) (get (running j i).state k) (left_by j k i) writer
+      ∙ sym (ap (λ (z : StaleRead). version_in j.state (z.namespace, z.key)) y.4)
+
+  pub stale_read_comes_after : (x : StaleRead) (h : ℕ) → IsStaleRead j i tx x → x.writer ≡ Some h → h < i
+  stale_read_comes_after x h y e = last_below-lt (writes_row j (y.0.name, y.1.key)) i h (sym (ap (λ (z : StaleRead). z.writer) y.4) ∙ e)

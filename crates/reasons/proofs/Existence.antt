@@ -1,6 +1,6 @@
 -- Each place of a block has a reason.
 use Rattle.std.proofs.Common.{◌≡◌, ℕ, ◌<◌, Bool, true, false, ◌∷◌, [], List, length, take, Option, Some, None, refl, sym, ap, ◌∙◌}
-use Rattle.std.specs.Prelude.{not, is_none, if◌then◌else◌}
+use Rattle.std.specs.Prelude.{is_none, if◌then◌else◌}
 use Rattle.std.specs.Str.{bytes_eq}
 use Rattle.transaction.specs.declared.transaction.Tx.{Tx}
 use Rattle.transaction.specs.Grammar.{identity_bytes, signed_bytes}
@@ -8,12 +8,12 @@ use Rattle.header_hash.specs.Hashes.{tx_id_of}
 use Rattle.policy_eval.specs.Accepts.{Accepts}
 use Rattle.policy_eval.specs.Signers.{signers_of}
 use Rattle.channel.specs.Configuration.{Configuration}
-use Rattle.rules.specs.declared.flag.Flag.TheVariants.{BadCreatorSignature, BadProposalTxId, DuplicateTxId, TargetChainNotFound, BadRwset, InvalidChaincode}
+use Rattle.rules.specs.declared.flag.Flag.TheVariants.{BadCreatorSignature, BadProposalTxId, TargetChainNotFound}
 use Rattle.rules.specs.declared.read_verdict.ReadVerdict.{ReadVerdict}
 use Rattle.rules.specs.declared.read_verdict.ReadVerdict.TheVariants.{Good, Stale, Phantom}
 use Rattle.rules.specs.ReadWriteSets.{is_in_form}
 use Rattle.rules.specs.Reads.{read_verdict}
-use Rattle.rules.specs.Candidate.{Candidate, opened, first_failed, flagged_or, candidate_of, used_id, is_used, is_all_defined}
+use Rattle.rules.specs.Candidate.{Candidate, opened, first_failed, candidate_of, used_id, is_used, is_all_defined}
 use Rattle.rules.specs.Job.{Job, candidate_at, flag_by, open_flag, reads, reads_by}
 use Rattle.rules.specs.Fold.{running, endorsed, flag}
 use Rattle.rules.specs.Commit.{job_of}
@@ -27,13 +27,7 @@ use Rattle.reasons.proofs.Form.{form_fault_if}
 use Rattle.reasons.proofs.Identity.{first_use_if, undefined_if}
 use Rattle.reasons.proofs.Endorsement.{endorsement_fault_if}
 use Rattle.reasons.proofs.Conflicts.{stale_read_if, phantom_key_if}
-use Rattle.reasons.proofs.Places.{candidate-at}
-
--- the candidate of a transaction by what the tests before the state say
-abbrev tested : (channel signed id used in_form defined : Bool) → Candidate → Candidate
-tested channel signed id used in_form defined c =
-    flagged_or (first_failed ((channel, TargetChainNotFound) ∷ (signed, BadCreatorSignature) ∷ (id, BadProposalTxId) ∷ []))
-    (flagged_or (first_failed ((not used, DuplicateTxId) ∷ (in_form, BadRwset) ∷ (defined, InvalidChaincode) ∷ [])) c)
+use Rattle.reasons.proofs.Places.{tested, candidate-at}
 
 module _ (channel : Configuration) (accepts : Accepts) (w : World) (txs : List (Option Tx)) (i : ℕ) (inside : i < length txs) where
   abbrev j : Job

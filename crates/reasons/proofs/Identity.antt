@@ -1,9 +1,10 @@
 -- An id that is used has a first use, and where not all is defined there is a first name that isn't.
-use Rattle.std.proofs.Common.{◌≡◌, ℕ, ◌+◌, ◌<◌, Bool, true, false, cond, not, ◌&&◌, ◌||◌, List, [], ◌∷◌, map, take, length, position, Option, Some, None, is_some, option_to_list, refl, sym, ap, ◌∙◌, arith, lt-ltb}
+use Rattle.std.proofs.Common.{◌≡◌, ℕ, ◌+◌, ◌<◌, Bool, true, false, cond, not, ◌&&◌, ◌||◌, List, [], ◌∷◌, map, take, length, position, Option, Some, None, is_some, option_to_list, refl, sym, ap, ◌∙◌, take, length-take, arith, lt-ltb}
 use Rattle.std.specs.Str.{bytes_eq}
 use Rattle.std.specs.List.{list_any, position_or_len}
 use Rattle.std.specs.FinMap.{get, contains_key}
 use Rattle.std.proofs.lemmas.List.Folds.{list_any-append, list_all-map}
+use Rattle.std.proofs.lemmas.List.Quantifiers.{position-Some}
 use Rattle.transaction.specs.declared.transaction.Tx.{Tx}
 use Rattle.policy.specs.Policies.{Policies}
 use Rattle.policy_eval.specs.Accepts.{Accepts}
@@ -31,6 +32,13 @@ inside p (x ∷ xs) e = by (p x) e (inside p xs)
 
 place_if : {X : Type 0} (p : X → Bool) (xs : List X) → list_any p xs ≡ true → position p xs ≡ Some (position_or_len p xs)
 place_if p xs e = ap (λ (b : Bool). cond b (Some (position_or_len p xs)) None) (lt-ltb (position_or_len p xs) (length xs) (inside p xs e))
+
+-- of those before place i
+pub place_before : (p : Option Tx → Bool) (txs : List (Option Tx)) (i h : ℕ) → position p (take i txs) ≡ Some h → h < i
+place_before p txs i h e =
+    let lt = (position-Some p (take i txs) h None e).0 in
+    let long = length-take i txs in
+    omega (arith, lt, long)
 
 -- ---- first uses
 

@@ -3,9 +3,12 @@ mod Differences
 mod Form
 mod Identity
 mod Endorsement
+mod Below
+mod Writers
 mod Conflicts
 mod Places
 mod Uniqueness
+mod Unsatisfied
 mod Existence
 mod BlockReasons
 mod rows

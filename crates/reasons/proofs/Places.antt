@@ -1,14 +1,20 @@
 -- The candidate of a place of a block.
-use Rattle.std.proofs.Common.{◌≡◌, ℕ, zero, suc, List, [], ◌∷◌, ◌++◌, take, get_or, Option, refl, sym, ap, ◌∙◌, append_assoc, append-nil}
+use Rattle.std.proofs.Common.{◌≡◌, ℕ, zero, suc, Bool, not, List, [], ◌∷◌, ◌++◌, take, get_or, Option, refl, sym, ap, ◌∙◌, append_assoc, append-nil}
 use Rattle.std.specs.Prelude.{option_to_list}
 use Rattle.transaction.specs.declared.transaction.Tx.{Tx}
 use Rattle.policy_eval.specs.Accepts.{Accepts}
 use Rattle.channel.specs.Configuration.{Configuration}
-use Rattle.rules.specs.declared.flag.Flag.TheVariants.{BadPayload}
+use Rattle.rules.specs.declared.flag.Flag.TheVariants.{BadPayload, BadCreatorSignature, BadProposalTxId, DuplicateTxId, TargetChainNotFound, BadRwset, InvalidChaincode}
 use Rattle.rules.specs.FirstUses.{FirstUses}
-use Rattle.rules.specs.Candidate.{flagged, used_id, is_used, candidate_of, candidates_from}
+use Rattle.rules.specs.Candidate.{Candidate, flagged, first_failed, flagged_or, used_id, is_used, candidate_of, candidates_from}
 use Rattle.rules.proofs.Candidates.{ids_of}
 use Rattle.reasons.specs.Reason.{tx_at}
+
+-- the candidate of a transaction by what the tests before the state say
+abbrev pub tested : (channel signed id used in_form defined : Bool) → Candidate → Candidate
+tested channel signed id used in_form defined c =
+    flagged_or (first_failed ((channel, TargetChainNotFound) ∷ (signed, BadCreatorSignature) ∷ (id, BadProposalTxId) ∷ []))
+    (flagged_or (first_failed ((not used, DuplicateTxId) ∷ (in_form, BadRwset) ∷ (defined, InvalidChaincode) ∷ [])) c)
 
 module _ (channel : Configuration) (accepts : Accepts) (uses : FirstUses) where
   pub candidate-at : (earlier : List (List ℕ)) (txs : List (Option Tx)) (i : ℕ) → get_or (candidates_from channel accepts uses earlier txs) i (flagged BadPayload)

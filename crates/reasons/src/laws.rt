@@ -1,11 +1,20 @@
-ghost use Rattle.std.specs.Prelude.{◌≡◌, ◌<◌, ℕ, List, length, map, Option, Some, slice_get};
+ghost use Rattle.std.specs.Prelude.{◌≡◌, ◌<◌, ℕ, List, length, map, false, Option, Some, None, IfSome, slice_get};
 ghost use Rattle.transaction.specs.declared.transaction.Tx.{Tx};
+ghost use Rattle.transaction.specs.declared.identity.Identity.{Identity};
+ghost use Rattle.policy.specs.Tree.{Tree};
 ghost use Rattle.policy_eval.specs.Accepts.{Accepts};
+ghost use Rattle.policy_eval.specs.Evaluating.{is_satisfied};
 ghost use Rattle.channel.specs.Configuration.{Configuration};
-ghost use Rattle.rules.specs.World.{World};
+ghost use Rattle.rules.specs.State.{version_in};
+ghost use Rattle.rules.specs.World.{World, height_of};
 ghost use Rattle.rules.specs.Fold.{flags};
 ghost use Rattle.rules.specs.Commit.{job_of};
+ghost use Rattle.reasons.specs.declared.endorsement_fault.EndorsementFault.TheVariants.{Touched, Unsatisfied, ChaincodeUnsatisfied};
+ghost use Rattle.reasons.specs.declared.id_use.IdUse.TheVariants.{Here};
+ghost use Rattle.reasons.specs.declared.policy_owner.PolicyOwner.{PolicyOwner};
 ghost use Rattle.reasons.specs.declared.reason.Reason.{Reason};
+ghost use Rattle.reasons.specs.declared.reason.Reason.TheVariants.{UsedId, NotEndorsed, ReadConflict};
+ghost use Rattle.reasons.specs.declared.stale_read.StaleRead.{StaleRead};
 ghost use Rattle.reasons.specs.Reason.{flag_of, IsReason};
 
 /// A law, and no work: each place of a block has one reason, never none or two.
@@ -21,4 +30,31 @@ pub fn reasons_have_the_flags()
     ensures { (channel : Configuration) (accepts : Accepts) (w : World) (txs : List (Option Tx)) (reasons : List Reason)
         → length reasons ≡ length txs → ((i : ℕ) (reason : Reason) → slice_get reasons i ≡ Some reason → IsReason channel accepts w txs i reason)
         → map flag_of reasons ≡ flags (job_of channel accepts w txs) }
+{}
+
+/// A law, and no work: the signers that a reason names don't satisfy the policy that it names.
+pub fn named_policies_are_not_satisfied()
+    ensures of_a_key { (channel : Configuration) (accepts : Accepts) (w : World) (txs : List (Option Tx)) (i : ℕ) (namespace key : List ℕ) (owner : PolicyOwner) (policy : Tree) (signers : List Identity)
+        → IsReason channel accepts w txs i (NotEndorsed (Unsatisfied namespace key owner policy signers)) → is_satisfied policy signers ≡ false }
+    ensures of_a_chaincode { (channel : Configuration) (accepts : Accepts) (w : World) (txs : List (Option Tx)) (i : ℕ) (chaincode : List ℕ) (policy : Tree) (signers : List Identity)
+        → IsReason channel accepts w txs i (NotEndorsed (ChaincodeUnsatisfied chaincode policy signers)) → is_satisfied policy signers ≡ false }
+{}
+
+/// A law, and no work: what a read that doesn't hold finds is what the writer that the reason names left there; where it
+/// names none, it is what was there before the block.
+pub fn named_writers_left_what_is_there()
+    ensures written { (channel : Configuration) (accepts : Accepts) (w : World) (txs : List (Option Tx)) (i h : ℕ) (read : StaleRead)
+        → IsReason channel accepts w txs i (ReadConflict read) → read.writer ≡ Some h → IfSome read.there (λ v. v ≡ record { block = height_of w; tx = h }) }
+    ensures unwritten { (channel : Configuration) (accepts : Accepts) (w : World) (txs : List (Option Tx)) (i : ℕ) (read : StaleRead)
+        → IsReason channel accepts w txs i (ReadConflict read) → read.writer ≡ None → read.there ≡ version_in w.state (read.namespace, read.key) }
+{}
+
+/// A law, and no work: each transaction of the block that a reason names stands before the one that it is the reason of.
+pub fn named_places_come_before()
+    ensures of_a_use { (channel : Configuration) (accepts : Accepts) (w : World) (txs : List (Option Tx)) (i h : ℕ)
+        → IsReason channel accepts w txs i (UsedId (Here h)) → h < i }
+    ensures of_a_policy { (channel : Configuration) (accepts : Accepts) (w : World) (txs : List (Option Tx)) (i h : ℕ) (namespace key : List ℕ)
+        → IsReason channel accepts w txs i (NotEndorsed (Touched namespace key h)) → h < i }
+    ensures of_a_writer { (channel : Configuration) (accepts : Accepts) (w : World) (txs : List (Option Tx)) (i h : ℕ) (read : StaleRead)
+        → IsReason channel accepts w txs i (ReadConflict read) → read.writer ≡ Some h → h < i }
 {}

@@ -17,7 +17,10 @@ pub use endorsement_fault::EndorsementFault;
 pub use form_fault::FormFault;
 pub use id_use::IdUse;
 pub use key_list::KeyList;
-pub use laws::{each_place_has_one_reason, reasons_have_the_flags};
+pub use laws::{
+    each_place_has_one_reason, named_places_come_before, named_policies_are_not_satisfied,
+    named_writers_left_what_is_there, reasons_have_the_flags,
+};
 pub use phantom_key::PhantomKey;
 pub use policy_owner::PolicyOwner;
 pub use policy_text_fault::PolicyTextFault;

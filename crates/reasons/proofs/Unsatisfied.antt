@@ -1,0 +1,115 @@
+-- The policy that an endorsement fault names isn't satisfied.
+use Rattle.std.proofs.Common.{◌≡◌, ℕ, Bool, true, false, not, ◌&&◌, ◌||◌, [], List, take, Option, Some, is_some, is_none, ◌⊎◌, inl, inr, refl, sym, ap, ◌∙◌}
+use Rattle.std.specs.List.{list_all}
+use Rattle.std.specs.Str.{bytes_eq}
+use Rattle.std.specs.FinMap.{get}
+use Rattle.transaction.specs.declared.identity.Identity.{Identity}
+use Rattle.transaction.specs.declared.transaction.Tx.{Tx}
+use Rattle.transaction.specs.Grammar.{identity_bytes, signed_bytes}
+use Rattle.header_hash.specs.Hashes.{tx_id_of}
+use Rattle.policy.specs.Tree.{Tree}
+use Rattle.policy_eval.specs.Accepts.{Accepts}
+use Rattle.policy_eval.specs.Evaluating.{is_satisfied}
+use Rattle.policy_eval.specs.Signers.{signers_of}
+use Rattle.channel.specs.Configuration.{Configuration}
+use Rattle.rules.specs.declared.flag.Flag.{Flag}
+use Rattle.rules.specs.declared.flag.Flag.TheVariants.{EndorsementPolicyFailure, BadCreatorSignature, BadProposalTxId, DuplicateTxId, TargetChainNotFound, BadRwset, InvalidChaincode}
+use Rattle.rules.specs.declared.read_verdict.ReadVerdict.{ReadVerdict}
+use Rattle.rules.specs.declared.read_verdict.ReadVerdict.TheVariants.{Good, Stale, Phantom}
+use Rattle.rules.specs.State.{StateKey, policy_in, is_among}
+use Rattle.rules.specs.Effect.{written_keys}
+use Rattle.rules.specs.Endorsement.{meets, governing, may_write, has_writes, is_endorsed}
+use Rattle.rules.specs.Candidate.{Candidate, flagged, opened, candidate_of, used_id, is_used, is_all_defined}
+use Rattle.rules.specs.ReadWriteSets.{is_in_form}
+use Rattle.rules.specs.Job.{Job, candidate_at, flag_by, open_flag, reads, endorsement_by}
+use Rattle.rules.specs.Fold.{running, endorsed, flag}
+use Rattle.rules.specs.Commit.{job_of}
+use Rattle.rules.specs.World.{World}
+use Rattle.rules.proofs.Booleans.{neither}
+use Rattle.rules.proofs.Candidates.{ids_of}
+use Rattle.reasons.specs.declared.endorsement_fault.EndorsementFault.TheVariants.{Unsatisfied, ChaincodeUnsatisfied}
+use Rattle.reasons.specs.declared.policy_owner.PolicyOwner.{PolicyOwner}
+use Rattle.reasons.specs.declared.policy_owner.PolicyOwner.TheVariants.{OfKey, OfChaincode}
+use Rattle.reasons.specs.Endorsement.{Governs, IsEndorsementFault}
+use Rattle.reasons.specs.Reason.{tx_at}
+use Rattle.reasons.proofs.Below.{among_touched}
+use Rattle.reasons.proofs.Lists.{not_true, none-find, found-passes}
+use Rattle.reasons.proofs.Places.{tested, candidate-at}
+
+-- ---- the policy that governs a key
+
+governs_is : (j : Job) (k : StateKey) (owner : PolicyOwner) (policy : Tree) → Governs j k owner policy → governing j.definitions k.0 (policy_in j.state k) ≡ Some policy
+governs_is j k OfKey policy e = ap (governing j.definitions k.0) e
+governs_is j k OfChaincode policy e = ap (governing j.definitions k.0) e.0 ∙ e.1
+
+pub key_policy_fails : (j : Job) (i : ℕ) (tx : Tx) (signers : List Identity) (namespace key : List ℕ) (owner : PolicyOwner) (policy : Tree) (there : List Identity)
+    → IsEndorsementFault j i tx signers (Unsatisfied namespace key owner policy there) → is_satisfied policy there ≡ false
+key_policy_fails j i tx signers namespace key owner policy there x =
+    let k : StateKey = (namespace, key) in
+    let barred : may_write j.definitions j.state (running j i).touched signers k ≡ false =
+    not_true (may_write j.definitions j.state (running j i).touched signers k) (found-passes (λ y. not (may_write j.definitions j.state (running j i).touched signers y)) (written_keys tx) k x.0) in
+    let apart : is_among k (running j i).touched ≡ false = among_touched j k i ∙ ap is_some x.1 in
+    ap (is_satisfied policy) x.3
+    ∙ sym (ap (meets signers) (governs_is j k owner policy x.2))
+    ∙ sym (ap (λ (b : Bool). not b && meets signers (governing j.definitions k.0 (policy_in j.state k))) apart)
+    ∙ barred
+
+-- ---- the policy of the chaincode that is named
+
+-- flags before the endorsement rule
+abbrev is_early : Flag → Bool
+is_early EndorsementPolicyFailure = false
+is_early _ = true
+
+open_or_early : (a b c u f d : Bool) (tx : Tx) (signers : List Identity)
+    → (tested a b c u f d (opened tx signers) ≡ opened tx signers) ⊎ ((g : Flag) × (tested a b c u f d (opened tx signers) ≡ flagged g) × (is_early g ≡ true))
+open_or_early false b c u f d tx signers = inr (TargetChainNotFound, refl, refl)
+open_or_early true false c u f d tx signers = inr (BadCreatorSignature, refl, refl)
+open_or_early true true false u f d tx signers = inr (BadProposalTxId, refl, refl)
+open_or_early true true true true f d tx signers = inr (DuplicateTxId, refl, refl)
+open_or_early true true true false false d tx signers = inr (BadRwset, refl, refl)
+open_or_early true true true false true false tx signers = inr (InvalidChaincode, refl, refl)
+open_or_early true true true false true true tx signers = inl refl
+
+module _ (channel : Configuration) (accepts : Accepts) (w : World) (txs : List (Option Tx)) (i : ℕ) (tx : Tx) (is : tx_at txs i ≡ Some tx) where
+  abbrev j : Job
+  j = job_of channel accepts w txs
+
+  abbrev used : Option Tx → Bool
+  used o = is_used w.first_uses (ids_of channel accepts (take i txs)) (used_id channel accepts o)
+
+  open_at : flag j i ≡ EndorsementPolicyFailure → candidate_at j i ≡ opened tx (signers_of accepts tx)
+  open_at e = by
+      (open_or_early (bytes_eq tx.channel channel.name) (accepts tx.creator (signed_bytes tx) tx.signature) (bytes_eq tx.id (tx_id_of tx.nonce (identity_bytes tx.creator)))
+      (is_used w.first_uses (ids_of channel accepts (take i txs)) (used_id channel accepts (Some tx))) (is_in_form tx) (is_all_defined channel.definitions tx) tx (signers_of accepts tx))
+    where
+      here : candidate_at j i ≡ candidate_of channel accepts (used (Some tx)) (Some tx)
+      here = candidate-at channel accepts w.first_uses [] txs i ∙ ap (λ (o : Option Tx). candidate_of channel accepts (used o) o) is
+
+      by : (candidate_of channel accepts (used (Some tx)) (Some tx) ≡ opened tx (signers_of accepts tx)) ⊎ ((g : Flag) × (candidate_of channel accepts (used (Some tx)) (Some tx) ≡ flagged g) × (is_early g ≡ true))
+          → candidate_at j i ≡ opened tx (signers_of accepts tx)
+      by (inl o) = here ∙ o
+      by (inr (g, o, early)) =
+          let late : g ≡ EndorsementPolicyFailure = sym (ap (λ (c : Candidate). flag_by c (endorsed j i) (reads j i (running j i).state)) (here ∙ o)) ∙ e in
+          let clash : true ≡ false = sym early ∙ ap is_early late in
+          absurd cc
+
+  not_endorsed : (b : Bool) (v : ReadVerdict) → open_flag b v ≡ EndorsementPolicyFailure → b ≡ false
+  not_endorsed false v e = refl
+  not_endorsed true Good e = absurd cc
+  not_endorsed true Stale e = absurd cc
+  not_endorsed true Phantom e = absurd cc
+
+  pub chaincode_policy_fails : flag j i ≡ EndorsementPolicyFailure → (chaincode : List ℕ) (policy : Tree) (there : List Identity)
+      → IsEndorsementFault j i tx (signers_of accepts tx) (ChaincodeUnsatisfied chaincode policy there) → is_satisfied policy there ≡ false
+  chaincode_policy_fails e chaincode policy there x =
+      let signers : List Identity = signers_of accepts tx in
+      let opened_here = open_at e in
+      let refused : endorsed j i ≡ false = not_endorsed (endorsed j i) (reads j i (running j i).state)
+      (sym (ap (λ (c : Candidate). flag_by c (endorsed j i) (reads j i (running j i).state)) opened_here) ∙ e) in
+      let rule : is_endorsed j.definitions j.state (running j i).touched tx signers ≡ false = sym (ap (endorsement_by j.definitions j.state (running j i).touched) opened_here) ∙ refused in
+      let all : list_all (may_write j.definitions j.state (running j i).touched signers) (written_keys tx) ≡ true =
+      sym (none-find (may_write j.definitions j.state (running j i).touched signers) (written_keys tx)) ∙ ap is_none x.0 in
+      let rest : (has_writes tx tx.chaincode || meets signers (get j.definitions tx.chaincode)) ≡ false =
+      sym (ap (λ (b : Bool). b && (has_writes tx tx.chaincode || meets signers (get j.definitions tx.chaincode))) all) ∙ rule in
+      ap (is_satisfied policy) x.3 ∙ sym (ap (meets signers) x.2) ∙ (neither (has_writes tx tx.chaincode) (meets signers (get j.definitions tx.chaincode)) rest).1
