@@ -23,9 +23,9 @@ d = codes "d"
 abbrev between : List ℕ → List ℕ → List KeyVersion → Range
 between start end results = record { start = start; end = end; exhausted = true; results = results }
 
--- the first range holds
+-- the first range holds, and the last two don't
 abbrev scanned : List KeyVersion → NsSet
-scanned results = set_of chaincode [] (between c d (found c (at 0 0) ∷ []) ∷ between a d results ∷ []) [] []
+scanned results = set_of chaincode [] (between c d (found c (at 0 0) ∷ []) ∷ between a d results ∷ between a c [] ∷ []) [] []
 
 abbrev scans_both : List KeyVersion → Tx
 scans_both results = over (scanned results ∷ [])
@@ -58,3 +58,19 @@ old_a = found a (at 0 7) ∷ found c (at 0 0) ∷ []
 pub key_with_another_version : IsPhantomKey (inserting old_a) 1 (scans_both old_a) (record { range = range_a_to_d; key = a; read = Some (at 0 7); there = Some (at 0 0) })
 unfolding running with_changes
 key_with_another_version = (scanned old_a, between a d old_a, a, simp scans refl, simp scans refl, first_difference (running (inserting old_a) 1).state chaincode (between a d old_a) refl a (simp scans refl), simp scans refl)
+
+-- ---- keys outside the range
+
+-- a and b lie before it
+abbrev behind_b : Range
+behind_b = between c d (found c (at 0 7) ∷ [])
+
+abbrev scans_behind_b : NsSet
+scans_behind_b = set_of chaincode [] (behind_b ∷ []) [] []
+
+abbrev inserting_before : Job
+inserting_before = block_over (a ∷ c ∷ []) (one (writing (put b ∷ [])) ∷ one (over (scans_behind_b ∷ [])) ∷ [])
+
+pub keys_before_the_range : IsPhantomKey inserting_before 1 (over (scans_behind_b ∷ [])) (record { range = record { namespace = chaincode; start = c; end = d }; key = c; read = Some (at 0 7); there = Some (at 0 0) })
+unfolding running with_changes
+keys_before_the_range = (scans_behind_b, behind_b, c, simp scans refl, simp scans refl, first_difference (running inserting_before 1).state chaincode behind_b refl c (simp scans refl), simp scans refl)

@@ -9,7 +9,7 @@ use Rattle.rules.specs.Job.{Job}
 use Rattle.rules.specs.Fold.{running}
 use Rattle.reasons.specs.First.{last_below}
 use Rattle.reasons.specs.Reads.{IsStaleRead}
-use Rattle.reasons.proofs.rows.Shared.{chaincode, dd, a, c, k, at, read_at, absent, put, deleted, policy_removed, set_of, over, tx, reading, writing, writing_policy, one, unendorsed, block_over}
+use Rattle.reasons.proofs.rows.Shared.{chaincode, dd, zz, a, c, k, at, read_at, absent, put, deleted, policy_removed, set_of, over, tx, reading, writing, writing_policy, one, unendorsed, block_over}
 use Rattle.reasons.proofs.rows.Looks.{looks}
 
 abbrev reads_in : List ℕ → List Read → NsSet
@@ -44,11 +44,11 @@ documentation_read_of_k2 = (set_of chaincode (read_at k2 (at 0 0) ∷ []) [] (pu
 
 -- ---- the first of several
 
--- of two namespaces and three reads; the block writes none of them
-abbrev two_stale : Tx
-two_stale = over (reads_in dd (absent a ∷ []) ∷ reads_in chaincode (read_at a (at 0 0) ∷ read_at c (at 5 5) ∷ absent k ∷ []) ∷ [])
+-- of three namespaces the second, and in it the second of three reads; the block writes none of them
+abbrev stale_reads : Tx
+stale_reads = over (reads_in dd (absent a ∷ []) ∷ reads_in chaincode (read_at a (at 0 0) ∷ read_at c (at 5 5) ∷ absent k ∷ []) ∷ reads_in zz (read_at a (at 9 9) ∷ []) ∷ [])
 
-pub first_stale_read : IsStaleRead (block_over (a ∷ c ∷ k ∷ []) (one two_stale ∷ [])) 0 two_stale
+pub first_stale_read : IsStaleRead (block_over (a ∷ c ∷ k ∷ []) (one stale_reads ∷ [])) 0 stale_reads
     (record { namespace = chaincode; key = c; read = Some (at 5 5); there = Some (at 0 0); writer = None })
 unfolding running with_changes last_below
 first_stale_read = (reads_in chaincode (read_at a (at 0 0) ∷ read_at c (at 5 5) ∷ absent k ∷ []), read_at c (at 5 5), simp looks refl, simp looks refl, simp looks refl)

@@ -4,10 +4,19 @@ use Rattle.transaction.specs.declared.transaction.Tx.{Tx}
 use Rattle.rules.specs.State.{with_changes}
 use Rattle.rules.specs.Fold.{running}
 use Rattle.rules.specs.World.{empty_world}
-use Rattle.reasons.specs.declared.reason.Reason.TheVariants.{NoFault, NoTransaction, UsedId}
+use Rattle.reasons.specs.declared.reason.Reason.TheVariants.{NoFault, NoTransaction, UsedId, NotEndorsed}
 use Rattle.reasons.specs.declared.id_use.IdUse.TheVariants.{Here}
 use Rattle.reasons.specs.Reason.{IsReason}
-use Rattle.reasons.proofs.rows.Shared.{channel, any, writes_k}
+use Rattle.std.specs.Prelude.{codes}
+use Rattle.std.specs.Str.{bytes_eq}
+use Rattle.std.specs.FinMap.{from_entries}
+use Rattle.values.specs.Order.{bytes_cmp}
+use Rattle.policy_eval.specs.Accepts.{Accepts}
+use Rattle.channel.specs.Configuration.{Configuration}
+use Rattle.reasons.specs.First.{first_below}
+use Rattle.reasons.specs.declared.endorsement_fault.EndorsementFault.TheVariants.{Unsatisfied}
+use Rattle.reasons.specs.declared.policy_owner.PolicyOwner.TheVariants.{OfChaincode}
+use Rattle.reasons.proofs.rows.Shared.{p0, q0, both_peers, chaincode, k, channel, any, writes_k}
 use Rattle.reasons.proofs.rows.Looks.{uses}
 
 abbrev three : List (Option Tx)
@@ -24,3 +33,20 @@ no_transaction = record { place = omega arith; flag_is = refl; why = tt }
 pub id_was_used : IsReason channel any empty_world three 2 (UsedId (Here 0))
 unfolding running with_changes
 id_was_used = record { place = omega arith; flag_is = simp uses refl; why = (writes_k, refl, (simp uses refl, simp uses refl)) }
+
+-- ---- signers
+
+-- a verifier that accepts the signature of no bytes alone
+abbrev accepts_none : Accepts
+accepts_none who message signature = bytes_eq signature []
+
+-- p0 endorses twice, and q0's signature is refused
+abbrev badly_endorsed : Tx
+badly_endorsed = record writes_k { endorsements = record { endorser = p0; signature = [] } ∷ record { endorser = q0; signature = 1 ∷ [] } ∷ record { endorser = p0; signature = [] } ∷ [] }
+
+abbrev channel_of_both : Configuration
+channel_of_both = record { name = codes "ch"; definitions = from_entries {R = bytes_cmp} ((chaincode, both_peers) ∷ []) }
+
+pub signers_that_there_were : IsReason channel_of_both accepts_none empty_world (Some badly_endorsed ∷ []) 0 (NotEndorsed (Unsatisfied chaincode k OfChaincode both_peers (p0 ∷ [])))
+unfolding running with_changes first_below
+signers_that_there_were = record { place = omega arith; flag_is = simp uses refl; why = (badly_endorsed, refl, (simp uses refl, refl, (simp uses refl, simp uses refl), refl)) }

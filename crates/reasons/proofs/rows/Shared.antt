@@ -29,10 +29,14 @@ use Rattle.rules.specs.State.{State, key_cmp}
 use Rattle.rules.specs.Candidate.{Candidate, opened}
 use Rattle.rules.specs.Job.{Job}
 
--- ---- an identity, and policies
+-- ---- identities and policies
 
 abbrev pub p0 : Identity
 p0 = record { org = codes "Org1"; role = Peer; label = codes "p0" }
+
+-- of the other organization
+abbrev pub q0 : Identity
+q0 = record { org = codes "Org2"; role = Peer; label = codes "q0" }
 
 abbrev peer_of : List ℕ → Tree
 peer_of org = principal org wanted.Peer
