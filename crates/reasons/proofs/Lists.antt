@@ -81,3 +81,8 @@ pub get_or-map_at : {X Y : Type 0} (f : X → Y) (xs : List X) (i : ℕ) (d : Y)
 get_or-map_at f [] i d x e = absurd cc
 get_or-map_at f (y ∷ xs) zero d x e = ap f (some_is y x e)
 get_or-map_at f (y ∷ xs) (suc i) d x e = get_or-map_at f xs i d x e
+
+pub get_or-at : {X : Type 0} (xs : List X) (i : ℕ) (d x : X) → slice_get xs i ≡ Some x → get_or xs i d ≡ x
+get_or-at [] i d x e = absurd cc
+get_or-at (y ∷ xs) zero d x e = some_is y x e
+get_or-at (y ∷ xs) (suc i) d x e = get_or-at xs i d x e

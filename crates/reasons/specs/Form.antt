@@ -54,6 +54,7 @@ text_fault depth_fault = TooDeep
 abbrev pub policy_fault : List ℕ → PolicyWrite → Option FormFault
 policy_fault namespace w = option_map (λ f. UnreadablePolicy namespace w.key (text_fault f)) (option_and_then (λ text. result_err (policy_or_fault text)) w.policy)
 
+-- the first of these faults
 abbrev pub set_fault : NsSet → Option FormFault
 set_fault n = first_there (
     option_map (KeyRepeats n.name Reads) (first_repeated (map (λ r. r.key) n.reads))
@@ -63,5 +64,6 @@ set_fault n = first_there (
     ∷ first_there (map (policy_fault n.name) n.policy_writes)
     ∷ [])
 
+-- a namespace that repeats, else the first fault of the first set that has one
 abbrev pub form_fault : Tx → Option FormFault
 form_fault tx = option_or (option_map NamespaceRepeats (first_repeated (map (λ n. n.name) tx.namespaces))) (first_there (map set_fault tx.namespaces))

@@ -30,6 +30,7 @@ pub record IsFirstDifference (there read : List ℕ → Option Version) (key : L
 abbrev pub phantom_key : State → List ℕ → Range → List ℕ → PhantomKey
 phantom_key s namespace r key = record { range = range_in namespace r; key = key; read = version_read r key; there = version_there s namespace r key }
 
+-- of the first namespace with a fault, and in it of the first range that doesn't hold, the first key that differs
 abbrev pub IsPhantomKey : Job → ℕ → Tx → PhantomKey → Type 0
 IsPhantomKey j i tx x =
     (n : NsSet) × (r : Range) × (key : List ℕ) × (first_faulty (running j i).state tx ≡ Some n)

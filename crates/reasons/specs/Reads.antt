@@ -44,6 +44,7 @@ stale_read j i namespace r = record {
   writer = last_below (writes_row j (namespace, r.key)) i;
 }
 
+-- the first read that doesn't hold, of the first namespace with a fault
 abbrev pub IsStaleRead : Job → ℕ → Tx → StaleRead → Type 0
 IsStaleRead j i tx x =
     (n : NsSet) × (r : Read) × (first_faulty (running j i).state tx ≡ Some n)

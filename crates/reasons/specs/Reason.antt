@@ -1,5 +1,5 @@
 -- Why a transaction has its flag.
-use Rattle.std.specs.Prelude.{◌≡◌, ℕ, ◌<◌, List, length, take, Option, Some, None, slice_index_or, ⊤}
+use Rattle.std.specs.Prelude.{◌≡◌, ℕ, ◌<◌, List, length, take, Option, Some, None, slice_get, slice_index_or, ⊤}
 use Rattle.transaction.specs.declared.transaction.Tx.{Tx}
 use Rattle.policy_eval.specs.Accepts.{Accepts}
 use Rattle.policy_eval.specs.Signers.{signers_of}
@@ -59,3 +59,8 @@ pub record IsReason (channel : Configuration) (accepts : Accepts) (w : World) (t
   pub place : i < length txs
   pub flag_is : flag (job_of channel accepts w txs) i ≡ flag_of reason
   pub why : Explains channel accepts w txs i reason
+
+-- the reasons of all places of the block, in order
+pub record AreReasons (channel : Configuration) (accepts : Accepts) (w : World) (txs : List (Option Tx)) (reasons : List Reason) : Type 0 where
+  pub count : length reasons ≡ length txs
+  pub each : (i : ℕ) (reason : Reason) → slice_get reasons i ≡ Some reason → IsReason channel accepts w txs i reason

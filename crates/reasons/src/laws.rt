@@ -1,4 +1,4 @@
-ghost use Rattle.std.specs.Prelude.{◌≡◌, ◌<◌, ℕ, List, length, map, false, Option, Some, None, IfSome, slice_get};
+ghost use Rattle.std.specs.Prelude.{◌≡◌, ◌<◌, ℕ, List, length, map, false, Option, Some, None, IfSome};
 ghost use Rattle.transaction.specs.declared.transaction.Tx.{Tx};
 ghost use Rattle.transaction.specs.declared.identity.Identity.{Identity};
 ghost use Rattle.policy.specs.Tree.{Tree};
@@ -15,7 +15,7 @@ ghost use Rattle.reasons.specs.declared.policy_owner.PolicyOwner.{PolicyOwner};
 ghost use Rattle.reasons.specs.declared.reason.Reason.{Reason};
 ghost use Rattle.reasons.specs.declared.reason.Reason.TheVariants.{UsedId, NotEndorsed, ReadConflict};
 ghost use Rattle.reasons.specs.declared.stale_read.StaleRead.{StaleRead};
-ghost use Rattle.reasons.specs.Reason.{flag_of, IsReason};
+ghost use Rattle.reasons.specs.Reason.{flag_of, IsReason, AreReasons};
 
 /// A law, and no work: each place of a block has one reason, never none or two.
 pub fn each_place_has_one_reason()
@@ -25,11 +25,12 @@ pub fn each_place_has_one_reason()
         → IsReason channel accepts w txs i a → IsReason channel accepts w txs i b → a ≡ b }
 {}
 
-/// A law, and no work: the flags of the reasons of all places of a block are the flags that the block is given.
+/// A law, and no work: a block has one list of reasons, and their flags are those that the block is given.
 pub fn reasons_have_the_flags()
-    ensures { (channel : Configuration) (accepts : Accepts) (w : World) (txs : List (Option Tx)) (reasons : List Reason)
-        → length reasons ≡ length txs → ((i : ℕ) (reason : Reason) → slice_get reasons i ≡ Some reason → IsReason channel accepts w txs i reason)
-        → map flag_of reasons ≡ flags (job_of channel accepts w txs) }
+    ensures one_list { (channel : Configuration) (accepts : Accepts) (w : World) (txs : List (Option Tx)) (reasons others : List Reason)
+        → AreReasons channel accepts w txs reasons → AreReasons channel accepts w txs others → reasons ≡ others }
+    ensures flags { (channel : Configuration) (accepts : Accepts) (w : World) (txs : List (Option Tx)) (reasons : List Reason)
+        → AreReasons channel accepts w txs reasons → map flag_of reasons ≡ flags (job_of channel accepts w txs) }
 {}
 
 /// A law, and no work: the signers that a reason names don't satisfy the policy that it names.

@@ -1,5 +1,8 @@
-use Rattle.reasons.proofs.BlockReasons.{flags_of_reasons}
+use Rattle.reasons.proofs.BlockReasons.{flags_of_reasons, one_list}
 use Rattle.reasons.proofs.laws.reasons_have_the_flags.Goals as goal
 
-pub returns : goal.returns
-returns c = flags_of_reasons
+pub returns-clause-one_list : goal.returns-clause-one_list
+returns-clause-one_list c = one_list
+
+pub returns-clause-flags : goal.returns-clause-flags
+returns-clause-flags c = flags_of_reasons
