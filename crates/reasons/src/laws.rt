@@ -27,6 +27,8 @@ pub fn each_place_has_one_reason()
 
 /// A law, and no work: a block has one list of reasons, and their flags are those that the block is given.
 pub fn reasons_have_the_flags()
+    ensures some_list { (channel : Configuration) (accepts : Accepts) (w : World) (txs : List (Option Tx))
+        → (reasons : List Reason) × AreReasons channel accepts w txs reasons }
     ensures one_list { (channel : Configuration) (accepts : Accepts) (w : World) (txs : List (Option Tx)) (reasons others : List Reason)
         → AreReasons channel accepts w txs reasons → AreReasons channel accepts w txs others → reasons ≡ others }
     ensures flags { (channel : Configuration) (accepts : Accepts) (w : World) (txs : List (Option Tx)) (reasons : List Reason)
