@@ -4,7 +4,7 @@ use Rattle.transaction.specs.declared.transaction.Tx.{Tx}
 use Rattle.rules.specs.State.{with_changes}
 use Rattle.rules.specs.Fold.{running}
 use Rattle.rules.specs.World.{empty_world}
-use Rattle.reasons.specs.declared.reason.Reason.TheVariants.{NoFault, NoTransaction, UsedId, NotEndorsed}
+use Rattle.reasons.specs.declared.reason.Reason.TheVariants.{NoFault, NoTransaction, BadSignature, UsedId, NotEndorsed}
 use Rattle.reasons.specs.declared.id_use.IdUse.TheVariants.{Here}
 use Rattle.reasons.specs.Reason.{IsReason}
 use Rattle.std.specs.Prelude.{codes}
@@ -50,3 +50,11 @@ channel_of_both = record { name = codes "ch"; definitions = from_entries {R = by
 pub signers_that_there_were : IsReason channel_of_both accepts_none empty_world (Some badly_endorsed ∷ []) 0 (NotEndorsed (Unsatisfied chaincode k OfChaincode both_peers (p0 ∷ [])))
 unfolding running with_changes first_below
 signers_that_there_were = record { place = omega arith; flag_is = simp uses refl; why = (badly_endorsed, refl, (simp uses refl, refl, (simp uses refl, simp uses refl), refl)) }
+
+-- ---- the creator's signature
+
+abbrev badly_signed : Tx
+badly_signed = record writes_k { signature = 1 ∷ [] }
+
+pub signature_of_the_creator : IsReason channel accepts_none empty_world (Some badly_signed ∷ []) 0 BadSignature
+signature_of_the_creator = record { place = omega arith; flag_is = refl; why = tt }
