@@ -16,14 +16,16 @@ import headers
 import sample
 import script_cases
 import signatures
+import told
 
 CRATES = pathlib.Path(__file__).resolve().parent.parent / "crates"
-CHAIN = CRATES / "ledger_tests/src/vectors"
+CHAIN = CRATES / "chain_vectors/src"
 DRAFTED = CRATES / "command_line_tests/src/drafted"
 HEADERS = CRATES / "bytes_tests/src/header_hashes"
 SAMPLE = CRATES / "fabcommit"
 SCRIPTS = CRATES / "draft_tests/src/drafting"
 SIGNATURES = CRATES / "command_line_tests/src/signatures"
+TOLD = CRATES / "query_tests/src/telling"
 
 
 def files():
@@ -36,6 +38,7 @@ def files():
         (SAMPLE, sample.files(SAMPLE / "data")),
         (SCRIPTS, script_cases.files()),
         (SIGNATURES, signatures.files(keys)),
+        (TOLD, told.files()),
     ):
         for name, content in made:
             yield folder / name, content if isinstance(content, bytes) else content.encode()

@@ -2,13 +2,13 @@
 
 use crate::building::{CREATOR, next_block};
 use crate::failed::Failed;
-use crate::fixture::{CHANNEL, SaysOk, key, name};
+use crate::fixture::{key, name};
 use crate::random_txs::{KEYS, NAMESPACES, NONCES, tx_at_random};
-use crate::vectors::first_blocks::first_blocks;
-use crate::vectors::later_blocks::later_blocks;
-use crate::vectors::rows::rows;
-use crate::vectors::uses::uses;
-use crate::vectors::{Committed, read_use};
+use chain_vectors::first_blocks::first_blocks;
+use chain_vectors::later_blocks::later_blocks;
+use chain_vectors::rows::rows;
+use chain_vectors::uses::uses;
+use chain_vectors::{CHANNEL, Committed, SaysOk, read_use};
 use channel::Channel;
 use commit::Ledger;
 use header_hash::tx_id;

@@ -3,8 +3,8 @@
 use crate::failed::Failed;
 use crate::fixture::configuration;
 use crate::scripted::ScriptedPeer;
-use crate::vectors::worked::worked;
-use crate::vectors::{Scripted, WorkedChain};
+use chain_vectors::worked::worked;
+use chain_vectors::{Scripted, WorkedChain};
 use commit::{Committer, Flag};
 use gates::{Gate, Open, Reverse};
 use std::alloc::Global;

@@ -1,13 +1,13 @@
 //! The chain of 32 blocks that reaches every flag.
 
 use crate::failed::Failed;
-use crate::fixture::{Peer, SaysOk};
+use crate::fixture::Peer;
 use crate::shown::{is_row, show_history};
-use crate::vectors::first_blocks::first_blocks;
-use crate::vectors::later_blocks::later_blocks;
-use crate::vectors::rows::rows;
-use crate::vectors::uses::uses;
-use crate::vectors::{Committed, Left, Used, read_use};
+use chain_vectors::first_blocks::first_blocks;
+use chain_vectors::later_blocks::later_blocks;
+use chain_vectors::rows::rows;
+use chain_vectors::uses::uses;
+use chain_vectors::{Committed, Left, SaysOk, Used, read_use};
 use rules::{CommittedBlock, FirstUse};
 use std::alloc::Global;
 use world::World;

@@ -1,39 +1,14 @@
-//! A channel, a verifier, and a peer that takes blocks.
+//! A peer that takes blocks, and what tests make and look up.
 
 use crate::failed::Failed;
+use chain_vectors::CHANNEL;
 use channel::{Channel, ChannelFault};
 use commit::Ledger;
 use policy_eval::Verify;
 use rules::{Flag, Refused, Row};
 use std::alloc::{AllocError, Global};
-use transaction::Identity;
 use values::{Key, Name, is_key, is_name};
 use world::World;
-
-pub const CHANNEL: &str = "channel ch
-chaincode cc OR('Org1.peer','Org2.peer')
-chaincode dd 'Org1.member'
-chaincode both AND('Org1.peer','Org2.peer')
-chaincode pair AND('Org1.peer','Org1.peer')
-chaincode chief AND('Org1.member','Org1.admin')
-chaincode either OR(AND('Org1.peer','Org2.peer'),'Org1.peer')
-chaincode greedy AND(OR('Org1.peer','Org1.peer'),'Org1.peer')
-chaincode nested OutOf(2,'Org1.peer',AND('Org1.peer','Org2.peer'),'Org1.peer')
-";
-
-// A signature is good where it is the two bytes `ok`.
-pub struct SaysOk;
-
-impl Verify for SaysOk {
-    ghost use Rattle.std.specs.Prelude.{◌∷◌, []};
-    ghost use Rattle.std.specs.Str.{bytes_eq};
-
-    ghost accepts = { λ _ _ _ signature. bytes_eq signature (111 ∷ 107 ∷ []) };
-
-    fn verify(&self, _identity: &Identity<'_>, _message: &[u8], signature: &[u8]) -> bool {
-        signature == b"ok".as_slice()
-    }
-}
 
 pub fn name(alloc: Global, bytes: &[u8]) -> Result<Name, Failed> {
     if !is_name(bytes) {

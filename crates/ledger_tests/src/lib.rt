@@ -33,6 +33,4 @@ mod submitting;
 #[cfg(test)]
 mod told;
 #[cfg(test)]
-mod vectors;
-#[cfg(test)]
 mod worked_chains;

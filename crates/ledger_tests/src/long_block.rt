@@ -4,7 +4,7 @@ use crate::building::CREATOR;
 use crate::failed::Failed;
 use crate::scripted::ScriptedPeer;
 use crate::shown::is_row;
-use crate::vectors::LeftRow;
+use chain_vectors::LeftRow;
 use header_hash::tx_id;
 use rules::{FirstUse, Flag};
 use std::alloc::{AllocError, Global};

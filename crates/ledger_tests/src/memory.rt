@@ -1,7 +1,7 @@
 use crate::failed::Failed;
 use crate::scripted::ScriptedPeer;
 use crate::shown::{is_row, shown};
-use crate::vectors::LeftRow;
+use chain_vectors::LeftRow;
 use rules::Refused;
 use std::alloc::Global;
 

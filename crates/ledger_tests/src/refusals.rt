@@ -1,11 +1,12 @@
 //! Refused bytes between the blocks of the chain.
 
 use crate::failed::Failed;
-use crate::fixture::{Peer, SaysOk};
+use crate::fixture::Peer;
 use crate::shown::shown;
-use crate::vectors::first_blocks::first_blocks;
-use crate::vectors::later_blocks::later_blocks;
 use block::BlockFault;
+use chain_vectors::SaysOk;
+use chain_vectors::first_blocks::first_blocks;
+use chain_vectors::later_blocks::later_blocks;
 use rules::Refused;
 use std::alloc::Global;
 use values::Hash;

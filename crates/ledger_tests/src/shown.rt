@@ -2,9 +2,9 @@
 
 use crate::failed::Failed;
 use crate::fixture::{key, name, policy_text, row_at};
-use crate::vectors::rows::rows;
-use crate::vectors::uses::uses;
-use crate::vectors::{Left, LeftRow, read_use};
+use chain_vectors::rows::rows;
+use chain_vectors::uses::uses;
+use chain_vectors::{Left, LeftRow, read_use};
 use rules::{HistoryEntry, Row};
 use std::alloc::{AllocError, Global};
 use world::World;

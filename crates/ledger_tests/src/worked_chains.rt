@@ -3,8 +3,8 @@
 use crate::failed::Failed;
 use crate::scripted::ScriptedPeer;
 use crate::shown::is_row;
-use crate::vectors::WorkedChain;
-use crate::vectors::worked::worked;
+use chain_vectors::WorkedChain;
+use chain_vectors::worked::worked;
 use std::alloc::Global;
 
 // Whether the blocks have these flags, and the row is left.

@@ -1,7 +1,7 @@
 //! Each query, compared with what a world answers itself.
 
 use crate::alike::{is_of, is_same_block, is_same_entry, is_same_keyed_row, is_same_row};
-use crate::blocks::{key, name};
+use crate::blocks::{bound, key, name};
 use crate::failed::Failed;
 use query::{QueryHandle, RangeRows};
 use rules::HistoryEntry;
@@ -97,12 +97,12 @@ pub fn is_range_alike(
     handle: &mut QueryHandle,
     world: &World,
     namespace: &[u8],
-    start: &'static [u8; 2],
+    (start, end): (&[u8], &[u8]),
     limit: usize,
 ) -> Result<bool, Failed> {
     let namespace = name(namespace)?;
-    let start = BoundRef::new(start);
-    let end = BoundRef::new(b"");
+    let start = bound(start)?;
+    let end = bound(end)?;
     let reply = handle.range(alloc, &namespace, &start, &end, limit)?;
     Ok(
         is_of(&reply, world)

@@ -9,7 +9,7 @@ use drafts::draft;
 use key_book::KeyBook;
 use rules::Delta;
 use std::alloc::Global;
-use values::{Bytes, Key, KeyRef, Name, NameRef, is_key, is_name};
+use values::{BoundRef, Bytes, KeyRef, Name, NameRef, is_bound, is_key, is_name};
 use world::World;
 
 const CHANNEL: &str =
@@ -34,6 +34,13 @@ pub fn key(bytes: &[u8]) -> Result<KeyRef<'_>, Failed> {
 /// The channel of all blocks.
 pub fn configuration(alloc: Global) -> Result<Channel, ChannelFault> {
     Channel::read(alloc, CHANNEL)
+}
+
+pub fn bound(bytes: &[u8]) -> Result<BoundRef<'_>, Failed> {
+    if !is_bound(bytes) {
+        return Err(Failed::Missing("a bound"));
+    }
+    Ok(BoundRef::new(bytes))
 }
 
 /// A ledger, and the blocks that it is to take next.

@@ -70,9 +70,10 @@ fn are_keys_alike(alloc: Global, handle: &mut QueryHandle, world: &World) -> Res
             return Ok(false);
         }
     }
+    let (none, middle) = (b"".as_slice(), b"b".as_slice());
     Ok(
-        is_range_alike(alloc, handle, world, b"cc", b"b ", 2)?
-            && is_range_alike(alloc, handle, world, b"cc", b"A ", 9)?,
+        is_range_alike(alloc, handle, world, b"cc", (middle, none), 2)?
+            && is_range_alike(alloc, handle, world, b"cc", (none, none), 9)?,
     )
 }
 

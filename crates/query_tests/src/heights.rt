@@ -1,57 +1,45 @@
-//! At each height of a chain each query answers what a world of its own answers.
+//! At each height of the chain of 32 blocks each query answers what a world of its own answers.
 
 use crate::asking::{is_block_alike, is_height_alike, is_key_alike, is_range_alike, is_use_alike};
-use crate::blocks::Drafter;
 use crate::failed::Failed;
 use crate::publishing::publish_next;
+use chain_vectors::first_blocks::first_blocks;
+use chain_vectors::later_blocks::later_blocks;
+use chain_vectors::rows::rows;
+use chain_vectors::uses::uses;
+use chain_vectors::{CHANNEL, Left, SaysOk, read_use};
+use channel::Channel;
+use commit::Ledger;
 use query::{Publisher, QueryHandle, open};
-use rules::{Delta, NewUse};
-use std::alloc::{AllocError, Global};
+use rules::Delta;
+use std::alloc::Global;
 use std::sync::Wait;
+use transaction::TxId;
 use world::World;
 
-const BLOCKS: u64 = 20;
+const BLOCKS: u64 = 32;
 
-// Four transactions: one puts a key of `cc`, one puts a key of `dd` or deletes it, one has the first one's id, and one
-// lacks its endorsement.
-fn script(alloc: Global, block: u64) -> Result<String, AllocError> {
-    let (near, far) = (block % 5, block % 3);
-    let change = if block % 4 == 3 { "delete" } else { "write" };
-    let value = if block % 4 == 3 { "" } else { " w" };
-    format!(in alloc;
-        "tx Org1:client:c0 a{block} cc\nns cc\nwrite k{near} v{block}\npolicy k{far} OR('Org1.peer','Org2.peer')\nendorse Org1:peer:p0\n\
-        tx Org1:client:c0 b{block} dd\nns dd\n{change} k{far}{value}\nendorse Org1:peer:p0\n\
-        tx Org1:client:c0 a{block} cc\nns cc\nwrite k9 v\nendorse Org1:peer:p0\n\
-        tx Org1:client:c0 c{block} dd\nns dd\nwrite k8 v\nendorse Org2:peer:q0\n"
+const UNUSED: TxId = [b'0'; 64];
+
+// Row and history, and the ranges that begin at the key or end before it.
+fn is_all_alike_at(
+    alloc: Global,
+    handle: &mut QueryHandle,
+    world: &World,
+    left: &Left,
+) -> Result<bool, Failed> {
+    let none = b"".as_slice();
+    Ok(
+        is_key_alike(alloc, handle, world, left.namespace, left.key)?
+            && is_range_alike(alloc, handle, world, left.namespace, (left.key, none), 2)?
+            && is_range_alike(alloc, handle, world, left.namespace, (none, left.key), 100)?,
     )
 }
 
-static KEYS: [&[u8]; 7] = [b"k0", b"k1", b"k2", b"k3", b"k4", b"k8", b"k9"];
-
-fn are_keys_alike(
-    alloc: Global,
-    handle: &mut QueryHandle,
-    world: &World,
-    namespace: &[u8],
-) -> Result<bool, Failed> {
-    for key in &KEYS {
-        if !is_key_alike(alloc, handle, world, namespace, key)? {
-            return Ok(false);
-        }
-    }
-    Ok(true)
-}
-
-fn are_ranges_alike(
-    alloc: Global,
-    handle: &mut QueryHandle,
-    world: &World,
-    namespace: &[u8],
-) -> Result<bool, Failed> {
-    for limit in 0..6 {
-        if !is_range_alike(alloc, handle, world, namespace, b"k1", limit)?
-            || !is_range_alike(alloc, handle, world, namespace, b"k3", limit)?
-        {
+// At all keys that the chain writes.
+fn are_keys_alike(alloc: Global, handle: &mut QueryHandle, world: &World) -> Result<bool, Failed> {
+    for left in rows() {
+        if !is_all_alike_at(alloc, handle, world, left)? {
             return Ok(false);
         }
     }
@@ -71,93 +59,68 @@ fn are_blocks_alike(
     is_height_alike(handle, world)
 }
 
-fn are_uses_alike(
-    handle: &mut QueryHandle,
-    world: &World,
-    uses: &[NewUse],
-) -> Result<bool, Failed> {
-    for used in uses {
-        if !is_use_alike(handle, world, &used.id)? {
+fn are_uses_alike(handle: &mut QueryHandle, world: &World) -> Result<bool, Failed> {
+    for bytes in uses() {
+        if !is_use_alike(handle, world, &read_use(bytes).id)? {
             return Ok(false);
         }
     }
-    Ok(true)
+    is_use_alike(handle, world, &UNUSED)
 }
 
-fn is_alike(
-    alloc: Global,
-    handle: &mut QueryHandle,
-    world: &World,
-    uses: &[NewUse],
-) -> Result<bool, Failed> {
-    Ok(
-        are_keys_alike(alloc, handle, world, b"cc")?
-            && are_keys_alike(alloc, handle, world, b"dd")?
-            && are_ranges_alike(alloc, handle, world, b"cc")?
-            && are_ranges_alike(alloc, handle, world, b"dd")?
-            && are_uses_alike(handle, world, uses)?
-            && are_blocks_alike(alloc, handle, world)?,
-    )
+fn check_alike(alloc: Global, handle: &mut QueryHandle, world: &World) -> Result<(), Failed> {
+    if are_keys_alike(alloc, handle, world)?
+        && are_blocks_alike(alloc, handle, world)?
+        && are_uses_alike(handle, world)?
+    {
+        return Ok(());
+    }
+    Err(Failed::Missing("the answer of the world"))
 }
 
-fn add_uses(uses: &mut Vec<NewUse>, delta: &Delta) -> Result<(), AllocError> {
-    uses.extend_from_slice(delta.uses.as_slice())?;
-    Ok(())
+fn next_delta(ledger: &mut Ledger, bytes: &[u8]) -> Result<Delta, Failed> {
+    let delta = ledger.delta(bytes, &SaysOk)?;
+    ledger.submit_one(bytes, &SaysOk)?;
+    Ok(delta)
 }
 
-fn is_next_alike<R: Wait>(
+fn check_next<R: Wait>(
     rt: &R,
     alloc: Global,
-    drafter: &mut Drafter,
+    ledger: &mut Ledger,
     publisher: &mut Publisher,
     handle: &mut QueryHandle,
-    uses: &mut Vec<NewUse>,
-) -> Result<bool, Failed> {
-    let script = script(alloc, drafter.world().height())?;
-    let delta = drafter.next(script.as_str())?;
-    add_uses(uses, &delta)?;
+    bytes: &[u8],
+) -> Result<(), Failed> {
+    let delta = next_delta(ledger, bytes)?;
     publish_next(rt, alloc, publisher, delta)?;
-    is_alike(alloc, handle, drafter.world(), uses.as_slice())
+    check_alike(alloc, handle, ledger.view())
 }
 
-// How many heights are answered alike, up to the first that isn't.
-fn alike_heights<R: Wait>(
-    rt: &R,
-    alloc: Global,
-    publisher: &mut Publisher,
-    handle: &mut QueryHandle,
-) -> Result<u64, Failed> {
-    let mut drafter = Drafter::open(alloc)?;
-    let mut uses = Vec::new(alloc);
-    if !is_alike(alloc, handle, drafter.world(), uses.as_slice())? {
-        return Ok(0);
-    }
-    for block in 0..BLOCKS {
-        if !is_next_alike(rt, alloc, &mut drafter, publisher, handle, &mut uses)? {
-            return Ok(block);
-        }
-    }
-    Ok(BLOCKS)
-}
-
-fn alike_of_first<R: Wait>(
+// How high the world is in the end, if all is answered alike.
+fn alike_up_to<R: Wait>(
     rt: &R,
     alloc: Global,
     publisher: &mut Publisher,
     handles: &mut Vec<QueryHandle>,
 ) -> Result<u64, Failed> {
-    match handles.first_mut() {
-        Some(handle) => alike_heights(rt, alloc, publisher, handle),
-        None => Err(Failed::Missing("a handle")),
+    let Some(handle) = handles.first_mut() else {
+        return Err(Failed::Missing("a handle"));
+    };
+    let mut ledger = Ledger::open(alloc, Channel::read(alloc, CHANNEL)?);
+    check_alike(alloc, handle, ledger.view())?;
+    for block in first_blocks().iter().chain(later_blocks().iter()) {
+        check_next(rt, alloc, &mut ledger, publisher, handle, block.bytes)?;
     }
+    Ok(ledger.view().height())
 }
 
 #[test]
 fn each_query_at_each_height(rt: HostRuntime) -> Result<(), Failed> {
     let alloc = rt.alloc();
     let (mut publisher, mut handles) = open(alloc, &rt, World::new(alloc), World::new(alloc), 1)?;
-    let heights = alike_of_first(&rt, alloc, &mut publisher, &mut handles);
+    let height = alike_up_to(&rt, alloc, &mut publisher, &mut handles);
     publisher.close(&rt);
-    assert!(rt; heights? == BLOCKS);
+    assert!(rt; height? == BLOCKS);
     Ok(())
 }

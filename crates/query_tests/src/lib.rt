@@ -15,6 +15,8 @@ mod failed;
 #[cfg(test)]
 mod heights;
 #[cfg(test)]
+mod memory;
+#[cfg(test)]
 mod publishing;
 #[cfg(test)]
 mod spoiling;

@@ -1,64 +1,62 @@
 //! A handle that was told of a receipt never answers below it.
-ghost use Rattle.std.specs.Prelude.{◌≡◌, ◌≤◌, length, All};
+ghost use Rattle.std.specs.Prelude.{◌≡◌, All};
 
-use crate::alike::is_same_block;
+mod vectors;
+
 use crate::blocks::Drafter;
 use crate::failed::Failed;
 use crate::publishing::publish_next;
 use query::{Publisher, QueryHandle, Receipt, Reply, open};
-use rules::{CommittedBlock, Delta, Flag};
+use rules::{Delta, Flag};
 use std::alloc::Global;
 use std::sync::Wait;
 use std::thread;
 use std::thread::Threads;
-use values::{Hash, Shared};
+use vectors::{SCRIPT, block, header_hash};
 use world::World;
 
 const ASKS: u32 = 1_000;
 
-const SCRIPT: &str = "tx Org1:client:c0 n cc\nns cc\nwrite k v\nendorse Org1:peer:p0\n";
+fn has_flag(flags: &[Flag]) -> bool {
+    flags == [Flag::Valid].as_slice()
+}
 
-// Of block 0.
-fn is_told(receipt: &Receipt, block: &CommittedBlock) -> bool {
+fn is_of_block(receipt: &Receipt) -> bool {
     receipt.number == 0
         && receipt.height == 1
-        && receipt.header_hash == block.header_hash
-        && receipt.flags.as_slice() == block.flags.as_slice()
-        && receipt.flags.as_slice() == [Flag::Valid].as_slice()
+        && receipt.header_hash == *header_hash()
+        && has_flag(receipt.flags.as_slice())
 }
 
-fn is_first<A>(reply: &Reply<A>, hash: Hash) -> bool {
-    reply.height == 1 && reply.header_hash == Some(hash)
+fn is_behind_block<A>(reply: &Reply<A>) -> bool {
+    reply.height == 1 && reply.header_hash == Some(*header_hash())
 }
 
-fn is_none<A>(reply: &Reply<A>) -> bool {
+fn is_before_block<A>(reply: &Reply<A>) -> bool {
     reply.height == 0 && reply.header_hash.is_none()
 }
 
-fn keeps_block(
-    alloc: Global,
-    handle: &mut QueryHandle,
-    block: &CommittedBlock,
-) -> Result<bool, Failed> {
+fn keeps_block(alloc: Global, handle: &mut QueryHandle) -> Result<bool, Failed> {
     let reply = handle.block(alloc, 0)?;
-    Ok(match &reply.answer {
-        Some(kept) => is_first(&reply, block.header_hash) && is_same_block(kept, block),
-        None => false,
-    })
+    let Some(kept) = &reply.answer else {
+        return Ok(false);
+    };
+    Ok(
+        is_behind_block(&reply)
+            && kept.bytes.as_slice() == block()
+            && kept.header_hash == *header_hash()
+            && has_flag(kept.flags.as_slice()),
+    )
 }
 
-fn stays_told(
-    alloc: Global,
-    handle: &mut QueryHandle,
-    block: &CommittedBlock,
-) -> Result<bool, Failed> {
+fn stays_told(alloc: Global, handle: &mut QueryHandle) -> Result<bool, Failed> {
     for _ in 0..ASKS {
         let reply = handle.height()?;
-        if !is_first(&reply, block.header_hash) || reply.answer != 1 {
+        if !is_behind_block(&reply) || reply.answer != 1 {
             return Ok(false);
         }
     }
-    keeps_block(alloc, handle, block)
+    keeps_block(alloc, handle)
 }
 
 fn publish_and_tell<R: Wait>(
@@ -67,24 +65,25 @@ fn publish_and_tell<R: Wait>(
     publisher: &mut Publisher,
     handle: &mut QueryHandle,
     delta: Delta,
-    block: &CommittedBlock,
 ) -> Result<bool, Failed>
     requires { handle.old.book ≡ publisher.old.book }
 {
     let receipt = publish_next(rt, alloc, publisher, delta)?;
     handle.learn(&receipt);
-    Ok(is_told(&receipt, block) && stays_told(alloc, handle, block)?)
+    Ok(is_of_block(&receipt) && stays_told(alloc, handle)?)
 }
 
 // Nobody tells this one.
-fn sees_none_or_first(handle: &mut QueryHandle, hash: Hash) -> Result<bool, Failed> {
+fn never_goes_back(handle: &mut QueryHandle) -> Result<bool, Failed> {
     let mut is_seen = false;
     for _ in 0..ASKS {
         let reply = handle.height()?;
-        if !is_first(&reply, hash) && (is_seen || !is_none(&reply)) {
+        if reply.answer != reply.height
+            || !is_behind_block(&reply) && (is_seen || !is_before_block(&reply))
+        {
             return Ok(false);
         }
-        is_seen = is_first(&reply, hash);
+        is_seen = is_behind_block(&reply);
         thread::yield_now();
     }
     Ok(true)
@@ -100,14 +99,12 @@ fn in_two_threads<R: Threads + Wait + Sync>(
 ) -> Result<bool, Failed>
     requires { handle.old.book ≡ publisher.old.book }
 {
-    let block = delta.block.share()?;
-    let hash = block.get().header_hash;
     let (untold, told) = thread::join(
         rt,
-        || sees_none_or_first(other, hash),
+        || never_goes_back(other),
         ||
             requires { handle.now.book ≡ publisher.now.book }
-        { publish_and_tell(rt, alloc, publisher, handle, delta, block.get()) },
+        { publish_and_tell(rt, alloc, publisher, handle, delta) },
     );
     Ok(told? && untold?)
 }

@@ -224,14 +224,18 @@ fn is_read_rightly<R: Threads + Wait + Sync>(
     Ok(height == BLOCKS && watched.wrong.load(Ordering::SeqCst) == 0)
 }
 
+fn drafted_next(alloc: Global, drafter: &mut Drafter, block: u64) -> Result<Delta, Failed> {
+    let script = format!(in alloc;
+        "tx Org1:client:c0 n{block} cc\nns cc\nwrite k {block}\nendorse Org1:peer:p0\n"
+    )?;
+    drafter.next(script.as_str())
+}
+
 fn drafted(alloc: Global) -> Result<Vec<Delta>, Failed> {
     let mut drafter = Drafter::open(alloc)?;
     let mut deltas = Vec::new(alloc);
     for block in 0..BLOCKS {
-        let script = format!(in alloc;
-            "tx Org1:client:c0 n{block} cc\nns cc\nwrite k {block}\nendorse Org1:peer:p0\n"
-        )?;
-        deltas.push(drafter.next(script.as_str())?)?;
+        deltas.push(drafted_next(alloc, &mut drafter, block)?)?;
     }
     Ok(deltas)
 }

@@ -1,10 +1,26 @@
-//! What vectors/chain.py makes.
+//! What vectors/chain.py makes: a chain of 32 blocks with all that it leaves behind, and short chains.
+#![tactic(auto)]
 
 pub mod first_blocks;
 pub mod later_blocks;
 pub mod rows;
 pub mod uses;
+mod verifier;
 pub mod worked;
+
+pub use verifier::SaysOk;
+
+/// Of the chain, and of the short ones.
+pub const CHANNEL: &str = "channel ch
+chaincode cc OR('Org1.peer','Org2.peer')
+chaincode dd 'Org1.member'
+chaincode both AND('Org1.peer','Org2.peer')
+chaincode pair AND('Org1.peer','Org1.peer')
+chaincode chief AND('Org1.member','Org1.admin')
+chaincode either OR(AND('Org1.peer','Org2.peer'),'Org1.peer')
+chaincode greedy AND(OR('Org1.peer','Org1.peer'),'Org1.peer')
+chaincode nested OutOf(2,'Org1.peer',AND('Org1.peer','Org2.peer'),'Org1.peer')
+";
 
 /// A block with its header hash and the numbers of its flags.
 pub struct Committed {
