@@ -34,32 +34,32 @@ def take(crate, at):
         shutil.copytree(library, at / "out" / "rlib", symlinks=True, copy_function=link)
 
 
-def lines_below(names):
-    """The lines of crates.txt of these crates, and of all that they stand on."""
-    lines = {line.split(":")[0].split()[0]: line for line in (TOP / "crates.txt").read_text().splitlines() if ":" in line and not line.startswith("#")}
-    needed, left = set(), list(names)
-    while left:
-        name = left.pop()
-        if name in lines and name not in needed:
-            needed.add(name)
-            left += lines[name].split(":")[1].split()
+def needed_lines(own):
+    """The lines of crates.txt for these crates and all that they stand on, by name, lowest first."""
+    lines = {line.split(":")[0].split()[0]: line for line in (TOP / "crates.txt").read_text().splitlines() if ":" in line}
+    needed = set(own)
+    for name, line in reversed(lines.items()):
+        if name in needed:
+            needed.update(line.split(":")[1].split())
     return {name: line for name, line in lines.items() if name in needed}
 
 
-def build(folder, name, source, own, kit):
+def build(folder, name, source, own, kit, proofs=None):
     """A program of one file, over `own` crates of this repository and over crates of the kit; its path.
 
-    A crate whose library isn't built is proved in the scratch folder, each time anew: build them first.
+    What the crates stand on is taken too. One whose library isn't built is proved in the scratch folder, each time anew:
+    build them first. `proofs` has texts by their paths in the program's `proofs/`.
     """
     crates = folder / "crates"
-    (crates / name / "src").mkdir(parents=True)
-    (crates / name / "src" / "main.rt").write_text(source.lstrip())
-    for part in ("specs", "proofs"):
-        (crates / name / part).mkdir()
-        (crates / name / part / "Lib.antt").write_text("")
-    below = lines_below(own)
-    (folder / "crates.txt").write_text("\n".join([*below.values(), f"{name}: {' '.join([*own, *kit])}"]) + "\n")
-    for crate in below:
+    texts = {f"proofs/{path}": text for path, text in (proofs or {}).items()}
+    for path, text in {"src/main.rt": source, "specs/Lib.antt": "", "proofs/Lib.antt": "", **texts}.items():
+        at = crates / name / path
+        at.parent.mkdir(parents=True, exist_ok=True)
+        at.write_text(text.lstrip())
+    needed = needed_lines(own)
+    lines = [*needed.values(), f"{name}: {' '.join([*needed, *kit])}"]
+    (folder / "crates.txt").write_text("\n".join(lines) + "\n")
+    for crate in needed:
         take(TOP / "crates" / crate, crates / crate)
     built = subprocess.run(["rt", "run"], cwd=crates / name, capture_output=True, text=True, check=False)
     program = crates / name / "out" / name
