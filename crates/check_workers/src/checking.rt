@@ -40,8 +40,8 @@ fn open<'a>(alloc: Global, job: &Job<'a>) -> Result<(Words<'a>, Place), AllocErr
     Words::of_words(alloc, zeros.as_slice(), job)
 }
 
-/// The flags of a job's candidates, found by so many workers in threads of their own, in whatever order they come to the
-/// checks. Each passes the gate before each check.
+/// The flags of a job's candidates, found by so many workers, each but one in a thread of its own, in whatever order they come
+/// to the checks. Each passes the gate before each check.
 ///
 /// No more workers are started than there are candidates, since the two checks of one come one after the other. One that
 /// can't be started, or gets no deque, is done without; what no worker has found is found here, in order. Takes two words

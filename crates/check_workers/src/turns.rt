@@ -35,10 +35,10 @@ pub enum Turn {
 }
 
 /// The most tasks that are taken out in one turn.
-const MOST: u32 = 16;
+const MOST: u32 = BATCH as u32;
 
 /// In one turn each worker takes out one of so many of its equal part of the tasks that aren't done.
-const PARTS: u32 = 64;
+const PARTS: u32 = 16;
 
 #[derive(Drop)]
 struct Waited {
@@ -74,7 +74,7 @@ impl Waited {
 
     /// How many tasks are taken out in one turn: fewer the fewer are left, so that others find some.
     fn part(&self) -> usize
-        ensures { result ≤ 16 }
+        ensures { result ≤ 32 }
     {
         let parts = self.workers.saturating_mul(PARTS).max(1);
         (self.left / parts).clamp(1, MOST) as usize
@@ -102,7 +102,8 @@ impl Waited {
         if let Some(task) = stolen {
             self.start::<J>(&mut taken, task);
         }
-        for _ in 0..self.part() {
+        // beside a stolen one
+        for _ in 0..self.part().min(BATCH - 1) {
             let Some(task) = pop(own) else {
                 break;
             };

@@ -68,7 +68,7 @@ fn work<J: Tasks, R: Wait, G: Gate>(
     }
 }
 
-/// Runs workers whose deques hold tasks of this job, and waits until they have ended.
+/// Runs workers whose deques hold tasks of this job, the last one on the calling thread, and waits until they have ended.
 fn run_all<J: Tasks + Send + Sync, R: Threads + Wait + Sync, G: Gate + Sync>(
     rt: &R,
     alloc: Global,
@@ -83,8 +83,9 @@ fn run_all<J: Tasks + Send + Sync, R: Threads + Wait + Sync, G: Gate + Sync>(
     requires some { 0 < length job.now.candidates }
     requires tasks { 2 * length job.now.candidates ≡ J.tasks }
 {
-    let (owners, thieves) = deques::<J>(alloc, workers);
+    let (mut owners, thieves) = deques::<J>(alloc, workers);
     let thieves = thieves.as_slice();
+    let last = owners.pop();
     thread::scope(
         thread::scope_env(),
         rt,
@@ -99,11 +100,15 @@ fn run_all<J: Tasks + Send + Sync, R: Threads + Wait + Sync, G: Gate + Sync>(
                     break;
                 }
             }
+            if let Some(own) = last {
+                work(rt, job, steps, turns, own, thieves, gate);
+            }
         },
     );
 }
 
-/// Runs so many workers, and waits until they have ended. One that can't be started, or gets no deque, is done without.
+/// Runs so many workers, one of them on the calling thread, and waits until they have ended. One that can't be started, or gets
+/// no deque, is done without.
 pub(crate) fn run<R: Threads + Wait + Sync, G: Gate + Sync>(
     rt: &R,
     alloc: Global,
