@@ -44,6 +44,21 @@ def worlds(keys):
         yield world, before
 
 
+def readers(count, height):
+    """The lines of so many readers."""
+    return "".join(f"reader {place} height {height}\n" for place in range(1, count + 1))
+
+
+def runs(world):
+    """Runs with workers and readers over both blocks, with refused ones between and behind them, and over none."""
+    lines = (
+        f"{answers.accepted(world, 0)}refused 2 C2 want 1 got 0\n{answers.accepted(world, 1)}refused 4 C1 B1\n"
+    )
+    for workers, count in ((1, 2), (2, 0), (2, 2), (64, 0), (64, 32)):
+        yield f"run --workers {workers} --readers {count} b0 b0 b1 k", 1, lines + readers(count, 2)
+    yield "run --workers 02 --readers 1 k", 1, "refused 1 C1 B1\n" + readers(1, 0)
+
+
 def rows(keys):
     """Words behind `--channel` and `--keys`, the status, and what goes to standard output."""
     name, definitions = channel_of(CHANNEL)
@@ -65,6 +80,7 @@ def rows(keys):
     yield "history --ns cc --key k1 b0 k", 1, answers.history(world, b"cc", b"k1")
     world, _ = next(states)
     yield "run b0 b1", 0, answers.accepted(world, 0) + answers.accepted(world, 1)
+    yield from runs(world)
     yield "get --ns cc --key b b0 b1", 0, answers.get(world, b"cc", b"b")
     yield "history --ns cc --key a%20%25 b0 b1", 0, answers.history(world, b"cc", b"a %")
     for start, end, limit in (("%", "%", 2), ("%", "%", 3), ("b%00", "k3", 100), ("k1", "k1%00", 2), ("k3", "b", 1)):

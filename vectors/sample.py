@@ -36,6 +36,7 @@ def files(folder):
         world.submit(before)
         assert world.blocks[-1][2] == flags, (number, world.blocks[-1][2], flags)
         lines.append(" ".join(["accepted", str(number), world.blocks[-1][1].hex(), *map(str, flags)]))
-    # The stored run hands block 0 in twice.
+    # The stored run hands block 0 in twice, and has two readers.
     lines.insert(1, "refused 2 C2 want 1 got 0")
+    lines += [f"reader {place} height {len(FLAGS)}" for place in (1, 2)]
     yield "stdout", "".join(line + "\n" for line in lines)

@@ -11,12 +11,18 @@ pub(crate) enum Form {
     Optional,
     /// `--NAME VALUE`, which has this value where it isn't given.
     Default(&'static str),
-    /// `--NAME N`, a number from 1 to 65535, which is this one where it isn't given.
-    Count(&'static str),
+    /// `--NAME N`, a number in these bounds, which is the default where it isn't given.
+    Count {
+        default: &'static str,
+        least: u16,
+        most: u16,
+    },
     /// One positional.
     Positional,
     /// The positionals that are left, so many at least.
-    Positionals { least: usize },
+    Positionals {
+        least: usize,
+    },
 }
 
 /// An argument, as help shows it.
@@ -56,11 +62,17 @@ fn positional<'a>(alloc: Global, argument: &Argument) -> Arg<'a> {
         .help(argument.help)
 }
 
-// A number that isn't 0; that it has digits alone is looked at by `number_of`.
-fn count<'a>(alloc: Global, argument: &Argument, default: &'static str) -> Arg<'a> {
-    option(alloc, argument)
-        .default_value(default)
-        .value_parser(value_parser!(u16).range(1..))
+// A number in bounds; that it has digits alone is looked at by `number_of`.
+fn count<'a>(
+    alloc: Global,
+    argument: &Argument,
+    default: &'static str,
+    least: u16,
+    most: u16,
+) -> Arg<'a> {
+    option(alloc, argument).default_value(default).value_parser(value_parser!(u16).range(
+        i64::from(least)..=i64::from(most),
+    ))
 }
 
 fn positionals<'a>(alloc: Global, argument: &Argument, least: usize) -> Arg<'a> {
@@ -77,7 +89,11 @@ impl Argument {
             Form::Required => option(alloc, self).required(true),
             Form::Optional => option(alloc, self),
             Form::Default(value) => option(alloc, self).default_value(value),
-            Form::Count(value) => count(alloc, self, value),
+            Form::Count {
+                default,
+                least,
+                most,
+            } => count(alloc, self, default, least, most),
             Form::Positional => positional(alloc, self).required(true),
             Form::Positionals { least } => positionals(alloc, self, least),
         }

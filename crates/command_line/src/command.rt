@@ -10,6 +10,8 @@ use clap::{ArgMatches, Command, Error};
 use std::alloc::{AllocError, Global};
 use std::convert::AsStr;
 use std::io::Write;
+use std::sync::Wait;
+use std::thread::Threads;
 
 const NAME: &str = "fabcommit";
 
@@ -95,16 +97,18 @@ impl<'a> Asked<'a> {
         })
     }
 
-    /// Does what is asked for. Returns what the process ends with, unless a fault ends it before.
-    pub(crate) fn perform<F: Files, W: Write>(
+    /// Does what is asked for. Returns what the process ends with, unless a fault ends it before. `run`
+    /// alone has threads.
+    pub(crate) fn perform<R: AllocGlobal + Threads + Wait + Sync, F: Files, W: Write>(
         &self,
-        alloc: Global,
+        rt: &R,
         files: &F,
         out: &mut W,
     ) -> Result<u8, Fault<'a>> {
+        let alloc = rt.alloc();
         match self {
             Asked::Draft(draft) => draft.perform(alloc, files),
-            Asked::Run(run) => run.perform(alloc, files, out),
+            Asked::Run(run) => run.perform(rt, files, out),
             Asked::Get(get) => get.perform(alloc, files, out),
             Asked::Scan(scan) => scan.perform(alloc, files, out),
             Asked::History(history) => history.perform(alloc, files, out),

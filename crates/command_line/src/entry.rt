@@ -7,6 +7,8 @@ use std::alloc::Global;
 use std::convert::AsStr;
 use std::io;
 use std::io::Write;
+use std::sync::Wait;
+use std::thread::Threads;
 
 // Help goes to standard output, and what is wrong with the words to standard error.
 fn tell<'a, O: Write, E: Write>(
@@ -44,9 +46,9 @@ fn status_of<E: Write>(ended: Result<u8, Fault<'_>>, err: &mut E) -> u8 {
 ///
 /// The words are read first, then all files, and then the blocks are handed in one by one, or one is
 /// drafted. Lines and help go to `out`, and a fault's line to `err`, where a write that fails changes
-/// nothing. The memory is the files' bytes, what the ledger keeps, what one block takes, and a buffer
-/// of a fixed size.
-pub fn program<R: AllocGlobal, S: AsStr, F: Files, O: Write, E: Write>(
+/// nothing. The memory is the files' bytes, what the ledger or the committer keeps, what one block takes,
+/// and a buffer of a fixed size. `run` alone has threads, which have ended when this returns.
+pub fn program<R: AllocGlobal + Threads + Wait + Sync, S: AsStr, F: Files, O: Write, E: Write>(
     rt: &R,
     words: &[S],
     files: &F,
@@ -54,7 +56,7 @@ pub fn program<R: AllocGlobal, S: AsStr, F: Files, O: Write, E: Write>(
     err: &mut E,
 ) -> u8 {
     let ended = match Asked::from_words(rt.alloc(), words) {
-        Ok(asked) => asked.perform(rt.alloc(), files, out),
+        Ok(asked) => asked.perform(rt, files, out),
         Err(error) => tell(&error, out, err),
     };
     status_of(ended, err)

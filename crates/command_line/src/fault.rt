@@ -8,6 +8,7 @@ ghost use Rattle.key_book.specs.declared.fault.KeyBookFault.TheVariants as key_b
 use crate::files::FileFault;
 use crate::status::{FILE_FAULT, MEMORY, USAGE};
 use channel::ChannelFault;
+use commit::QueryFault;
 use drafts::DraftFault;
 use key_book::KeyBookFault;
 use std::alloc::{AllocError, AllocFailed};
@@ -120,6 +121,15 @@ impl From<AllocError> for Fault<'_> {
     ghost from_gives = { λ _ fault. fault ≡ Memory };
 
     fn from(_error: AllocError) -> Self {
+        Fault::Memory
+    }
+}
+
+/// A query of a committer that isn't closed wants nothing but memory.
+impl From<QueryFault> for Fault<'_> {
+    ghost from_gives = { λ _ fault. fault ≡ Memory };
+
+    fn from(_fault: QueryFault) -> Self {
         Fault::Memory
     }
 }

@@ -4,6 +4,7 @@
 
 mod arguments;
 mod command;
+mod committing;
 mod draft;
 mod entry;
 mod fault;
@@ -14,8 +15,10 @@ mod inputs;
 mod keyed;
 mod laws;
 mod lines;
+mod parallelism;
 mod paths;
 mod question;
+mod readers;
 mod rows;
 mod run;
 mod scan;
@@ -28,4 +31,4 @@ pub use entry::{program, without_words};
 pub use fault::Fault;
 pub use files::{DiskFiles, FileFault, Files};
 pub use laws::printed_values_are_read_back;
-pub use lines::write_answers;
+pub use lines::write_answer;

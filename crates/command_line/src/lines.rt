@@ -1,14 +1,14 @@
 //! The lines for blocks, and how lines are written.
 
 ghost use Rattle.std.specs.Prelude.{◌≡◌, ◌↔◌, ◌⊎◌, IsErr};
-ghost use Rattle.std.specs.Iterator.{IsFinite};
 ghost use Rattle.block.specs.declared.fault.BlockFault.TheVariants as block_fault;
+ghost use Rattle.commit.specs.declared.not_committed.NotCommitted.TheVariants as not_committed;
 ghost use Rattle.rules.specs.declared.answer.Refused.TheVariants as refused_as;
 
 use crate::fault::Fault;
 use crate::status::{ACCEPTED, REFUSED};
 use block::BlockFault;
-use commit::{Accepted, Refused};
+use commit::{NotCommitted, Receipt, Refused};
 use std::alloc::{AllocError, Global};
 use std::io;
 use std::io::{BufWriter, Write};
@@ -55,44 +55,52 @@ impl Refusal {
             Refused::Malformed(BlockFault::Memory) | Refused::Memory => return Err(AllocError),
         })
     }
+
+    /// The refusal, unless it is want of memory, for which alone a committer stops.
+    pub(crate) fn of_answer(why: NotCommitted) -> Result<Refusal, AllocError>
+        ensures { IsErr result ↔ (why ≡ not_committed.Refused refused_as.Memory ⊎ why ≡ not_committed.Refused (refused_as.Malformed block_fault.Memory) ⊎ why ≡ not_committed.MemoryInCommit ⊎ why ≡ not_committed.Stopped) }
+    {
+        match why {
+            NotCommitted::Refused(refused) => Refusal::of(refused),
+            NotCommitted::MemoryInCommit | NotCommitted::Stopped => Err(AllocError),
+        }
+    }
 }
 
 // `accepted NUMBER HASH` and a space and a flag for each transaction, HASH in lower case hexadecimal.
 // Takes no memory.
-fn write_accepted<W: Write>(out: &mut W, accepted: &Accepted) -> io::Result<()> {
-    let number = accepted.number;
+fn write_accepted<W: Write>(out: &mut W, receipt: &Receipt) -> io::Result<()> {
+    let number = receipt.number;
     write!(out, "accepted {number} ")?;
-    for byte in &accepted.header_hash {
+    for byte in &receipt.header_hash {
         write!(out, "{byte:02x}")?;
     }
-    for flag in accepted.flags.as_slice() {
+    for flag in receipt.flags.as_slice() {
         let flag = flag.number();
         write!(out, " {flag}")?;
     }
     writeln!(out)
 }
 
-// A refused block is told by its place among those handed in, from 1. The status says whether all were
-// accepted.
-fn write_each<'a, A: Iterator<Item = Result<Accepted, Refused>> + Drop, W: Write>(
+/// Writes the line for the answer to the block at this place, from 1: `accepted NUMBER HASH` and the
+/// flags, or `refused PLACE FAULT`. Returns what the process ends with where the other blocks are
+/// accepted. Want of memory is a fault and has no line. Takes no memory.
+pub fn write_answer<'a, W: Write>(
     out: &mut W,
-    answers: A,
-) -> Result<u8, Fault<'a>>
-    requires can { A.can_next answers }
-    requires ends { IsFinite (A.remaining answers) }
-{
-    let mut status = ACCEPTED;
-    for (place, answer) in (1u64..).zip(answers) {
-        match answer {
-            Ok(accepted) => write_accepted(out, &accepted)?,
-            Err(refused) => {
-                let refusal = Refusal::of(refused)?;
-                writeln!(out, "refused {place} {refusal}")?;
-                status = REFUSED;
-            }
+    place: u64,
+    answer: &Result<Receipt, NotCommitted>,
+) -> Result<u8, Fault<'a>> {
+    match answer {
+        Ok(receipt) => {
+            write_accepted(out, receipt)?;
+            Ok(ACCEPTED)
+        }
+        Err(why) => {
+            let refusal = Refusal::of_answer(*why)?;
+            writeln!(out, "refused {place} {refusal}")?;
+            Ok(REFUSED)
         }
     }
-    Ok(status)
 }
 
 /// Ends lines that were written through a buffer: what is left in it is written, unless a write has
@@ -109,22 +117,4 @@ pub(crate) fn finish<'a, T: Drop, W: Write + Drop>(
     let (_, _) = lines.into_parts();
     written?;
     ended
-}
-
-/// Writes a line for each answer to a block, in the order in which they were handed in:
-/// `accepted NUMBER HASH` and the flags, or `refused PLACE FAULT`. Returns what the process ends
-/// with, unless a fault ends it before: want of memory, behind the lines of the answers before it, or
-/// a write that failed, behind which nothing is written. No answer behind a fault is asked for. The
-/// memory is a buffer of a fixed size.
-pub fn write_answers<'a, A: Iterator<Item = Result<Accepted, Refused>> + Drop, W: Write>(
-    alloc: Global,
-    answers: A,
-    out: &mut W,
-) -> Result<u8, Fault<'a>>
-    requires can { A.can_next answers }
-    requires ends { IsFinite (A.remaining answers) }
-{
-    let mut lines = BufWriter::new(alloc, out)?;
-    let ended = write_each(&mut lines, answers);
-    finish(lines, ended)
 }

@@ -44,7 +44,11 @@ const LIMIT: Argument = Argument {
     name: "limit",
     value_name: "N",
     help: "The most rows that are printed, from 1 to 65535",
-    form: Form::Count("100"),
+    form: Form::Count {
+        default: "100",
+        least: 1,
+        most: u16::MAX,
+    },
 };
 
 /// Blocks in, and the rows of a namespace out.

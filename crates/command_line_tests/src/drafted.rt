@@ -4,13 +4,15 @@ use crate::fixture::{CHANNEL, File, MemoryFiles, OneOut, expect_rows};
 use crate::signatures::keys;
 use std::cell::Cell;
 use std::process::Abort;
+use std::sync::Wait;
 use std::test::Fail;
+use std::thread::Threads;
 
 mod vectors;
 
 // Drafts the script of these files, and wants this block written once.
 fn expect_block<'a>(
-    rt: &(impl Abort + AllocGlobal),
+    rt: &(impl Abort + AllocGlobal + Threads + Wait + Sync),
     files: &'a [File<'a>],
     after: &str,
     block: &'a [u8],

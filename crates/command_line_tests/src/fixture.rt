@@ -6,7 +6,9 @@ use std::io;
 use std::io::{ErrorKind, Write};
 use std::process::Abort;
 use std::str::from_utf8;
+use std::sync::Wait;
 use std::test::Fail;
+use std::thread::Threads;
 use values::Bytes;
 
 pub(crate) const CHANNEL: &[u8] = b"channel ch\nchaincode cc OR('Org1.peer','Org2.peer')\n";
@@ -121,7 +123,7 @@ impl Write for Full {
 /// Runs the program on these words behind its name, and wants this status and these texts of
 /// standard output and standard error.
 pub(crate) fn expect(
-    rt: &(impl Abort + AllocGlobal),
+    rt: &(impl Abort + AllocGlobal + Threads + Wait + Sync),
     files: &[File<'_>],
     words: &[&str],
     status: u8,
@@ -149,7 +151,7 @@ pub(crate) fn words_of<'a>(alloc: Global, text: &'a str) -> Result<Vec<&'a str>,
 
 /// Runs the program as the rows say, and wants what they say.
 pub(crate) fn expect_rows<F: Files>(
-    rt: &(impl Abort + AllocGlobal),
+    rt: &(impl Abort + AllocGlobal + Threads + Wait + Sync),
     files: &F,
     rows: &[Row<'_>],
 ) -> Result<(), Fail> {
@@ -166,7 +168,7 @@ pub(crate) fn expect_rows<F: Files>(
 
 /// Hands these blocks in, of those that there are, and wants this status and these lines.
 pub(crate) fn expect_lines(
-    rt: &(impl Abort + AllocGlobal),
+    rt: &(impl Abort + AllocGlobal + Threads + Wait + Sync),
     blocks: &[File<'_>],
     handed_in: &[&str],
     status: u8,
@@ -181,7 +183,7 @@ pub(crate) fn expect_lines(
 
 /// What the program ends with and writes to standard output and standard error, on these words
 /// behind its name.
-pub(crate) fn ended<R: AllocGlobal, F: Files>(
+pub(crate) fn ended<R: AllocGlobal + Threads + Wait + Sync, F: Files>(
     rt: &R,
     files: &F,
     words: &[&str],
@@ -192,7 +194,7 @@ pub(crate) fn ended<R: AllocGlobal, F: Files>(
 }
 
 // The same of words of which the first is the program's name.
-fn end_of<R: AllocGlobal, F: Files>(
+fn end_of<R: AllocGlobal + Threads + Wait + Sync, F: Files>(
     rt: &R,
     files: &F,
     words: &[&str],

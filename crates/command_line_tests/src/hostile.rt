@@ -6,7 +6,9 @@ use command_line::{FileFault, Files, program};
 use std::alloc::Global;
 use std::process::Abort;
 use std::str::from_utf8;
+use std::sync::Wait;
 use std::test::Fail;
+use std::thread::Threads;
 use values::Bytes;
 
 // Of the files the first two can be read, `s` is a script, `b0` a block and `last` the one of the greatest number.
@@ -49,7 +51,7 @@ static ROWS: [Row; 31] = [
 ];
 
 fn expect_all_rows<'a>(
-    rt: &(impl Abort + AllocGlobal),
+    rt: &(impl Abort + AllocGlobal + Threads + Wait + Sync),
     block: &'a [u8],
     last: &'a [u8],
 ) -> Result<(), Fail> {
@@ -122,7 +124,11 @@ static SCRIPTS: [(&str, &str); 30] = [
 ];
 
 // Drafts a script, which ends with this line on standard error.
-fn expect_fault(rt: &(impl Abort + AllocGlobal), script: &str, err: &str) -> Result<(), Fail> {
+fn expect_fault(
+    rt: &(impl Abort + AllocGlobal + Threads + Wait + Sync),
+    script: &str,
+    err: &str,
+) -> Result<(), Fail> {
     let files = [("c", CHANNEL), ("k", KEYS), ("s", script.as_bytes())];
     expect_rows(rt, &MemoryFiles(&files), &[("draft s out", 3, "", err)])
 }
@@ -137,7 +143,7 @@ fn faulty_lines(rt: HostRuntime) -> Result<(), Fail> {
 
 // Drafts a transaction with a value of so many bytes, which is one of 1,048,576 bytes where they are 1,048,439.
 fn expect_long(
-    rt: &(impl Abort + AllocGlobal),
+    rt: &(impl Abort + AllocGlobal + Threads + Wait + Sync),
     bytes: usize,
     more: &str,
     err: &str,
@@ -184,7 +190,7 @@ fn a_block_for_which_memory_is_missing(rt: HostRuntime) -> Result<(), Fail> {
 
 // Asks into a writer that takes so many bytes: it has the front of the lines.
 fn expect_cut(
-    rt: &(impl Abort + AllocGlobal),
+    rt: &(impl Abort + AllocGlobal + Threads + Wait + Sync),
     files: &[File<'_>],
     words: &str,
     lines: &str,

@@ -4,7 +4,9 @@ use crate::fixture::{CHANNEL, HASH_0, KEYS, NO_DATA, block, empty_ones, ended};
 use command_line::{DiskFiles, Files};
 use std::alloc::{AllocError, Global};
 use std::path::PathBuf;
+use std::sync::Wait;
 use std::test::Fail;
+use std::thread::Threads;
 use std::{env, fs, process};
 
 // SHA-256 of 1,048,576 bytes of zero, and the hash of the header of block 0 with it.
@@ -19,13 +21,17 @@ fn place(rt: &HostRuntime, name: &str) -> Result<PathBuf, Fail> {
     Ok(env::temp_dir(rt)?.join(rt.alloc(), name.as_str())?)
 }
 
-// What the program ends with and writes, where this block is handed in from a file.
-fn ended_on_disk(rt: &HostRuntime, block: &[u8]) -> Result<(u8, String, String), Fail> {
-    let files = DiskFiles::new(rt);
+// What the program ends with and writes, where this block is handed in from a file of the host.
+fn ended_on_disk<R: AllocGlobal + Threads + Wait + Sync>(
+    rt: &R,
+    host: &HostRuntime,
+    block: &[u8],
+) -> Result<(u8, String, String), Fail> {
+    let files = DiskFiles::new(host);
     let (channel, keys, path) = (
-        place(rt, "channel")?,
-        place(rt, "keys")?,
-        place(rt, "block")?,
+        place(host, "channel")?,
+        place(host, "keys")?,
+        place(host, "block")?,
     );
     let paths = [channel.as_str(), keys.as_str(), path.as_str()];
     for (path, bytes) in paths.iter().zip([CHANNEL, KEYS, block]) {
@@ -38,7 +44,7 @@ fn ended_on_disk(rt: &HostRuntime, block: &[u8]) -> Result<(u8, String, String),
         &["run", "--channel", channel, "--keys", keys, path],
     );
     for path in paths {
-        let _ = fs::remove_file(rt, path);
+        let _ = fs::remove_file(host, path);
     }
     got
 }
@@ -59,11 +65,11 @@ fn the_longest_transaction(rt: HostRuntime) -> Result<(), Fail> {
     let data = hex::decode(alloc, LONGEST_DATA)?;
     let bytes = block(alloc, 0, b"", &data, &one_of(alloc, 1 << 20)?)?;
     let line = format!(in alloc; "accepted 0 {LONGEST_HASH} 2\n")?;
-    let (status, out, err) = ended_on_disk(&rt, &bytes)?;
+    let (status, out, err) = ended_on_disk(&rt, &rt, &bytes)?;
     assert!(rt; (status, out.as_str(), err.as_str()) == (0, line.as_str(), ""));
 
     let bytes = block(alloc, 0, b"", &data, &one_of(alloc, (1 << 20) + 1)?)?;
-    let (status, out, err) = ended_on_disk(&rt, &bytes)?;
+    let (status, out, err) = ended_on_disk(&rt, &rt, &bytes)?;
     assert!(rt; (status, out.as_str(), err.as_str()) == (1, "refused 1 C1 B5\n", ""));
     Ok(())
 }
@@ -78,11 +84,11 @@ fn the_most_transactions(rt: HostRuntime) -> Result<(), Fail> {
     }
     line.push('\n')?;
     let bytes = block(alloc, 0, b"", &NO_DATA, &empty_ones(alloc, 4096)?)?;
-    let (status, out, err) = ended_on_disk(&rt, &bytes)?;
+    let (status, out, err) = ended_on_disk(&rt, &rt, &bytes)?;
     assert!(rt; (status, out.as_str(), err.as_str()) == (0, line.as_str(), ""));
 
     let bytes = block(alloc, 0, b"", &NO_DATA, &empty_ones(alloc, 4097)?)?;
-    let (status, out, err) = ended_on_disk(&rt, &bytes)?;
+    let (status, out, err) = ended_on_disk(&rt, &rt, &bytes)?;
     assert!(rt; (status, out.as_str(), err.as_str()) == (1, "refused 1 C1 B4\n", ""));
     Ok(())
 }

@@ -7,22 +7,26 @@ use std::alloc::AllocError;
 use std::io::ErrorKind;
 use std::process::Abort;
 use std::str::from_utf8;
+use std::sync::Wait;
 use std::test::Fail;
+use std::thread::Threads;
 
-const WORDS: [&str; 8] = [
+const WORDS: [&str; 10] = [
     "fabcommit",
     "run",
+    "--workers=2",
     "--channel",
     "c",
     "--keys",
     "k",
     "b0",
     "b0",
+    "--readers=1",
 ];
 
-// Runs the block 0 twice into this writer, and wants this end and these bytes taken by it.
+// Runs the block 0 twice into this writer, and then a reader, and wants this end and these bytes taken by it.
 fn expect_end(
-    rt: &(impl Abort + AllocGlobal),
+    rt: &(impl Abort + AllocGlobal + Threads + Wait + Sync),
     mut out: Full,
     taken: &str,
     status: u8,
@@ -43,11 +47,19 @@ fn standard_output_that_fails(rt: HostRuntime) -> Result<(), Fail> {
     let alloc = rt.alloc();
     let fault = "cannot write standard output\n";
     let first = format!(in alloc; "accepted 0 {HASH_0}\n")?;
-    let both = format!(in alloc; "{first}refused 2 C2 want 1 got 0\n")?;
-    // at the first line, and in the middle of the second
+    let both = format!(in alloc; "{first}refused 2 C2 want 1 got 0\nreader 1 height 1\n")?;
+    // at the first line, and in the middle of each other
     expect_end(&rt, Full::after(alloc, 0), "", 3, fault)?;
-    let half = format!(in alloc; "{first}refused")?;
-    expect_end(&rt, Full::after(alloc, half.len()), half.as_str(), 3, fault)?;
+    for rest in ["refused", "refused 2 C2 want 1 got 0\nreader 1"] {
+        let front = format!(in alloc; "{first}{rest}")?;
+        expect_end(
+            &rt,
+            Full::after(alloc, front.len()),
+            front.as_str(),
+            3,
+            fault,
+        )?;
+    }
     // when all is written
     let mut unflushed = Full::after(alloc, 1000);
     unflushed.flushes = false;
@@ -61,7 +73,7 @@ fn standard_output_that_fails(rt: HostRuntime) -> Result<(), Fail> {
 
 // To a writer that takes nothing at first and all later.
 fn expect_nothing_behind_a_failure(
-    rt: &(impl Abort + AllocGlobal),
+    rt: &(impl Abort + AllocGlobal + Threads + Wait + Sync),
     files: &[File<'_>],
     words: &[&str],
 ) {
@@ -78,7 +90,7 @@ fn expect_nothing_behind_a_failure(
 #[test]
 fn nothing_is_written_behind_a_failure(rt: HostRuntime) -> Result<(), AllocError> {
     let files = [("c", CHANNEL), ("k", KEYS), ("b", b"".as_slice())];
-    let mut words = Vec::from_slice(rt.alloc(), &WORDS[..6])?;
+    let mut words = Vec::from_slice(rt.alloc(), &WORDS[..7])?;
     for _ in 0..5000 {
         words.push("b")?;
     }
@@ -92,7 +104,7 @@ fn nothing_is_written_behind_a_failed_line(rt: HostRuntime) -> Result<(), AllocE
     let txs = empty_ones(rt.alloc(), 4096)?;
     let block = block(rt.alloc(), 0, b"", &NO_DATA, &txs)?;
     let files = [("c", CHANNEL), ("k", KEYS), ("b0", block.as_slice())];
-    expect_nothing_behind_a_failure(&rt, &files, &WORDS[..7]);
+    expect_nothing_behind_a_failure(&rt, &files, &WORDS[..8]);
     Ok(())
 }
 

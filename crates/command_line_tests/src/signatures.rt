@@ -10,6 +10,18 @@ pub(crate) use vectors::keys;
 #[test]
 fn signatures_over_this_and_that(rt: HostRuntime) -> Result<(), Fail> {
     let files = [("c", CHANNEL), ("k", keys()), ("b", block())];
-    let words = ["run", "--channel", "c", "--keys", "k", "b"];
-    expect(&rt, &files, &words, 0, LINE, "")
+    for workers in ["1", "5"] {
+        let words = [
+            "run",
+            "--workers",
+            workers,
+            "--channel",
+            "c",
+            "--keys",
+            "k",
+            "b",
+        ];
+        expect(&rt, &files, &words, 0, LINE, "")?;
+    }
+    Ok(())
 }

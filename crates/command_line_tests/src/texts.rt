@@ -93,6 +93,8 @@ fn files_that_cannot_be_read(rt: HostRuntime) -> Result<(), Fail> {
     let files = [channel, keys, ("b0", block.as_slice())];
     let words = [
         "run",
+        "--workers=2",
+        "--readers=2",
         "--channel",
         "c.txt",
         "--keys",

@@ -8,7 +8,10 @@ use std::test::Fail;
 
 const COMMAND: &str = "Usage: fabcommit <COMMAND>\n";
 
-const RUN: &str = "Usage: fabcommit run --channel <FILE> --keys <FILE> <BLOCK>...\n";
+const RUN: &str = "Usage: fabcommit run [OPTIONS] --channel <FILE> --keys <FILE> <BLOCK>...\n";
+
+// Where a required argument is missing, without the others.
+const LEAST_RUN: &str = "Usage: fabcommit run --channel <FILE> --keys <FILE> <BLOCK>...\n";
 
 const DRAFT: &str =
     "Usage: fabcommit draft [OPTIONS] --channel <FILE> --keys <FILE> <SCRIPT> <OUT>\n";
@@ -25,7 +28,7 @@ const HISTORY: &str =
 // Words behind the program's name, and two texts that what is said of them has.
 type Row = (&'static [&'static str], &'static str, &'static str);
 
-const MISTAKES: [Row; 16] = [
+const MISTAKES: [Row; 21] = [
     (
         &[],
         "'fabcommit' requires a subcommand but one was not provided",
@@ -35,14 +38,22 @@ const MISTAKES: [Row; 16] = [
     (
         &["run"],
         "the following required arguments were not provided:",
-        RUN,
+        LEAST_RUN,
     ),
-    (&["run", "--keys", "k", "b"], "\n  --channel <FILE>\n", RUN),
-    (&["run", "--channel", "c", "b"], "\n  --keys <FILE>\n", RUN),
+    (
+        &["run", "--keys", "k", "b"],
+        "\n  --channel <FILE>\n",
+        LEAST_RUN,
+    ),
+    (
+        &["run", "--channel", "c", "b"],
+        "\n  --keys <FILE>\n",
+        LEAST_RUN,
+    ),
     (
         &["run", "--channel", "c", "--keys", "k"],
         "\n  <BLOCK>...\n",
-        RUN,
+        LEAST_RUN,
     ),
     (
         &["run", "--channel", "c", "--keys", "k", "-w", "b"],
@@ -104,9 +115,43 @@ const MISTAKES: [Row; 16] = [
         "a number is written with digits alone",
         COMMAND,
     ),
+    (
+        &["run", "--workers", "0"],
+        "invalid value '0' for '--workers <N>': 0 is not in 1..=64",
+        "--help",
+    ),
+    (
+        &["run", "--workers", "65"],
+        "invalid value '65' for '--workers <N>': 65 is not in 1..=64",
+        "--help",
+    ),
+    (
+        &["run", "--readers", "33"],
+        "invalid value '33' for '--readers <N>': 33 is not in 0..=32",
+        "--help",
+    ),
+    (
+        &["run", "--readers", "two"],
+        "invalid value 'two' for '--readers <N>': invalid digit found in string",
+        "--help",
+    ),
+    (
+        &[
+            "run",
+            "--channel",
+            "c",
+            "--keys",
+            "k",
+            "--workers",
+            "+2",
+            "b",
+        ],
+        "a number is written with digits alone",
+        COMMAND,
+    ),
 ];
 
-const HELP: [Row; 8] = [
+const HELP: [Row; 9] = [
     (&["--help"], "\nCommands:\n  draft ", COMMAND),
     (&["help"], "\nExample, from a script to what", COMMAND),
     (&["draft", "-h"], "\nExample:\n  fabcommit draft ", DRAFT),
@@ -120,6 +165,11 @@ const HELP: [Row; 8] = [
     (
         &["run", "--help"],
         "\nOptions:\n      --channel <FILE>",
+        RUN,
+    ),
+    (
+        &["help", "run"],
+        "\n  Workers share the transactions of a block",
         RUN,
     ),
     (

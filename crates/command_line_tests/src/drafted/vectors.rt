@@ -55,7 +55,7 @@ pub(crate) fn answers() -> &'static [Row<'static>] {
     &ANSWERS
 }
 
-static ANSWERS: [Row<'static>; 21] = [
+static ANSWERS: [Row<'static>; 27] = [
     (
         "run b0",
         0,
@@ -113,6 +113,42 @@ static ANSWERS: [Row<'static>; 21] = [
         "run b0 b1",
         0,
         "accepted 0 3cb144bec4df02fe7692bec3a61fd9854ab76719525cb5a05c503649c91e4ae3 0\naccepted 1 16bb8de34d5b806b6eaebe03554760ff5042823dc0a388688fe81a72e16addbc 0 0\n",
+        "",
+    ),
+    (
+        "run --workers 1 --readers 2 b0 b0 b1 k",
+        1,
+        "accepted 0 3cb144bec4df02fe7692bec3a61fd9854ab76719525cb5a05c503649c91e4ae3 0\nrefused 2 C2 want 1 got 0\naccepted 1 16bb8de34d5b806b6eaebe03554760ff5042823dc0a388688fe81a72e16addbc 0 0\nrefused 4 C1 B1\nreader 1 height 2\nreader 2 height 2\n",
+        "",
+    ),
+    (
+        "run --workers 2 --readers 0 b0 b0 b1 k",
+        1,
+        "accepted 0 3cb144bec4df02fe7692bec3a61fd9854ab76719525cb5a05c503649c91e4ae3 0\nrefused 2 C2 want 1 got 0\naccepted 1 16bb8de34d5b806b6eaebe03554760ff5042823dc0a388688fe81a72e16addbc 0 0\nrefused 4 C1 B1\n",
+        "",
+    ),
+    (
+        "run --workers 2 --readers 2 b0 b0 b1 k",
+        1,
+        "accepted 0 3cb144bec4df02fe7692bec3a61fd9854ab76719525cb5a05c503649c91e4ae3 0\nrefused 2 C2 want 1 got 0\naccepted 1 16bb8de34d5b806b6eaebe03554760ff5042823dc0a388688fe81a72e16addbc 0 0\nrefused 4 C1 B1\nreader 1 height 2\nreader 2 height 2\n",
+        "",
+    ),
+    (
+        "run --workers 64 --readers 0 b0 b0 b1 k",
+        1,
+        "accepted 0 3cb144bec4df02fe7692bec3a61fd9854ab76719525cb5a05c503649c91e4ae3 0\nrefused 2 C2 want 1 got 0\naccepted 1 16bb8de34d5b806b6eaebe03554760ff5042823dc0a388688fe81a72e16addbc 0 0\nrefused 4 C1 B1\n",
+        "",
+    ),
+    (
+        "run --workers 64 --readers 32 b0 b0 b1 k",
+        1,
+        "accepted 0 3cb144bec4df02fe7692bec3a61fd9854ab76719525cb5a05c503649c91e4ae3 0\nrefused 2 C2 want 1 got 0\naccepted 1 16bb8de34d5b806b6eaebe03554760ff5042823dc0a388688fe81a72e16addbc 0 0\nrefused 4 C1 B1\nreader 1 height 2\nreader 2 height 2\nreader 3 height 2\nreader 4 height 2\nreader 5 height 2\nreader 6 height 2\nreader 7 height 2\nreader 8 height 2\nreader 9 height 2\nreader 10 height 2\nreader 11 height 2\nreader 12 height 2\nreader 13 height 2\nreader 14 height 2\nreader 15 height 2\nreader 16 height 2\nreader 17 height 2\nreader 18 height 2\nreader 19 height 2\nreader 20 height 2\nreader 21 height 2\nreader 22 height 2\nreader 23 height 2\nreader 24 height 2\nreader 25 height 2\nreader 26 height 2\nreader 27 height 2\nreader 28 height 2\nreader 29 height 2\nreader 30 height 2\nreader 31 height 2\nreader 32 height 2\n",
+        "",
+    ),
+    (
+        "run --workers 02 --readers 1 k",
+        1,
+        "refused 1 C1 B1\nreader 1 height 0\n",
         "",
     ),
     (

@@ -1,0 +1,9 @@
+use Rattle.std.proofs.Common.{◌≡◌}
+use Rattle.std.specs.List.{All}
+use Rattle.std.specs.Vec.Iter.{into_iter_items}
+use Rattle.command_line.proofs.readers.start.Given as goal
+
+abbrev pub invariant-loop-handle : goal.invariant-loop-handle
+invariant-loop-handle g l =
+    All (λ reader. reader.promise.0.value.book ≡ l.committer.book) l.readers.items
+    × All (λ handle. handle.book ≡ l.committer.book) (into_iter_items l.handle-iterator)

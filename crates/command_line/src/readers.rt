@@ -1,0 +1,93 @@
+//! Readers: threads that query while blocks are handed in.
+ghost use Rattle.std.specs.Prelude.{◌≡◌, All, IfOk, IfSome};
+
+use crate::fault::Fault;
+use commit::{Committer, QueryFault, QueryHandle, Receipt};
+use std::alloc::{AllocError, Global};
+use std::io::Write;
+use std::snapshot::Snapshot;
+use std::thread::{Promise, PromisedHandle, Scope, Threads};
+
+/// How often each reader asks.
+const QUESTIONS: u32 = 1_000;
+
+/// That a reader's thread gives back a handle of the committer whose handle it was given.
+#[derive(Drop)]
+pub(crate) struct SameCommitter(Snapshot<QueryHandle>);
+
+impl Promise<Result<QueryHandle, QueryFault>> for SameCommitter {
+    ghost kept_by = { λ promise back. IfOk back (λ handle. handle.book ≡ promise.0.value.book) };
+}
+
+/// A reader's thread, which gives the handle back that it asked by.
+pub(crate) type Reader = PromisedHandle<Result<QueryHandle, QueryFault>, SameCommitter>;
+
+// Asks for the height, again and again.
+fn ask(mut handle: QueryHandle) -> Result<QueryHandle, QueryFault>
+    ensures { IfOk result (λ back. back.book ≡ handle.book) }
+{
+    for _ in 0..QUESTIONS {
+        handle.height()?;
+    }
+    Ok(handle)
+}
+
+// Starts a thread for a handle of the committer, which is here for the clauses alone.
+fn start_one<'s, E>(
+    scope: &Scope<'s, E>,
+    committer: &Committer,
+    handle: QueryHandle,
+) -> Result<Reader, AllocError>
+    requires { handle.book ≡ committer.now.book }
+    ensures { IfOk result (λ reader. reader.promise.0.value.book ≡ committer.now.book) }
+{
+    let _committer = committer;
+    let promise = SameCommitter(Snapshot::of(&handle));
+    Ok(scope.spawn_with(promise, move || ask(handle))?)
+}
+
+/// Starts a thread for each handle of the committer.
+pub(crate) fn start<'s, E>(
+    alloc: Global,
+    scope: &Scope<'s, E>,
+    committer: &Committer,
+    handles: Vec<QueryHandle>,
+) -> Result<Vec<Reader>, AllocError>
+    requires { All (λ handle. handle.book ≡ committer.now.book) handles.items }
+    ensures { IfOk result (λ readers. All (λ reader. reader.promise.0.value.book ≡ committer.now.book) readers.items) }
+{
+    let mut readers = Vec::with_capacity(alloc, handles.len())?;
+    for handle in handles {
+        readers.push(start_one(scope, committer, handle)?)?;
+    }
+    Ok(readers)
+}
+
+// What a handle answers that was told of the last block.
+fn height_behind(mut handle: QueryHandle, last: &Option<Receipt>) -> Result<u64, QueryFault>
+    requires { IfSome last.now (λ receipt. handle.book ≡ receipt.front.book) }
+{
+    if let Some(receipt) = last {
+        handle.learn(receipt);
+    }
+    Ok(handle.height()?.answer)
+}
+
+/// Tells the readers, whose threads have ended, of the last block, and writes for each a line with the
+/// height that it then finds: `reader J height H`, J from 1. Takes no memory.
+pub(crate) fn write_heights<'a, R: Threads, W: Write>(
+    rt: &R,
+    readers: Vec<Reader>,
+    last: &Option<Receipt>,
+    out: &mut W,
+) -> Result<(), Fault<'a>>
+    requires { All (λ reader. IfSome last.now (λ receipt. reader.promise.0.value.book ≡ receipt.front.book)) readers.items }
+{
+    let mut place = 0u64;
+    for reader in readers {
+        place = place.wrapping_add(1);
+        let height = height_behind(reader.join(rt)?, last)?;
+        writeln!(out, "reader {place} height {height}")?;
+    }
+    Ok(())
+}
