@@ -1,5 +1,6 @@
-//! Tests of published heights, and of the committer that publishes them. Blocks are drafted from scripts; what handles answer is
-//! compared with what the scripts say, and with what a world of its own answers.
+//! Tests of published heights, and of the committer that publishes them. Blocks are drafted from scripts, or those of the
+//! chain that is made in Python; what handles answer is compared with what the scripts say, and with what a world of its own
+//! answers.
 #![tactic(auto)]
 
 #[cfg(test)]
