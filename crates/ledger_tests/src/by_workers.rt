@@ -3,6 +3,7 @@
 use crate::failed::Failed;
 use crate::fixture::configuration;
 use crate::scripted::ScriptedPeer;
+use block::MAX_TXS;
 use chain_vectors::worked::worked;
 use chain_vectors::{Scripted, WorkedChain};
 use commit::{Committer, Flag};
@@ -45,7 +46,7 @@ fn is_taken<R: Threads + Wait + Sync>(
     block: &Scripted,
 ) -> Result<bool, Failed> {
     let bytes = peer.block(alloc, block.script)?;
-    let reverse = Reverse::new(alloc, block.flags.len() as u32)?;
+    let reverse = Reverse::new(alloc, block.flags.len().min(MAX_TXS) as u32)?;
     Ok(
         is_committed(rt, committer, peer, bytes.as_slice(), block.flags, &Open)
             && is_committed(
