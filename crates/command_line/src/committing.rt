@@ -21,7 +21,7 @@ pub(crate) struct Committed {
     pub(crate) last: Option<Receipt>,
 }
 
-// Of a committer's clause, whose receipts are for the handles of the same committer.
+// What counts here of a committer's clause: it stays that of its handles, and its receipts are for them.
 fn submit<R: Threads + Wait + Sync>(
     rt: &R,
     committer: &mut Committer,
