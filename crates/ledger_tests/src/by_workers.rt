@@ -1,11 +1,13 @@
-//! The short chains once more, by committers of few and of many workers.
+//! The chains once more, by committers of few and of many workers.
 
 use crate::failed::Failed;
 use crate::fixture::configuration;
 use crate::scripted::ScriptedPeer;
 use block::MAX_TXS;
+use chain_vectors::first_blocks::first_blocks;
+use chain_vectors::later_blocks::later_blocks;
 use chain_vectors::worked::worked;
-use chain_vectors::{Scripted, WorkedChain};
+use chain_vectors::{Committed, SaysOk, Scripted, WorkedChain};
 use commit::{Committer, Flag};
 use gates::{Gate, Open, Reverse};
 use std::alloc::Global;
@@ -122,5 +124,45 @@ fn first_other<R: Threads + Wait + Sync>(
 fn flags_by_workers(rt: HostRuntime) -> Result<(), Failed> {
     let other = first_other(&rt, rt.alloc())?;
     assert!(rt; other.is_none(), "{other:?}");
+    Ok(())
+}
+
+// Whether the committer accepts these blocks of the chain with their header hashes and flags.
+fn are_accepted<R: Threads + Wait + Sync>(
+    rt: &R,
+    committer: &mut Committer,
+    blocks: &[Committed],
+) -> bool {
+    for block in blocks {
+        let Ok(receipt) = committer.submit(rt, block.bytes, &SaysOk, &Open) else {
+            return false;
+        };
+        if receipt.header_hash != *block.header_hash
+            || !are_numbered(receipt.flags.as_slice(), block.flags)
+            || committer.gathered() != 0
+        {
+            return false;
+        }
+    }
+    true
+}
+
+fn is_chain_accepted<R: Threads + Wait + Sync>(
+    rt: &R,
+    alloc: Global,
+    workers: usize,
+) -> Result<bool, Failed> {
+    let mut committer = opened(rt, alloc, workers)?;
+    let are_accepted = are_accepted(rt, &mut committer, first_blocks())
+        && are_accepted(rt, &mut committer, later_blocks());
+    committer.close(rt);
+    Ok(are_accepted)
+}
+
+#[test]
+fn the_chain_by_workers(rt: HostRuntime) -> Result<(), Failed> {
+    for workers in &WORKERS {
+        assert!(rt; is_chain_accepted(&rt, rt.alloc(), *workers)?);
+    }
     Ok(())
 }

@@ -139,3 +139,18 @@ pub fn is_height_alike(handle: &mut QueryHandle, world: &World) -> Result<bool, 
     let reply = handle.height()?;
     Ok(is_of(&reply, world) && reply.answer == world.height())
 }
+
+/// Whether the blocks up to this number, and the height, are answered alike.
+pub fn are_blocks_alike(
+    alloc: Global,
+    handle: &mut QueryHandle,
+    world: &World,
+    last: u64,
+) -> Result<bool, Failed> {
+    for number in 0..=last {
+        if !is_block_alike(alloc, handle, world, number)? {
+            return Ok(false);
+        }
+    }
+    is_height_alike(handle, world)
+}

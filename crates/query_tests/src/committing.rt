@@ -1,7 +1,7 @@
 //! A committer answers and publishes what a ledger does on one thread, whatever its workers, their order, and what is refused
 //! between its blocks.
 
-use crate::asking::{is_block_alike, is_height_alike, is_key_alike, is_range_alike, is_use_alike};
+use crate::asking::{are_blocks_alike, is_key_alike, is_range_alike, is_use_alike};
 use crate::blocks::{Drafter, configuration};
 use crate::failed::Failed;
 use crate::spoiling::spoiled;
@@ -77,19 +77,6 @@ fn are_keys_alike(alloc: Global, handle: &mut QueryHandle, world: &World) -> Res
     )
 }
 
-fn are_blocks_alike(
-    alloc: Global,
-    handle: &mut QueryHandle,
-    world: &World,
-) -> Result<bool, Failed> {
-    for number in 0..=BLOCKS {
-        if !is_block_alike(alloc, handle, world, number)? {
-            return Ok(false);
-        }
-    }
-    is_height_alike(handle, world)
-}
-
 fn are_uses_alike(
     handle: &mut QueryHandle,
     world: &World,
@@ -111,7 +98,7 @@ fn is_published_alike(
 ) -> Result<bool, Failed> {
     Ok(
         are_keys_alike(alloc, handle, world)?
-            && are_blocks_alike(alloc, handle, world)?
+            && are_blocks_alike(alloc, handle, world, BLOCKS)?
             && are_uses_alike(handle, world, uses)?,
     )
 }

@@ -1,6 +1,6 @@
 //! At each height of the chain of 32 blocks each query answers what a world of its own answers.
 
-use crate::asking::{is_block_alike, is_height_alike, is_key_alike, is_range_alike, is_use_alike};
+use crate::asking::{are_blocks_alike, is_key_alike, is_range_alike, is_use_alike};
 use crate::failed::Failed;
 use crate::publishing::publish_next;
 use chain_vectors::first_blocks::first_blocks;
@@ -46,19 +46,6 @@ fn are_keys_alike(alloc: Global, handle: &mut QueryHandle, world: &World) -> Res
     Ok(true)
 }
 
-fn are_blocks_alike(
-    alloc: Global,
-    handle: &mut QueryHandle,
-    world: &World,
-) -> Result<bool, Failed> {
-    for number in 0..=BLOCKS {
-        if !is_block_alike(alloc, handle, world, number)? {
-            return Ok(false);
-        }
-    }
-    is_height_alike(handle, world)
-}
-
 fn are_uses_alike(handle: &mut QueryHandle, world: &World) -> Result<bool, Failed> {
     for bytes in uses() {
         if !is_use_alike(handle, world, &read_use(bytes).id)? {
@@ -70,7 +57,7 @@ fn are_uses_alike(handle: &mut QueryHandle, world: &World) -> Result<bool, Faile
 
 fn check_alike(alloc: Global, handle: &mut QueryHandle, world: &World) -> Result<(), Failed> {
     if are_keys_alike(alloc, handle, world)?
-        && are_blocks_alike(alloc, handle, world)?
+        && are_blocks_alike(alloc, handle, world, BLOCKS)?
         && are_uses_alike(handle, world)?
     {
         return Ok(());

@@ -1,23 +1,25 @@
-//! Threads that ask while blocks are published.
+//! Threads that ask while a committer takes blocks.
 ghost use Rattle.std.specs.Prelude.{◌≡◌, All, IfOk, IfSome};
 
-use crate::blocks::{Drafter, key, name};
+use crate::blocks::{Drafter, configuration, key, name};
 use crate::failed::Failed;
-use crate::publishing::publish_next;
-use query::{Publisher, QueryHandle, Receipt, Reply, open};
-use rules::{Delta, Row};
+use commit::{Committer, QueryHandle, Receipt, Reply};
+use gates::Open;
+use key_book::KeyBook;
+use rules::Row;
 use std::alloc::{AllocError, Global};
 use std::sync::Wait;
 use std::sync::atomic::{AtomicBool, AtomicU64, Ordering};
 use std::thread;
 use std::thread::Threads;
-use values::Hash;
-use world::World;
+use values::{Bytes, Hash};
 
 /// One more handle stays silent.
 const READERS: u64 = 31;
 
 const BLOCKS: u64 = 100;
+
+const WORKERS: usize = 2;
 
 /// How often who waits for others looks whether to go on.
 const TURNS: u32 = 2_000_000;
@@ -134,19 +136,34 @@ fn read(alloc: Global, mut handle: QueryHandle, watched: &Watched) {
     }
 }
 
-fn publish_all<R: Wait>(
+fn submit_next<R: Threads + Wait + Sync>(
     rt: &R,
-    alloc: Global,
-    publisher: &mut Publisher,
-    deltas: Vec<Delta>,
+    committer: &mut Committer,
+    keys: &KeyBook,
+    bytes: &[u8],
+) -> Result<Receipt, Failed>
+    ensures book { committer.new.book ≡ committer.old.book }
+    ensures receipt { IfOk result (λ r. r.front.book ≡ committer.old.book) }
+{
+    match committer.submit(rt, bytes, keys, &Open) {
+        Ok(receipt) => Ok(receipt),
+        Err(_) => Err(Failed::Missing("a receipt")),
+    }
+}
+
+fn submit_all<R: Threads + Wait + Sync>(
+    rt: &R,
+    committer: &mut Committer,
+    keys: &KeyBook,
+    blocks: &[Bytes],
     watched: &Watched,
 ) -> Result<Option<Receipt>, Failed>
-    ensures { IfOk result (λ last. IfSome last (λ r. r.front.book ≡ publisher.old.book)) }
+    ensures { IfOk result (λ last. IfSome last (λ r. r.front.book ≡ committer.old.book)) }
 {
     let mut last = None;
     watched.wait_for_readers();
-    for delta in deltas {
-        last = Some(publish_next(rt, alloc, publisher, delta)?);
+    for bytes in blocks {
+        last = Some(submit_next(rt, committer, keys, bytes.as_slice())?);
         watched.wait_for_reply();
     }
     Ok(last)
@@ -164,18 +181,18 @@ fn told_height(silent: &mut QueryHandle, last: Option<Receipt>) -> Result<u64, F
     Ok(reply.height)
 }
 
-// Publishes, ends the readers, and tells what the silent handle then answers.
-fn publish_and_tell<R: Wait>(
+// Submits, ends the readers, and tells what the silent handle then answers.
+fn submit_and_tell<R: Threads + Wait + Sync>(
     rt: &R,
-    alloc: Global,
-    publisher: &mut Publisher,
+    committer: &mut Committer,
     silent: &mut QueryHandle,
-    deltas: Vec<Delta>,
+    keys: &KeyBook,
+    blocks: &[Bytes],
     watched: &Watched,
 ) -> Result<u64, Failed>
-    requires { silent.old.book ≡ publisher.old.book }
+    requires { silent.old.book ≡ committer.old.book }
 {
-    let last = publish_all(rt, alloc, publisher, deltas, watched);
+    let last = submit_all(rt, committer, keys, blocks, watched);
     watched.is_over.store(true, Ordering::SeqCst);
     told_height(silent, last?)
 }
@@ -184,19 +201,20 @@ fn publish_and_tell<R: Wait>(
 fn height_behind_all<R: Threads + Wait + Sync>(
     rt: &R,
     alloc: Global,
-    publisher: &mut Publisher,
+    committer: &mut Committer,
     silent: &mut QueryHandle,
     handles: Vec<QueryHandle>,
-    deltas: Vec<Delta>,
+    keys: &KeyBook,
+    blocks: &[Bytes],
     watched: &Watched,
 ) -> Result<u64, Failed>
-    requires { silent.old.book ≡ publisher.old.book }
+    requires { silent.old.book ≡ committer.old.book }
 {
     thread::scope(
         thread::scope_env(),
         rt,
         |scope|
-            requires { silent.now.book ≡ publisher.now.book }
+            requires { silent.now.book ≡ committer.now.book }
         {
             for handle in handles {
                 let reader = move || read(alloc, handle, watched);
@@ -204,7 +222,7 @@ fn height_behind_all<R: Threads + Wait + Sync>(
                     watched.wrong.fetch_add(1, Ordering::SeqCst);
                 }
             }
-            publish_and_tell(rt, alloc, publisher, silent, deltas, watched)
+            submit_and_tell(rt, committer, silent, keys, blocks, watched)
         },
     )
 }
@@ -212,64 +230,91 @@ fn height_behind_all<R: Threads + Wait + Sync>(
 fn is_read_rightly<R: Threads + Wait + Sync>(
     rt: &R,
     alloc: Global,
-    publisher: &mut Publisher,
+    committer: &mut Committer,
     silent: &mut QueryHandle,
     handles: Vec<QueryHandle>,
-    deltas: Vec<Delta>,
+    keys: &KeyBook,
+    blocks: &[Bytes],
     watched: &Watched,
 ) -> Result<bool, Failed>
-    requires { silent.old.book ≡ publisher.old.book }
+    requires { silent.old.book ≡ committer.old.book }
 {
-    let height = height_behind_all(rt, alloc, publisher, silent, handles, deltas, watched)?;
+    let height = height_behind_all(rt, alloc, committer, silent, handles, keys, blocks, watched)?;
     Ok(height == BLOCKS && watched.wrong.load(Ordering::SeqCst) == 0)
 }
 
-fn drafted_next(alloc: Global, drafter: &mut Drafter, block: u64) -> Result<Delta, Failed> {
+fn drafted_next(
+    alloc: Global,
+    drafter: &mut Drafter,
+    block: u64,
+    hashes: &mut Vec<Hash>,
+) -> Result<Bytes, Failed> {
     let script = format!(in alloc;
         "tx Org1:client:c0 n{block} cc\nns cc\nwrite k {block}\nendorse Org1:peer:p0\n"
     )?;
-    drafter.next(script.as_str())
+    let bytes = drafter.drafted(script.as_str())?;
+    match drafter.submit(&bytes)? {
+        Ok(accepted) => hashes.push(accepted.header_hash)?,
+        Err(refused) => return Err(Failed::Refused(refused)),
+    }
+    Ok(bytes)
 }
 
-fn drafted(alloc: Global) -> Result<Vec<Delta>, Failed> {
-    let mut drafter = Drafter::open(alloc)?;
-    let mut deltas = Vec::new(alloc);
+// The blocks; their header hashes are kept beside.
+fn drafted(
+    alloc: Global,
+    drafter: &mut Drafter,
+    hashes: &mut Vec<Hash>,
+) -> Result<Vec<Bytes>, Failed> {
+    let mut blocks = Vec::new(alloc);
     for block in 0..BLOCKS {
-        deltas.push(drafted_next(alloc, &mut drafter, block)?)?;
+        blocks.push(drafted_next(alloc, drafter, block, hashes)?)?;
     }
-    Ok(deltas)
-}
-
-fn hashes_of(alloc: Global, deltas: &[Delta]) -> Result<Vec<Hash>, AllocError> {
-    let mut hashes = Vec::new(alloc);
-    for delta in deltas {
-        hashes.push(delta.block.get().header_hash)?;
-    }
-    Ok(hashes)
+    Ok(blocks)
 }
 
 fn with_all<R: Threads + Wait + Sync>(
     rt: &R,
     alloc: Global,
-    publisher: &mut Publisher,
+    committer: &mut Committer,
     mut handles: Vec<QueryHandle>,
 ) -> Result<bool, Failed>
-    requires { All (λ h. h.book ≡ publisher.old.book) handles.items }
+    requires { All (λ h. h.book ≡ committer.old.book) handles.items }
 {
     let Some(mut silent) = handles.pop() else {
         return Err(Failed::Missing("a handle"));
     };
-    let deltas = drafted(alloc)?;
-    let watched = Watched::over(hashes_of(alloc, deltas.as_slice())?);
-    is_read_rightly(rt, alloc, publisher, &mut silent, handles, deltas, &watched)
+    let mut drafter = Drafter::open(alloc)?;
+    let mut hashes = Vec::new(alloc);
+    let blocks = drafted(alloc, &mut drafter, &mut hashes)?;
+    let watched = Watched::over(hashes);
+    let (keys, blocks) = (drafter.keys(), blocks.as_slice());
+    is_read_rightly(
+        rt,
+        alloc,
+        committer,
+        &mut silent,
+        handles,
+        keys,
+        blocks,
+        &watched,
+    )
+}
+
+fn opened<R: Wait>(rt: &R, alloc: Global) -> Result<(Committer, Vec<QueryHandle>), Failed>
+    ensures { IfOk result (λ opened. All (λ h. h.book ≡ opened.0.book) opened.1.items) }
+{
+    match Committer::open(alloc, rt, configuration(alloc)?, WORKERS, 32) {
+        Ok(opened) => Ok(opened),
+        Err(_) => Err(Failed::Missing("a committer")),
+    }
 }
 
 #[test]
-fn readers_while_blocks_are_published(rt: HostRuntime) -> Result<(), Failed> {
-    let alloc = rt.alloc();
-    let (mut publisher, handles) = open(alloc, &rt, World::new(alloc), World::new(alloc), 32)?;
-    let is_right = with_all(&rt, alloc, &mut publisher, handles);
-    publisher.close(&rt);
+fn readers_while_blocks_are_submitted(rt: HostRuntime) -> Result<(), Failed> {
+    let (mut committer, handles) = opened(&rt, rt.alloc())?;
+    let is_right = with_all(&rt, rt.alloc(), &mut committer, handles);
+    committer.close(&rt);
     assert!(rt; is_right?);
     Ok(())
 }
