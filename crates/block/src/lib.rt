@@ -9,6 +9,6 @@ mod writer;
 
 pub use block::{Block, Header, MAX_TXS, Previous};
 pub use fault::BlockFault;
-pub use laws::{cut_blocks_are_refused, limits_are_the_definitions, one_reading};
+pub use laws::{limits_are_the_definitions, one_reading};
 pub use reader::decode_block;
 pub use writer::encode_block;

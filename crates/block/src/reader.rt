@@ -1,10 +1,10 @@
-ghost use Rattle.std.specs.Prelude.{◌≡◌, ℕ, ◌≤◌, ◌*◌, List, [], ◌++◌, length, take, drop, IfOk, IfErr, Ok, Err, ◌⊎◌};
+ghost use Rattle.std.specs.Prelude.{◌≡◌, ℕ, ◌<◌, ◌≤◌, ◌*◌, List, [], ◌++◌, length, take, drop, IfOk, IfErr, Ok, Err, ◌⊎◌};
 ghost use Rattle.std.specs.Vec.{vec_capacity};
 ghost use Rattle.values.specs.Hash.{hash_bytes};
 ghost use Rattle.values.specs.Memory.{GivesUnless};
 ghost use Rattle.block.specs.declared.block.Block.{Block};
 ghost use Rattle.block.specs.declared.fault.BlockFault.{BlockFault};
-ghost use Rattle.block.specs.declared.fault.BlockFault.TheVariants.{Memory};
+ghost use Rattle.block.specs.declared.fault.BlockFault.TheVariants.{BadMagic, Truncated, Memory};
 ghost use Rattle.block.specs.Grammar.{Spells};
 ghost use Rattle.block.specs.Faults.{HasFault};
 ghost use Rattle.block.specs.Reading.{Gives, bytes_at, number_at, magic_at, previous_at, header_at, count_at, tx_at, txs_at, block_at};
@@ -176,6 +176,9 @@ pub fn decode_block(alloc: Global, bytes: &[u8]) -> Result<Block<'_>, BlockFault
     // The fault that is answered is that of the bytes, and the fault of the bytes is answered.
     ensures fault { IfErr result (λ f. (f ≡ Memory) ⊎ HasFault bytes.now f) }
     ensures faulty { (f : BlockFault) → HasFault bytes.now f → GivesUnless Memory result (Err f) }
+    // A block that breaks off is refused: within the magic as no block, behind it as cut, wherever that is.
+    ensures cut_magic { (rest : List ℕ) (b : Block) → Spells (bytes.now ++ rest) b → length bytes.now < 4 → GivesUnless Memory result (Err BadMagic) }
+    ensures cut { (rest : List ℕ) (b : Block) → Spells (bytes.now ++ rest) b → 0 < length rest → 4 ≤ length bytes.now → GivesUnless Memory result (Err Truncated) }
 {
     read_block(alloc, bytes)
 }

@@ -145,10 +145,13 @@ fn submit_next<R: Threads + Wait + Sync>(
     ensures book { committer.new.book ≡ committer.old.book }
     ensures receipt { IfOk result (λ r. r.front.book ≡ committer.old.book) }
 {
-    match committer.submit(rt, bytes, keys, &Open) {
-        Ok(receipt) => Ok(receipt),
-        Err(_) => Err(Failed::Missing("a receipt")),
+    let Ok(receipt) = committer.submit(rt, bytes, keys, &Open) else {
+        return Err(Failed::Missing("a receipt"));
+    };
+    if committer.gathered() != 0 {
+        return Err(Failed::Missing("a verdict that a worker found"));
     }
+    Ok(receipt)
 }
 
 fn submit_all<R: Threads + Wait + Sync>(

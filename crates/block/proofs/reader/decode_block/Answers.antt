@@ -1,5 +1,7 @@
 use Rattle.std.proofs.Common.{arith}
+use Rattle.block.specs.declared.fault.BlockFault.TheVariants.{BadMagic, Truncated}
 use Rattle.block.proofs.Answered.{is_spelled, is_one_block, is_one_spelling, is_read, is_faulty, is_refused}
+use Rattle.block.proofs.Cuts.{cut_magic, cut_behind_magic}
 use Rattle.block.proofs.reader.decode_block.Goals as goal
 
 pub returns-clause-found : goal.returns-clause-found
@@ -19,3 +21,9 @@ returns-clause-fault c = is_faulty c.args.bytes.now c.read_block.result (λ i. o
 
 pub returns-clause-faulty : goal.returns-clause-faulty
 returns-clause-faulty c = λ f faulty. is_refused c.args.bytes.now c.read_block.result f c.read_block.ensures faulty
+
+pub returns-clause-cut_magic : goal.returns-clause-cut_magic
+returns-clause-cut_magic c = λ rest b spells short. is_refused c.args.bytes.now c.read_block.result BadMagic c.read_block.ensures (cut_magic c.args.bytes.now rest b spells short)
+
+pub returns-clause-cut : goal.returns-clause-cut
+returns-clause-cut c = λ rest b spells some_left long. is_refused c.args.bytes.now c.read_block.result Truncated c.read_block.ensures (cut_behind_magic c.args.bytes.now rest b (λ i. omega (arith, c.type_inv.bytes i)) spells some_left long)
