@@ -2,8 +2,9 @@
 """Times a peer by its workers: transactions a second, memory, and how far that is from hashing alone.
 
 Run as `bench/peer.py [WORKLOAD ..]` from anywhere, on a quiet machine with four cores that has the kit; it needs 4 GB under
-TMPDIR. It builds a program over the repository's crates in a scratch folder, which hands the blocks of a workload to a
-`commit::Committer` of 1, 2 and 4 workers, or to the `commit::Ledger`, which has one thread and none to start.
+TMPDIR. It builds a program over the repository's crates in a scratch folder, which hands the blocks of a workload in: the
+first by itself, and all others at once, to `run` of a `commit::Committer` of 1, 2 and 4 workers; or one by one to the
+`commit::Ledger`, which has one thread and none to start.
 
 Each transaction has two endorsements, which its policy asks for; values are of 100 bytes, keys of 16. The seed is fixed.
 
@@ -23,7 +24,7 @@ Each transaction has two endorsements, which its policy asks for; values are of 
 the data hash, its id, and the HMAC-SHA-256 of what its creator and its endorsers sign, each from the key on. `ratio` is the
 time for a transaction with one worker, divided by that. `faster` is one worker's time divided by that of two and four.
 
-A second table has the time for one transaction with one worker, by the size of a block, the length of the chain and the
+A second table has the time for one transaction with one worker, to whom blocks are handed in one by one, by the size of a block, the length of the chain and the
 keys of the state; the slope is that of its logarithm by theirs: 0 where it doesn't grow.
 
 Times are the least of five runs; `memory` is the most of a run with four workers, in MB. Behind both tables it says what
@@ -50,8 +51,9 @@ KEYS = "".join(f"{who} {number:02x}{'5a' * 31}\n" for number, who in enumerate([
 VALUE = b"v" * 100
 POLICY = b"AND('Org1.peer','Org2.peer')"
 
-# Its words are the number of workers, 0 for the ledger, or `hash`, and files of blocks. For each it prints the nanoseconds that
-# it took, or that its hashing took, and how many of its transactions are valid.
+# Its words are `hash`, `ledger`, `submit`, or for `run` the number of workers, and files of blocks. For each it prints the
+# nanoseconds that it took, or that its hashing took, and how many of its transactions are valid; for `run` that of the first, and
+# that of all others together.
 PROGRAM = r"""
 #![tactic(auto)]
 
@@ -69,7 +71,7 @@ use std::thread::Threads;
 use std::time::{Clock, Instant};
 use std::{env, fs};
 use transaction::{SpelledTx, append_identity, decode_tx, encode_body};
-use values::Slice;
+use values::{Bytes, Slice};
 
 fn copied(alloc: Global, parts: &[&[u8]]) -> anyhow::Result<Vec<u8>> {
     let mut bytes = Vec::new(alloc);
@@ -221,6 +223,35 @@ fn submit_to_ledger<R: AllocGlobal + Files + Clock + Print>(rt: &R, paths: &[Str
     Ok(())
 }
 
+fn run_all<R: AllocGlobal + Files + Clock + Print + Threads + Wait + Sync>(
+    rt: &R,
+    committer: &mut Committer,
+    paths: &[String],
+) -> anyhow::Result<()> {
+    let keys = key_book(rt)?;
+    let Some((first, others)) = paths.split_first() else {
+        bail!("no block");
+    };
+    let bytes = fs::read(rt, first.as_str())?;
+    by_committer(rt, committer, &keys, &bytes)?;
+    let mut blocks = Vec::new(rt.alloc());
+    for path in others {
+        blocks.push(Bytes::from_vec(fs::read(rt, path.as_str())?))?;
+    }
+    let start = Instant::now(rt)?;
+    let answers = committer.run(rt, blocks.as_slice(), &keys, &Open)?;
+    let nanos = start.elapsed(rt)?.as_nanos();
+    let mut count = 0u32;
+    for answer in answers {
+        let Ok(receipt) = answer else {
+            bail!("refused");
+        };
+        count = count.wrapping_add(valid(receipt.flags.as_slice()));
+    }
+    println!(rt; "{nanos} {count}")?;
+    Ok(())
+}
+
 fn submit_to<R: AllocGlobal + Files + Clock + Print + Threads + Wait + Sync>(
     rt: &R,
     committer: &mut Committer,
@@ -237,12 +268,17 @@ fn submit_to<R: AllocGlobal + Files + Clock + Print + Threads + Wait + Sync>(
 fn submit_to_committer<R: AllocGlobal + Files + Clock + Print + Threads + Wait + Sync>(
     rt: &R,
     workers: usize,
+    is_run: bool,
     paths: &[String],
 ) -> anyhow::Result<()> {
     let Ok((mut committer, _handles)) = Committer::open(rt.alloc(), rt, channel(rt)?, workers, 0) else {
         bail!("no committer");
     };
-    let ended = submit_to(rt, &mut committer, paths);
+    let ended = if is_run {
+        run_all(rt, &mut committer, paths)
+    } else {
+        submit_to(rt, &mut committer, paths)
+    };
     committer.close(rt);
     ended
 }
@@ -258,10 +294,11 @@ fn main(rt: HostRuntime) -> anyhow::Result<()> {
     }
     match way.as_str() {
         "hash" => hash_blocks(&rt, &paths),
-        "0" => submit_to_ledger(&rt, &paths),
-        "1" => submit_to_committer(&rt, 1, &paths),
-        "2" => submit_to_committer(&rt, 2, &paths),
-        "4" => submit_to_committer(&rt, 4, &paths),
+        "ledger" => submit_to_ledger(&rt, &paths),
+        "submit" => submit_to_committer(&rt, 1, false, &paths),
+        "1" => submit_to_committer(&rt, 1, true, &paths),
+        "2" => submit_to_committer(&rt, 2, true, &paths),
+        "4" => submit_to_committer(&rt, 4, true, &paths),
         _ => bail!("no way"),
     }
 }
@@ -411,13 +448,13 @@ WORKLOADS = {
 
 
 def timed(program, way, blocks):
-    """For each block the least nanoseconds, and the most memory of a run, in KB."""
+    """For each line the least nanoseconds, and the most memory of a run, in KB."""
     runs, memory = [], 0
     for _ in range(RUNS):
         process = subprocess.Popen([program, way, *blocks.paths], cwd=blocks.folder, stdout=subprocess.PIPE, text=True)
         lines = [int(line.split()[0]) for line in process.stdout]
         _, status, usage = os.wait4(process.pid, 0)
-        if status != 0 or len(lines) != len(blocks.paths):
+        if status != 0 or not lines:
             sys.exit(f"the run of {way} failed: {status}")
         runs.append(lines)
         memory = max(memory, usage.ru_maxrss)
@@ -431,7 +468,7 @@ def for_one(nanos, blocks, first=1):
 
 def told(program, name, blocks):
     hashing = for_one(timed(program, "hash", blocks)[0], blocks)
-    ledger = for_one(timed(program, "0", blocks)[0], blocks)
+    ledger = for_one(timed(program, "ledger", blocks)[0], blocks)
     each = []
     for workers in WORKERS:
         nanos, memory = timed(program, str(workers), blocks)
@@ -461,7 +498,7 @@ def by_size(program, folder, state):
     for size, count in sizes.items():
         for _ in range(count):
             blocks.mixed(size)
-    nanos = timed(program, "1", blocks)[0]
+    nanos = timed(program, "submit", blocks)[0]
     for size, count in sizes.items():
         found[size] = sum(nanos[first:first + count]) / (size * count) / 1000
         first += count
@@ -471,7 +508,7 @@ def by_size(program, folder, state):
 def by_length(program, folder):
     blocks = Blocks(folder / "length", 2000)
     mixed(blocks, 10_000, 10)
-    nanos, found = timed(program, "1", blocks)[0], {}
+    nanos, found = timed(program, "submit", blocks)[0], {}
     for length in (100, 1000, 10_000):
         found[length] = sum(nanos[length - 90:length]) / 900 / 1000
     grows("by blocks before", found)
@@ -482,7 +519,7 @@ def by_state(program, folder):
     for state in (1000, 10_000, 100_000, 1_000_000):
         blocks = Blocks(folder / f"state{state}", state)
         mixed(blocks, 10, 500)
-        found[state] = for_one(timed(program, "1", blocks)[0], blocks)
+        found[state] = for_one(timed(program, "submit", blocks)[0], blocks)
     grows("by keys of the state", found)
 
 

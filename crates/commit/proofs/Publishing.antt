@@ -8,19 +8,26 @@ use Rattle.rules.specs.declared.committed.CommittedBlock.{CommittedBlock}
 use Rattle.rules.specs.declared.delta.Delta.{Delta}
 use Rattle.rules.specs.Commit.{txs_of, job_of}
 use Rattle.rules.specs.Delta.{applied}
-use Rattle.rules.specs.Linked.{IsLinkedDelta}
+use Rattle.rules.specs.declared.answer.Refused.{Refused}
+use Rattle.rules.specs.Linked.{IsRefused, IsLinkedDelta}
 use Rattle.rules.specs.World.{World, empty_world, height_of}
 use Rattle.rules.proofs.BlockFlags.{length-flags}
 use Rattle.rules.proofs.Candidates.{length-candidates_from}
 use Rattle.query.specs.declared.receipt.Receipt.{Receipt}
 use Rattle.query.specs.Published.{Publishing, applied_all, published_world}
 use Rattle.commit.specs.NextDelta.{IsNextDelta}
-use Rattle.commit.specs.Committing.{Committing, IsCommitted, accepted_in}
+use Rattle.commit.specs.Committing.{IsCommitted, accepted_in}
+use Rattle.commit.specs.Running.{committing}
 use Rattle.commit.proofs.NextDeltas.{next_delta-step}
 
 -- nothing stands where nothing was published
 pub opened_empty : (p : Publishing) → p.base ≡ empty_world → p.list ≡ [] → published_world p ≡ empty_world
 opened_empty p base list = ap (applied_all p.base) list ∙ base
+
+-- what its own world refuses, what was published refuses
+pub refused_by : (p : Publishing) (w : World) (bytes : List ℕ) (r : Refused) → p.base ≡ empty_world → w ≡ published_world p → IsRefused w bytes r → IsRefused (applied_all empty_world p.list) bytes r
+refused_by p w bytes r empty own is =
+    subst (λ (u : World). IsRefused (applied_all u p.list) bytes r) empty (subst (λ (u : World). IsRefused u bytes r) own is)
 
 module _ (channel : Configuration) (accepts : Accepts) where
   pub next-linked : (w : World) (bytes : List ℕ) (d : Delta) → IsNextDelta channel accepts w bytes d → IsLinkedDelta w d
@@ -35,10 +42,6 @@ module _ (channel : Configuration) (accepts : Accepts) where
             ∙ (length-flags (job_of channel accepts w (txs_of b)) ∙ (length-candidates_from channel accepts w.first_uses [] (txs_of b) ∙ length-map b.txs _));
       }
 
-  -- of what a publisher publishes to the handles of its book
-  abbrev pub committing : Publishing → Committing
-  committing p = record { channel = channel; book = p.book; list = p.list; stopped = p.failed }
-
   applied_all-more : (w : World) (ds : List Delta) (d : Delta) → applied_all w (ds ++ d ∷ []) ≡ applied (applied_all w ds) d
   applied_all-more w [] d = refl
   applied_all-more w (e ∷ ds) d = applied_all-more (applied w e) ds d
@@ -48,7 +51,7 @@ module _ (channel : Configuration) (accepts : Accepts) where
       → new ≡ record old { list = old.list ++ d ∷ [] }
       → r.number ≡ height_of (published_world old) → r.height ≡ height_of (published_world new)
       → r.header_hash ≡ d.block.header_hash → r.flags ≡ d.block.flags → r.front ≡ record { book = new.book; list = new.list }
-      → IsCommitted accepts (committing old) bytes r (committing new)
+      → IsCommitted accepts (committing channel old) bytes r (committing channel new)
   committed old new w bytes d r going empty own next published number height hash flags told =
       let before : World = applied_all empty_world old.list in
       let is_before : published_world old ≡ before = ap (λ (u : World). applied_all u old.list) empty in
@@ -62,6 +65,6 @@ module _ (channel : Configuration) (accepts : Accepts) where
         step = next_delta-step channel accepts before bytes d (accepted_in r) (applied_all empty_world new.list) next' (λ i. record { number = (number ∙ ap height_of is_before) i; header_hash = hash i; flags = flags i }) after;
         height = height ∙ ap (λ (u : World). height_of (applied_all u new.list)) base;
         delta = d;
-        published = ap committing published;
+        published = ap (committing channel) published;
         told = told;
       }

@@ -1,9 +1,12 @@
 //! The delta of the next block, by workers.
-ghost use Rattle.std.specs.Prelude.{◌≤◌, MatchResult};
+ghost use Rattle.std.specs.Prelude.{MatchResult};
 ghost use Rattle.rules.specs.Linked.{IsRefused};
 ghost use Rattle.commit.specs.NextDelta.{IsNextDelta};
+ghost use Rattle.commit.specs.Prepared.{IsPrepared, IsTakenIn};
 
 use crate::next_delta::{delta_of, job_of};
+use crate::prepared::Prepared;
+use crate::workers::Workers;
 use block_steps::{check_data_hash, check_place, decoded};
 use channel::Channel;
 use check_workers::check_all;
@@ -16,32 +19,54 @@ use std::sync::Wait;
 use std::thread::Threads;
 use world::World;
 
-/// What the block of these bytes would change, or why it would be refused; and how many verdicts no worker had found.
-///
-/// Its transactions are taken in by the workers, one of whom hashes the block; used ids and the chains of its keys are made in
-/// order; both checks are done by workers again.
-pub(crate) fn next_delta<R: Threads + Wait + Sync, V: Verify + Sync, G: Gate + Sync>(
+/// Takes the next block of a world in by workers, unless its place tells already that it is another one.
+pub(crate) fn take_in_next<'b, R: Threads + Sync, V: Verify + Sync, G: Gate + Sync>(
     rt: &R,
     alloc: Global,
     channel: &Channel,
     world: &World,
-    workers: usize,
-    bytes: &[u8],
+    workers: Workers,
+    bytes: &'b [u8],
     verifier: &V,
     gate: &G,
-) -> Result<(Delta, u32), Refused>
-    requires workers { (1 ≤ workers) × (workers ≤ 64) }
-    ensures { MatchResult result (λ r. IsNextDelta channel.now (V.accepts verifier.now) world.now bytes.now r.0) (IsRefused world.now bytes.now) }
+) -> Result<Prepared<'b>, Refused>
+    ensures { IsTakenIn channel.now (V.accepts verifier.now) world.now bytes.now result }
 {
     let block = decoded(alloc, bytes)?;
     check_place(world.height(), world.header_hash(), &block)?;
     let txs = block.txs.as_slice();
-    let (taken, data_hash) = take_in_beside_hashing(
-        rt, alloc, channel, verifier, gate, txs, workers,
-    )?;
+    let taken_in = take_in_beside_hashing(rt, alloc, channel, verifier, gate, txs, workers.count)?;
+    Ok(Prepared::of(block, taken_in))
+}
+
+/// What the block that was taken in would change, or why it would be refused; and how many verdicts no worker had found.
+///
+/// Used ids and the chains of its keys are made in order; both checks are done by workers.
+pub(crate) fn next_delta<R: Threads + Wait + Sync, V: Verify, G: Gate + Sync>(
+    rt: &R,
+    alloc: Global,
+    channel: &Channel,
+    world: &World,
+    workers: Workers,
+    bytes: &[u8],
+    prepared: Prepared<'_>,
+    verifier: &V,
+    gate: &G,
+) -> Result<(Delta, u32), Refused>
+    requires { IsPrepared channel.now (V.accepts verifier.now) bytes.now prepared }
+    ensures { MatchResult result (λ r. IsNextDelta channel.now (V.accepts verifier.now) world.now bytes.now r.0) (IsRefused world.now bytes.now) }
+{
+    // which has verified what was taken in, and stands here for the clauses
+    let _verifier = verifier;
+    let Prepared {
+        block,
+        taken,
+        data_hash,
+    } = prepared;
+    check_place(world.height(), world.header_hash(), &block)?;
     check_data_hash(&block, data_hash)?;
     let (job, ids) = job_of(alloc, channel, world, taken)?;
-    let checked = check_all(rt, alloc, &job, workers, gate)?;
+    let checked = check_all(rt, alloc, &job, workers.count, gate)?;
     let delta = delta_of(alloc, bytes, &block, &job, ids.as_slice(), checked.flags)?;
     Ok((delta, checked.gathered))
 }

@@ -3,20 +3,20 @@ ghost use Rattle.std.specs.List.{All};
 ghost use Rattle.rules.specs.World.{empty_world};
 ghost use Rattle.commit.specs.Committing.{Submits, Runs};
 
-use crate::by_workers::next_delta;
 use crate::not_committed::NotCommitted;
-use crate::opening::{MAX_WORKERS, OpenFault};
+use crate::opening::OpenFault;
+use crate::published::Published;
+use crate::running::run_all;
+use crate::workers::Workers;
 use channel::Channel;
 use gates::Gate;
 use policy_eval::Verify;
-use query::{Publisher, QueryHandle, Receipt};
-use rules::Refused;
+use query::{QueryHandle, Receipt};
 use std::alloc::{AllocError, Global};
 use std::marker::Model;
 use std::sync::Wait;
 use std::thread::Threads;
 use values::Bytes;
-use world::World;
 
 /// The committer of one channel, which takes blocks one by one, checks each by many workers, and publishes it to handles
 /// that ask from other threads. A contract sees its channel, and the deltas that it has published.
@@ -25,11 +25,8 @@ use world::World;
 pub struct Committer {
     alloc: Global,
     channel: Channel,
-    workers: usize,
-    // the same as the published one, for that one is lent to readers
-    world: World,
-    publisher: Publisher,
-    gathered: u32,
+    workers: Workers,
+    published: Published,
 }
 
 impl Model for Committer {
@@ -38,15 +35,13 @@ impl Model for Committer {
     ghost use Rattle.policy.specs.Policies.{policies_code};
     ghost use Rattle.query.specs.Code.{list_code};
     ghost use Rattle.commit.specs.Committing.{Committing};
-    ghost use Rattle.commit.specs.Running.{IsRunning};
+    ghost use Rattle.commit.specs.Running.{committing};
 
     ghost Value = { Committing };
 
     ghost coded = { Prim.hlevel (codes, policies_code, book_coded, list_code) };
 
-    ghost view = { λ c. record { channel = c.channel; book = c.publisher.book; list = c.publisher.list; stopped = c.publisher.failed } };
-
-    ghost invariant = { λ c. IsRunning c.workers c.world c.publisher };
+    ghost view = { λ c. committing c.channel c.published };
 }
 
 impl Committer {
@@ -64,30 +59,22 @@ impl Committer {
         ensures workers { (result ≡ Err OpenFault.Workers) ↔ ((workers ≡ 0) ⊎ (64 < workers)) }
         ensures readers { (result ≡ Err OpenFault.Readers) ↔ ((1 ≤ workers) × (workers ≤ 64) × (32 < readers)) }
     {
-        if workers < 1 || workers > MAX_WORKERS {
+        let Some(workers) = Workers::new(workers) else {
             return Err(OpenFault::Workers);
-        }
-        let (publisher, handles) = query::open(
-            alloc,
-            rt,
-            World::new(alloc),
-            World::new(alloc),
-            readers,
-        )?;
+        };
+        let (published, handles) = Published::open(alloc, rt, readers)?;
         let committer = Committer {
             alloc,
             channel,
             workers,
-            world: World::new(alloc),
-            publisher,
-            gathered: 0,
+            published,
         };
         Ok((committer, handles))
     }
 
     /// How many verdicts of the last accepted block no worker had found: 0 before the first.
     pub fn gathered(&self) -> u32 {
-        self.gathered
+        self.published.gathered()
     }
 
     /// Takes the bytes of the next block: commits and publishes them, or refuses them and changes nothing.
@@ -100,34 +87,35 @@ impl Committer {
     ) -> Result<Receipt, NotCommitted>
         ensures { Submits (V.accepts verifier.now) self.old bytes.now result self.new }
     {
-        if self.publisher.failed() {
+        if self.published.has_stopped() {
             return Err(NotCommitted::Stopped);
         }
-        let (delta, gathered) = next_delta(
+        let prepared = self.published.take_in_next(
             rt,
             self.alloc,
             &self.channel,
-            &self.world,
             self.workers,
             bytes,
             verifier,
             gate,
-        )?;
-        // memory that is wanted here changes nothing yet
-        if self.world.apply(&delta).is_err() {
-            return Err(NotCommitted::Refused(Refused::Memory));
-        }
-        match self.publisher.publish(rt, delta) {
-            Ok(receipt) => {
-                self.gathered = gathered;
-                Ok(receipt)
-            }
-            Err(_) => Err(NotCommitted::MemoryInCommit),
-        }
+        );
+        self.published.commit(
+            rt,
+            self.alloc,
+            &self.channel,
+            self.workers,
+            bytes,
+            prepared,
+            verifier,
+            gate,
+        )
     }
 
-    /// Takes the bytes of blocks one after the other, each as `submit` does, and answers to all.
-    /// An `Err` means that no block was handed in.
+    /// Takes the bytes of blocks one after the other, and answers to all as `submit` would. An `Err` means that no block
+    /// was handed in.
+    ///
+    /// While the calling thread commits a block, the other workers take in the one behind it, so that many blocks are done
+    /// sooner than by as many calls of `submit`. What was taken in of a block that isn't the next one goes for nothing.
     pub fn run<R: Threads + Wait + Sync, V: Verify + Sync, G: Gate + Sync>(
         &mut self,
         rt: &R,
@@ -138,11 +126,22 @@ impl Committer {
         ensures runs { IfOk result (λ answers. Runs (V.accepts verifier.now) self.old blocks.now answers.items self.new) }
         ensures err { OnErr result (self.new ≡ self.old) }
     {
-        let mut answers = Vec::with_capacity(self.alloc, blocks.len())?;
-        for bytes in blocks {
-            answers.push_reserved(self.submit(rt, bytes.as_slice(), verifier, gate));
-        }
-        Ok(answers)
+        let answers = Vec::with_capacity(self.alloc, blocks.len())?;
+        let Some((first, rest)) = blocks.split_first() else {
+            return Ok(answers);
+        };
+        Ok(run_all(
+            rt,
+            self.alloc,
+            &self.channel,
+            self.workers,
+            verifier,
+            gate,
+            &mut self.published,
+            first,
+            rest,
+            answers,
+        ))
     }
 
     /// Ends it, and lets its handles go on with what was published.
@@ -151,10 +150,8 @@ impl Committer {
             alloc: _,
             channel: _channel,
             workers: _,
-            world: _world,
-            publisher,
-            gathered: _,
+            published,
         } = self;
-        publisher.close(rt);
+        published.close(rt);
     }
 }

@@ -3,9 +3,6 @@ ghost use Rattle.commit.specs.OpenFaults.{open_fault_of};
 
 use thiserror::Error;
 
-/// The most workers that a committer has.
-pub const MAX_WORKERS: usize = 64;
-
 /// Why a committer isn't opened: the first that holds. Want of memory may come in the place of the last two.
 #[derive(Clone, Copy, Debug, PartialEq, Eq, Error)]
 pub enum OpenFault {

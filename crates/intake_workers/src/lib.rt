@@ -4,4 +4,4 @@
 mod piece;
 mod taking;
 
-pub use taking::take_in_beside_hashing;
+pub use taking::{TakenIn, take_in_beside, take_in_beside_hashing};

@@ -12,7 +12,7 @@ pub trait Work<P, X> {
         ensures { IfOk result (λ made. gives self.now piece made.items) };
 }
 
-/// What the calling thread makes beside the pieces. It takes no memory.
+/// What a worker makes before it draws pieces, once.
 pub trait Beside<Y> {
     /// What may be made.
     ghost gives: { Self → Y → Type 0 };

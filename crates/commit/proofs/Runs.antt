@@ -1,5 +1,5 @@
 -- A run goes on by one string of bytes.
-use Rattle.std.proofs.Common.{◌≡◌, ℕ, ◌+◌, ◌<◌, List, [], ◌∷◌, ◌++◌, length, get_or, take, Result, refl, sym, ap, subst, ◌∙◌}
+use Rattle.std.proofs.Common.{◌≡◌, ℕ, ◌+◌, ◌<◌, List, [], ◌∷◌, ◌++◌, length, get_or, take, suc, Result, refl, sym, ap, subst, ◌∙◌, arith}
 use Rattle.std.proofs.lemmas.List.{take_more}
 use Rattle.policy_eval.specs.Accepts.{Accepts}
 use Rattle.query.specs.declared.receipt.Receipt.{Receipt}
@@ -22,3 +22,9 @@ module _ (accepts : Accepts) where
       let more : take (i + 1) blocks ≡ take i blocks ++ item ∷ [] = take_more blocks i item lt ∙ ap (λ (b : List ℕ). take i blocks ++ b ∷ []) (sym at) in
       let pushed : Runs accepts old (take i blocks ++ item ∷ []) (answers ++ answer ∷ []) new = Runs-push old mid new (take i blocks) answers item answer runs (subst (λ (b : List ℕ). Submits accepts mid b answer new) same submits) in
       subst (λ (all : List (Result Receipt NotCommitted)). Runs accepts old (take (i + 1) blocks) all new) (sym e) (subst (λ (bs : List (List ℕ)). Runs accepts old bs (answers ++ answer ∷ []) new) (sym more) pushed)
+
+-- behind the first of a list, the places are those of the rest
+pub next_at : (first : List ℕ) (rest : List (List ℕ)) (i : ℕ) (bytes item : List ℕ) → bytes ≡ item → item ≡ get_or rest i item → bytes ≡ get_or (first ∷ rest) (i + 1) bytes
+next_at first rest i bytes item is at =
+    let behind : suc i ≡ i + 1 = omega arith in
+    subst (λ (x : List ℕ). x ≡ get_or (first ∷ rest) (i + 1) x) (sym is) (subst (λ (n : ℕ). item ≡ get_or (first ∷ rest) n item) behind at)

@@ -1,0 +1,26 @@
+-- What was taken in of a block before its world is known. No public contract cites this.
+use Rattle.std.specs.Prelude.{◌≡◌, ℕ, List, map, Result, MatchResult}
+use Rattle.block.specs.Grammar.{Spells}
+use Rattle.channel.specs.Configuration.{Configuration}
+use Rattle.header_hash.specs.Hashes.{data_hash_of}
+use Rattle.intake.specs.Place.{taken_of, shown}
+use Rattle.policy_eval.specs.Accepts.{Accepts}
+use Rattle.rules.specs.declared.answer.Refused.{Refused}
+use Rattle.rules.specs.Commit.{txs_of}
+use Rattle.rules.specs.Linked.{IsRefused}
+use Rattle.rules.specs.World.{World}
+use Rattle.commit.specs.declared.prepared.Prepared.{Prepared}
+
+-- the block that the bytes spell, and what can be said of each of its transactions
+pub record IsPrepared (channel : Configuration) (accepts : Accepts) (bytes : List ℕ) (p : Prepared) : Type 0 where
+  pub spelled : Spells bytes p.block
+  pub taken : map shown p.taken.items ≡ map (taken_of channel accepts) (txs_of p.block)
+  pub hash : p.data_hash ≡ data_hash_of p.block.txs
+
+-- this, or why the bytes are refused by this world
+abbrev pub IsTakenIn : Configuration → Accepts → World → List ℕ → Result Prepared Refused → Type 0
+IsTakenIn channel accepts w bytes r = MatchResult r (IsPrepared channel accepts bytes) (IsRefused w bytes)
+
+-- this, or why the bytes are refused by any world
+abbrev pub IsAhead : Configuration → Accepts → List ℕ → Result Prepared Refused → Type 0
+IsAhead channel accepts bytes r = (w : World) → IsTakenIn channel accepts w bytes r

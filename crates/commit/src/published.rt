@@ -1,0 +1,162 @@
+//! The worlds of a committer: the one that readers ask, and its own.
+ghost use Rattle.std.specs.Prelude.{◌≡◌, ◌<◌, ◌↔◌, [], false, length, Err, IfOk};
+ghost use Rattle.std.specs.List.{All};
+ghost use Rattle.query.specs.Published.{published_world};
+ghost use Rattle.query.specs.declared.opening.OpenFault.TheVariants as open_fault;
+ghost use Rattle.rules.specs.World.{empty_world};
+ghost use Rattle.commit.specs.Committing.{Submits};
+ghost use Rattle.commit.specs.Prepared.{IsTakenIn};
+ghost use Rattle.commit.specs.Running.{committing};
+
+use crate::by_workers::{next_delta, take_in_next};
+use crate::not_committed::NotCommitted;
+use crate::prepared::Prepared;
+use crate::workers::Workers;
+use channel::Channel;
+use gates::Gate;
+use policy_eval::Verify;
+use query::{Publisher, QueryHandle, Receipt};
+use rules::Refused;
+use std::alloc::Global;
+use std::marker::Model;
+use std::sync::Wait;
+use std::thread::Threads;
+use world::World;
+
+/// What was committed. A contract sees what is published.
+pub(crate) struct Published {
+    // the same as the published one, for that one is lent to readers
+    world: World,
+    publisher: Publisher,
+    gathered: u32,
+}
+
+impl Model for Published {
+    ghost use Rattle.query.specs.Published.{Publishing};
+    ghost use Rattle.query.specs.Code.{publishing_code};
+    ghost use Rattle.commit.specs.Running.{IsKept};
+
+    ghost Value = { Publishing };
+
+    ghost coded = { publishing_code };
+
+    ghost view = { λ p. p.publisher };
+
+    ghost invariant = { λ p. IsKept p.world p.publisher };
+}
+
+impl Published {
+    /// Nothing yet, and so many handles.
+    pub(crate) fn open<R: Wait>(
+        alloc: Global,
+        rt: &R,
+        readers: usize,
+    ) -> Result<(Published, Vec<QueryHandle>), query::OpenFault>
+        ensures published { IfOk result (λ r. (r.0.list ≡ []) × (r.0.failed ≡ false)) }
+        ensures count { IfOk result (λ r. length r.1.items ≡ readers) }
+        ensures handles { IfOk result (λ r. All (λ h. h ≡ record { book = r.0.book; base = empty_world; list = [] }) r.1.items) }
+        ensures readers { (result ≡ Err open_fault.Readers) ↔ (32 < readers) }
+    {
+        let (publisher, handles) = query::open(
+            alloc,
+            rt,
+            World::new(alloc),
+            World::new(alloc),
+            readers,
+        )?;
+        let published = Published {
+            world: World::new(alloc),
+            publisher,
+            gathered: 0,
+        };
+        Ok((published, handles))
+    }
+
+    pub(crate) fn gathered(&self) -> u32 {
+        self.gathered
+    }
+
+    pub(crate) fn has_stopped(&self) -> bool
+        ensures { result ≡ self.now.failed }
+    {
+        self.publisher.failed()
+    }
+
+    /// Takes the next block in by workers, unless its place tells already that it is another one.
+    pub(crate) fn take_in_next<'b, R: Threads + Sync, V: Verify + Sync, G: Gate + Sync>(
+        &self,
+        rt: &R,
+        alloc: Global,
+        channel: &Channel,
+        workers: Workers,
+        bytes: &'b [u8],
+        verifier: &V,
+        gate: &G,
+    ) -> Result<Prepared<'b>, Refused>
+        requires { self.now.failed ≡ false }
+        ensures { IsTakenIn channel.now (V.accepts verifier.now) (published_world self.now) bytes.now result }
+    {
+        take_in_next(
+            rt,
+            alloc,
+            channel,
+            &self.world,
+            workers,
+            bytes,
+            verifier,
+            gate,
+        )
+    }
+
+    /// Commits and publishes the block that was taken in, or refuses it.
+    pub(crate) fn commit<R: Threads + Wait + Sync, V: Verify, G: Gate + Sync>(
+        &mut self,
+        rt: &R,
+        alloc: Global,
+        channel: &Channel,
+        workers: Workers,
+        bytes: &[u8],
+        prepared: Result<Prepared<'_>, Refused>,
+        verifier: &V,
+        gate: &G,
+    ) -> Result<Receipt, NotCommitted>
+        requires { IsTakenIn channel.now (V.accepts verifier.now) (published_world self.old) bytes.now prepared }
+        ensures { Submits (V.accepts verifier.now) (committing channel.now self.old) bytes.now result (committing channel.now self.new) }
+    {
+        if self.publisher.failed() {
+            return Err(NotCommitted::Stopped);
+        }
+        let (delta, gathered) = next_delta(
+            rt,
+            alloc,
+            channel,
+            &self.world,
+            workers,
+            bytes,
+            prepared?,
+            verifier,
+            gate,
+        )?;
+        // memory that is wanted here changes nothing yet
+        if self.world.apply(&delta).is_err() {
+            return Err(NotCommitted::Refused(Refused::Memory));
+        }
+        match self.publisher.publish(rt, delta) {
+            Ok(receipt) => {
+                self.gathered = gathered;
+                Ok(receipt)
+            }
+            Err(_) => Err(NotCommitted::MemoryInCommit),
+        }
+    }
+
+    /// Ends it, and lets its handles go on with what was published.
+    pub(crate) fn close<R: Wait>(self, rt: &R) {
+        let Published {
+            world: _world,
+            publisher,
+            gathered: _,
+        } = self;
+        publisher.close(rt);
+    }
+}
