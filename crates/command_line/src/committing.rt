@@ -1,5 +1,5 @@
-//! Blocks handed in to a committer, one by one, and a line for each.
-ghost use Rattle.std.specs.Prelude.{◌≡◌, IfOk, IfSome};
+//! Blocks handed in to a committer, some at a time, and a line for each.
+ghost use Rattle.std.specs.Prelude.{◌≡◌, All, IfOk, IfSome};
 
 use crate::fault::Fault;
 use crate::lines::write_answer;
@@ -7,10 +7,16 @@ use crate::status::ACCEPTED;
 use commit::{Committer, NotCommitted, Receipt};
 use gates::Open;
 use key_book::KeyBook;
+use std::alloc::{AllocError, Global};
 use std::io::Write;
 use std::sync::Wait;
 use std::thread::Threads;
+use std::vec::IntoIter;
 use values::Bytes;
+
+/// How many blocks are handed in at once. Workers take the next one in while one is committed, but no line is written before
+/// all of them are answered.
+const AT_ONCE: usize = 16;
 
 /// What came of the blocks.
 #[derive(Drop)]
@@ -22,44 +28,61 @@ pub(crate) struct Committed {
 }
 
 // What counts here of a committer's clause: it stays that of its handles, and its receipts are for them.
-fn submit<R: Threads + Wait + Sync>(
+fn run<R: Threads + Wait + Sync>(
     rt: &R,
     committer: &mut Committer,
-    bytes: &[u8],
+    blocks: &[Bytes],
     keys: &KeyBook,
-) -> Result<Receipt, NotCommitted>
+) -> Result<Vec<Result<Receipt, NotCommitted>>, AllocError>
     ensures book { committer.new.book ≡ committer.old.book }
-    ensures receipt { IfOk result (λ receipt. receipt.front.book ≡ committer.old.book) }
+    ensures receipts { IfOk result (λ answers. All (λ answer. IfOk answer (λ receipt. receipt.front.book ≡ committer.old.book)) answers.items) }
 {
-    committer.submit(rt, bytes, keys, &Open)
+    let answers = committer.run(rt, blocks, keys, &Open)?;
+    Ok(answers)
 }
 
-// Hands a block in and writes its line. Returns what the process would end with for it.
-fn commit_one<'a, R: Threads + Wait + Sync, W: Write>(
-    rt: &R,
-    committer: &mut Committer,
-    bytes: &[u8],
-    place: u64,
-    keys: &KeyBook,
+// The next blocks that are handed in at once.
+fn next_blocks(alloc: Global, blocks: &mut IntoIter<Bytes>) -> Result<Vec<Bytes>, AllocError> {
+    let mut next = Vec::with_capacity(alloc, AT_ONCE)?;
+    for _ in 0..AT_ONCE {
+        let Some(bytes) = blocks.next() else {
+            break;
+        };
+        next.push(bytes)?;
+    }
+    Ok(next)
+}
+
+// Writes the lines of blocks that were handed in behind so many others. Returns what the process would end with for them.
+fn write_answers<'a, W: Write>(
+    answers: Vec<Result<Receipt, NotCommitted>>,
+    before: u64,
     out: &mut W,
     last: &mut Option<Receipt>,
+    committer: &Committer,
 ) -> Result<u8, Fault<'a>>
-    requires { IfSome last.old (λ receipt. receipt.front.book ≡ committer.old.book) }
-    ensures book { committer.new.book ≡ committer.old.book }
-    ensures last { IfSome last.new (λ receipt. receipt.front.book ≡ committer.old.book) }
+    requires answers { All (λ answer. IfOk answer (λ receipt. receipt.front.book ≡ committer.now.book)) answers.items }
+    requires last { IfSome last.old (λ receipt. receipt.front.book ≡ committer.now.book) }
+    ensures { IfSome last.new (λ receipt. receipt.front.book ≡ committer.now.book) }
 {
-    let answer = submit(rt, committer, bytes, keys);
-    let status = write_answer(out, place, &answer)?;
-    if let Ok(receipt) = answer {
-        *last = Some(receipt);
+    let _committer = committer;
+    let mut status = ACCEPTED;
+    let mut place = before;
+    for answer in answers {
+        place = place.wrapping_add(1);
+        status = status.max(write_answer(out, place, &answer)?);
+        if let Ok(receipt) = answer {
+            *last = Some(receipt);
+        }
     }
     Ok(status)
 }
 
-/// Hands the blocks in, each let go when it is done, and writes a line for each as soon as it is
-/// answered. Ends at the first fault.
+/// Hands the blocks in, some at a time, which are let go when they are done, and writes a line for each.
+/// Ends at the first fault.
 pub(crate) fn commit_each<'a, R: Threads + Wait + Sync, W: Write>(
     rt: &R,
+    alloc: Global,
     committer: &mut Committer,
     blocks: Vec<Bytes>,
     keys: &KeyBook,
@@ -69,11 +92,17 @@ pub(crate) fn commit_each<'a, R: Threads + Wait + Sync, W: Write>(
 {
     let mut status = ACCEPTED;
     let mut last = None;
-    let mut place = 0u64;
-    for bytes in blocks {
-        place = place.wrapping_add(1);
-        let one = commit_one(rt, committer, bytes.as_slice(), place, keys, out, &mut last)?;
-        status = status.max(one);
+    let mut before = 0u64;
+    let count = blocks.len();
+    let mut blocks = blocks.into_iter();
+    for _ in 0..count {
+        let some = next_blocks(alloc, &mut blocks)?;
+        if some.is_empty() {
+            break;
+        }
+        let answers = run(rt, committer, some.as_slice(), keys)?;
+        status = status.max(write_answers(answers, before, out, &mut last, committer)?);
+        before = before.wrapping_add(some.len() as u64);
     }
     Ok(Committed { status, last })
 }

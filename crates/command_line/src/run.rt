@@ -22,7 +22,7 @@ use values::Bytes;
 
 pub(crate) static RUN: Subcommand = Subcommand {
     name: "run",
-    about: "Hands blocks in, one by one, and prints what is answered to each",
+    about: "Hands blocks in, one after the other, and prints what is answered to each",
     example: "\
 Example, with a worker for each of four processors and two readers:
   fabcommit run --channel channel.txt --keys keys.txt --workers 4 --readers 2 block0.blk block1.blk
@@ -32,8 +32,9 @@ Example, with a worker for each of four processors and two readers:
   reader J height H             behind all blocks, what reader J then finds: the number of accepted ones
 
   Workers share the transactions of a block among them: they check signatures, policies and reads side
-  by side. With as many workers as there are processors a block of many transactions is done soonest; for
-  a block of few one worker is enough. What is printed of the blocks is the same for any number.
+  by side, and take in the block behind it while it is committed. With as many workers as there are
+  processors blocks of many transactions are done soonest; for blocks of few one worker is enough. What is
+  printed of the blocks is the same for any number. Lines come for up to 16 blocks at a time.
 
   Readers stand for the clients who query a peer while it commits. Each asks for the height, 1,000 times,
   while the blocks are handed in, and waits for nobody.",
@@ -83,7 +84,7 @@ fn commit_while_asked<'a, 's, E, R: Threads + Wait + Sync, W: Write>(
     ensures last { IfOk result (λ ended. IfSome ended.1.last (λ receipt. receipt.front.book ≡ committer.old.book)) }
 {
     let readers = start(alloc, scope, committer, handles)?;
-    let committed = commit_each(rt, committer, blocks, keys, out)?;
+    let committed = commit_each(rt, alloc, committer, blocks, keys, out)?;
     Ok((readers, committed))
 }
 
@@ -160,8 +161,8 @@ impl<'a> Run<'a> {
     }
 
     /// Reads the files, hands the blocks in to a new committer, and writes a line for each, and then one for
-    /// each reader. The memory is the files' bytes, of which each block's are let go when it is done, what the
-    /// committer keeps, what one block takes, a buffer of a fixed size, and what threads take.
+    /// each reader. The memory is the files' bytes, of which those of 16 blocks are let go when these are done, what the
+    /// committer keeps, what two blocks take, a buffer of a fixed size, and what threads take.
     pub(crate) fn perform<R: AllocGlobal + Threads + Wait + Sync, F: Files, W: Write>(
         &self,
         rt: &R,

@@ -32,14 +32,17 @@ static KEYS: [&[u8]; 5] = [b"a", b"b", b"c", b"d", b"e"];
 
 const CHAINS: u64 = 1_000;
 
-const BLOCKS: u64 = 3;
+pub const BLOCKS: u64 = 3;
 
 /// So many spoiled blocks are handed in before each right one.
 const SPOILED: u32 = 7;
 
-const WORKERS: [usize; 3] = [1, 2, 5];
+pub const WORKERS: [usize; 3] = [1, 2, 5];
 
-fn is_same(answer: &Result<Receipt, NotCommitted>, of_ledger: &Result<Accepted, Refused>) -> bool {
+pub fn is_same(
+    answer: &Result<Receipt, NotCommitted>,
+    of_ledger: &Result<Accepted, Refused>,
+) -> bool {
     match (answer, of_ledger) {
         (Ok(receipt), Ok(accepted)) => {
             receipt.number == accepted.number
@@ -90,7 +93,7 @@ fn are_uses_alike(
     Ok(true)
 }
 
-fn is_published_alike(
+pub fn is_published_alike(
     alloc: Global,
     handle: &mut QueryHandle,
     world: &World,
@@ -123,7 +126,7 @@ fn are_answered_alike<R: Threads + Wait + Sync>(
     is_answered_alike(rt, drafter, committer, bytes, gate)
 }
 
-fn next_block(alloc: Global, drafter: &Drafter, random: &mut Random) -> Result<Bytes, Failed> {
+pub fn next_block(alloc: Global, drafter: &Drafter, random: &mut Random) -> Result<Bytes, Failed> {
     if drafter.world().height() == 0 {
         return drafter.drafted(FIRST);
     }
@@ -170,7 +173,7 @@ fn is_chain_alike<R: Threads + Wait + Sync>(
     Ok(drafter.world().height() == BLOCKS)
 }
 
-fn opened<R: Wait>(
+pub fn opened<R: Wait>(
     rt: &R,
     alloc: Global,
     workers: usize,
@@ -214,12 +217,17 @@ fn as_the_ledger(rt: HostRuntime) -> Result<(), Failed> {
     Ok(())
 }
 
-// A block of so many writes, each of another key.
-fn block_of_writes(alloc: Global, drafter: &Drafter, count: u32) -> Result<Bytes, Failed> {
+// A block of so many writes, each of another key, whose nonces begin with the block's number.
+pub fn block_of_writes(
+    alloc: Global,
+    drafter: &Drafter,
+    block: u32,
+    count: u32,
+) -> Result<Bytes, Failed> {
     let mut script = String::new(alloc);
     for i in 0..count {
         let tx = format!(in alloc;
-            "tx Org1:client:c0 n{i} cc\nns cc\nwrite k{i} v\nendorse Org1:peer:p0\n"
+            "tx Org1:client:c0 b{block}n{i} cc\nns cc\nwrite k{i} v\nendorse Org1:peer:p0\n"
         )?;
         script.push_str(tx.as_str())?;
     }
@@ -234,7 +242,7 @@ fn is_taken_alike<R: Threads + Wait + Sync, G: Gate + Sync>(
     gate: &G,
 ) -> Result<bool, Failed> {
     let mut drafter = Drafter::open(alloc)?;
-    let bytes = block_of_writes(alloc, &drafter, count)?;
+    let bytes = block_of_writes(alloc, &drafter, 0, count)?;
     let (mut committer, _handles) = opened(rt, alloc, workers)?;
     let is_alike = is_answered_alike(rt, &mut drafter, &mut committer, &bytes, gate);
     committer.close(rt);

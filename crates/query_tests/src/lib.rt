@@ -20,6 +20,8 @@ mod memory;
 #[cfg(test)]
 mod publishing;
 #[cfg(test)]
+mod running;
+#[cfg(test)]
 mod spoiling;
 #[cfg(test)]
 mod telling;

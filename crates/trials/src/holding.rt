@@ -48,6 +48,56 @@ impl Gate for Meeting {
     }
 }
 
+/// Holds the first who enters a phase until another phase was entered more often than so many times.
+#[derive(Drop)]
+pub struct Awaiting {
+    holds: Phase,
+    until: Phase,
+    times: u32,
+    entered: AtomicU32,
+    is_held: AtomicBool,
+    met: AtomicBool,
+}
+
+impl Awaiting {
+    pub fn new(holds: Phase, until: Phase, times: u32) -> Awaiting {
+        Awaiting {
+            holds,
+            until,
+            times,
+            entered: AtomicU32::new(0),
+            is_held: AtomicBool::new(false),
+            met: AtomicBool::new(false),
+        }
+    }
+
+    /// Whether it was entered so often before the turns were over.
+    pub fn is_met(&self) -> bool {
+        self.met.load(Ordering::SeqCst)
+    }
+
+    fn hold(&self) {
+        for _ in 0..TURNS {
+            if self.entered.load(Ordering::SeqCst) > self.times {
+                self.met.store(true, Ordering::SeqCst);
+                return;
+            }
+            thread::yield_now();
+        }
+    }
+}
+
+impl Gate for Awaiting {
+    fn at(&self, phase: Phase, _index: u32) {
+        if phase == self.until {
+            self.entered.fetch_add(1, Ordering::SeqCst);
+        }
+        if phase == self.holds && !self.is_held.swap(true, Ordering::SeqCst) {
+            self.hold();
+        }
+    }
+}
+
 /// Lets others go first, now and then.
 #[derive(Drop)]
 pub struct Yielding {

@@ -4,5 +4,5 @@
 mod holding;
 mod scripts;
 
-pub use holding::{Meeting, Yielding};
+pub use holding::{Awaiting, Meeting, Yielding};
 pub use scripts::script;
