@@ -2,4 +2,3 @@ pub mod Cells
 pub mod Words
 pub mod Seats
 pub mod Laws
-pub mod Turns

@@ -1,4 +1,4 @@
-//! Ready tasks in deques: each worker has one of its own, and others steal from it.
+//! Tasks in deques: each worker has one of its own, and others steal from it.
 ghost use Rattle.std.specs.Prelude.{◌≡◌, ◌<◌, ℕ, IfSome, IfErr};
 ghost use Rattle.std.specs.Prelude.{⊤};
 ghost use Rattle.crossbeam_deque.specs.Steals.{MatchSteal};
@@ -9,7 +9,7 @@ use std::alloc::{AllocError, Global};
 use std::marker::{Brand, PhantomData};
 use std::sync::Wait;
 
-/// How many tasks a worker hands itself at once, where there are as many.
+/// How many tasks a worker hands itself at once where others may steal some of them.
 pub(crate) const BATCH: usize = 32;
 
 /// How many tasks a job has. Who makes deques for a job picks it.

@@ -1,14 +1,16 @@
 //! Whose turn it is: the desk of tasks, under a lock.
-ghost use Rattle.std.specs.Prelude.{◌≡◌, ◌+◌, ◌*◌, ◌<◌, ◌≤◌, All, IfSome};
+ghost use Rattle.std.specs.Prelude.{◌≡◌, ◌*◌, ◌<◌, ◌≤◌, All};
 ghost use Rattle.arrayvec.specs.ArrayVec.{array_vec_len};
-ghost use Rattle.check_workers.specs.Turns.{IfSettle};
 
-use crate::deques::{BATCH, Owner, Tasks, Thief, pop, push, steal};
+use crate::deques::{BATCH, Owner, Tasks, push};
 use arrayvec::ArrayVec;
 use key_chains::Decision;
 use std::alloc::{AllocError, Global};
 use std::sync::{Condvar, Mutex, Wait};
 use task_desk::Desk;
+
+/// The most tasks that a worker settles between two turns.
+pub(crate) const MOST: usize = 128;
 
 /// What a worker has done with a task.
 #[derive(Clone, Copy)]
@@ -17,28 +19,32 @@ pub(crate) struct Settled {
     pub decision: Decision<()>,
 }
 
-/// What a worker has done with the tasks of one turn.
-pub(crate) type Settlings = [Option<Settled>; BATCH];
-
-/// Tasks that a worker has taken out.
-pub type Taken = ArrayVec<u32, BATCH>;
-
-/// What a worker does next.
-#[derive(Drop)]
-pub enum Turn {
-    /// It settles these tasks, of which there are some.
-    Settle(Taken),
-    /// It looks for a task in the deques, to which so many batches were pushed before.
-    Find(u64),
-    /// All tasks are done.
-    End,
+// what an empty place holds
+impl Default for Settled {
+    fn default() -> Settled {
+        Settled {
+            task: 0,
+            decision: Decision::Sure(()),
+        }
+    }
 }
 
-/// The most tasks that are taken out in one turn.
-const MOST: u32 = BATCH as u32;
+/// What a worker has done since its last turn.
+pub(crate) type Settlings = ArrayVec<Settled, MOST>;
 
-/// In one turn each worker takes out one of so many of its equal part of the tasks that aren't done.
-const PARTS: u32 = 16;
+/// Tasks that a worker keeps for itself.
+pub(crate) type Kept = ArrayVec<u32, MOST>;
+
+/// What a worker does next.
+#[derive(Clone, Copy)]
+pub(crate) enum Turn {
+    /// It settles the tasks that it keeps, of which there are some, and then those of its own deque.
+    Settle,
+    /// It settles what it can steal from the deques, to which so many batches were pushed before.
+    Find(u64),
+    /// Nothing is left for it.
+    End,
+}
 
 #[derive(Drop)]
 struct Waited {
@@ -48,6 +54,10 @@ struct Waited {
     left: u32,
     // how many batches were pushed; after the greatest number comes 0
     batches: u64,
+    // whether a worker may sleep
+    has_sleepers: bool,
+    // whether a check was blocked
+    was_blocked: bool,
 }
 
 impl Waited {
@@ -59,87 +69,77 @@ impl Waited {
                 }
             }
             Decision::Blocked(on) => {
+                self.was_blocked = true;
                 self.desk.park(settled.task, on);
             }
         }
     }
 
-    fn report(&mut self, settled: &Settlings) {
+    fn report(&mut self, settled: &[Settled]) {
         for settled in settled {
-            if let Some(settled) = settled {
-                self.report_one(*settled);
-            }
+            self.report_one(*settled);
         }
     }
 
-    /// How many tasks are taken out in one turn: fewer the fewer are left, so that others find some.
-    fn part(&self) -> usize
-        ensures { result ≤ 32 }
+    /// How many tasks a worker keeps for itself: half of its equal part of those that aren't done, and once a check was blocked
+    /// at most a batch, since others may wait for what it finds. Where half of its part is less than a batch, or a worker
+    /// sleeps, it keeps one: others can steal the rest.
+    fn most(&self) -> usize
+        ensures { result ≤ 128 }
     {
-        let parts = self.workers.saturating_mul(PARTS).max(1);
-        (self.left / parts).clamp(1, MOST) as usize
+        let half = (self.left / self.workers.saturating_mul(2).max(1)) as usize;
+        if half < BATCH || self.has_sleepers {
+            return 1;
+        }
+        half.min(if self.was_blocked { BATCH } else { MOST })
     }
 
-    /// Takes a task out where it is still ready.
-    fn start<J: Tasks>(&mut self, taken: &mut Taken, task: u32)
-        requires room { array_vec_len taken.old < 32 }
-        requires task { task < J.tasks }
-        requires tasks { All (λ task. task < J.tasks) taken.old.items }
-        ensures room { array_vec_len taken.new ≤ array_vec_len taken.old + 1 }
-        ensures tasks { All (λ task. task < J.tasks) taken.new.items }
-    {
+    /// Hands the least task that is ready, and takes it out: whoever pops or steals it later works on it with no lock.
+    fn hand(&mut self) -> Option<u32> {
+        let Some(task) = self.desk.hand() else {
+            return None;
+        };
         if self.desk.start(task) {
-            taken.push(task);
+            Some(task)
+        } else {
+            None
         }
     }
 
-    /// Takes out a task that a worker has stolen, and some of its own.
-    fn take<J: Tasks>(&mut self, own: &mut Owner<J>, stolen: Option<u32>) -> Taken
-        requires { IfSome stolen (λ task. task < J.tasks) }
-        ensures { All (λ task. task < J.tasks) result.items }
-    {
-        let mut taken = Taken::new();
-        if let Some(task) = stolen {
-            self.start::<J>(&mut taken, task);
+    fn wake(&mut self, woken: &Condvar) {
+        if self.has_sleepers {
+            self.has_sleepers = false;
+            woken.notify_all();
         }
-        // beside a stolen one
-        for _ in 0..self.part().min(BATCH - 1) {
-            let Some(task) = pop(own) else {
-                break;
-            };
-            self.start::<J>(&mut taken, task);
-        }
-        taken
     }
 
-    /// Hands a worker whose deque is empty up to 32 tasks. Some are taken out for it at once, and the others pushed, which
-    /// wakes all; one that can't be pushed is taken out too.
-    fn fill<J: Tasks>(&mut self, own: &mut Owner<J>, tasks: u32, woken: &Condvar) -> Taken
+    /// Takes tasks out for a worker whose deque is empty: those that it keeps, or a batch, of which it keeps one and the others
+    /// are pushed, which wakes all. One that can't be pushed is kept too.
+    fn fill<J: Tasks>(&mut self, own: &mut Owner<J>, tasks: u32, kept: &mut Kept, woken: &Condvar)
         requires { tasks ≡ J.tasks }
-        ensures { All (λ task. task < J.tasks) result.items }
+        ensures { All (λ task. task < J.tasks) kept.new.items }
     {
-        let part = self.part();
-        let mut taken = Taken::new();
+        let most = self.most();
+        kept.clear();
         let mut is_pushed = false;
-        for place in 0..BATCH {
-            let Some(task) = self.desk.hand() else {
+        for place in 0..most.max(BATCH) {
+            let Some(task) = self.hand() else {
                 break;
             };
             // The lock doesn't tell that the desk is this job's.
             if task >= tasks {
                 break;
             }
-            if place < part || push(own, task).is_err() {
-                self.start::<J>(&mut taken, task);
+            if place < most || push(own, task).is_err() {
+                kept.push(task);
             } else {
                 is_pushed = true;
             }
         }
         if is_pushed {
             self.batches = self.batches.wrapping_add(1);
-            woken.notify_all();
+            self.wake(woken);
         }
-        taken
     }
 }
 
@@ -161,75 +161,47 @@ impl Turns {
                 workers,
                 left: 2 * n,
                 batches: 0,
+                has_sleepers: false,
+                was_blocked: false,
             }),
             woken: Condvar::new(),
         })
     }
 
-    /// One turn of the lock, unless it sleeps: hands in what was done with tasks, and takes out the next ones. Sleeps where
-    /// there are none, and none was pushed since the worker knew of so many batches.
-    fn turn<J: Tasks, R: Wait>(
+    /// One turn of the lock, unless it sleeps: a worker whose deque is empty hands in what it did, and hears what it does
+    /// next. Sleeps where no task is ready, and no batch was pushed since the worker knew of so many.
+    pub fn next<J: Tasks, R: Wait>(
         &self,
         rt: &R,
         own: &mut Owner<J>,
         tasks: u32,
-        settled: &Settlings,
-        stolen: Option<u32>,
+        settled: &[Settled],
+        kept: &mut Kept,
         seen: Option<u64>,
     ) -> Turn
-        requires tasks { tasks ≡ J.tasks }
-        requires stolen { IfSome stolen (λ task. task < J.tasks) }
-        ensures { IfSettle result (All (λ task. task < J.tasks)) }
+        requires { tasks ≡ J.tasks }
+        ensures { All (λ task. task < J.tasks) kept.new.items }
     {
         let mut waited = self.waited.lock(rt);
         waited.report(settled);
-        let taken = waited.take(own, stolen);
-        if !taken.is_empty() {
-            return Turn::Settle(taken);
-        }
         for _ in rt.forever() {
-            let taken = waited.fill(own, tasks, &self.woken);
-            if !taken.is_empty() {
-                return Turn::Settle(taken);
+            waited.fill(own, tasks, kept, &self.woken);
+            if !kept.is_empty() {
+                return Turn::Settle;
             }
             if waited.desk.all_done() {
-                self.woken.notify_all();
+                waited.wake(&self.woken);
                 return Turn::End;
             }
             if seen != Some(waited.batches) {
                 return Turn::Find(waited.batches);
             }
-            waited = self.woken.wait(rt, waited);
-        }
-        unreachable!()
-    }
-
-    /// Hands in what was done with tasks, and takes out the next ones; none where all are done.
-    ///
-    /// A worker's tasks come from its own deque. Where that is empty the desk hands it a batch; where it hands nothing, one
-    /// is stolen; where each deque is empty, it sleeps until a batch is pushed or all are done.
-    pub fn next<J: Tasks, R: Wait>(
-        &self,
-        rt: &R,
-        own: &mut Owner<J>,
-        thieves: &[Thief<J>],
-        tasks: u32,
-        settled: &Settlings,
-    ) -> Option<Taken>
-        requires { tasks ≡ J.tasks }
-        ensures { IfSome result (λ taken. All (λ task. task < J.tasks) taken.items) }
-    {
-        let mut settled = *settled;
-        let mut stolen = None;
-        let mut seen = None;
-        for _ in rt.forever() {
-            match self.turn(rt, own, tasks, &settled, stolen, seen) {
-                Turn::Settle(taken) => return Some(taken),
-                Turn::End => return None,
-                Turn::Find(batches) => seen = Some(batches),
+            // All that isn't done is in the hands of others, who go on with what may come of it.
+            if waited.desk.out() == waited.left {
+                return Turn::End;
             }
-            settled = [None; BATCH];
-            stolen = steal(rt, thieves);
+            waited.has_sleepers = true;
+            waited = self.woken.wait(rt, waited);
         }
         unreachable!()
     }

@@ -1,9 +1,9 @@
-ghost use Rattle.std.specs.Prelude.{◌≡◌, ◌*◌, ◌<◌, All, length};
+ghost use Rattle.std.specs.Prelude.{◌≡◌, ◌*◌, ◌<◌, ◌≤◌, All, length};
 
-use crate::deques::{BATCH, Owner, Tasks, Thief, deques};
+use crate::deques::{Owner, Tasks, Thief, deques, pop, steal};
 use crate::rule::Steps;
 use crate::seat::VerdictSeat;
-use crate::turns::{Settled, Settlings, Turns};
+use crate::turns::{Kept, MOST, Settled, Settlings, Turn, Turns};
 use gates::{Gate, Phase};
 use key_chains::Job;
 use std::alloc::Global;
@@ -20,28 +20,72 @@ fn phase_of(task: u32) -> Phase {
     }
 }
 
-/// Settles tasks that a worker has taken out.
-fn settle_all<G: Gate>(
+/// Passes the gate, and tries to settle a task.
+fn settle_one<G: Gate>(
     job: &Job<'_>,
     seat: &mut VerdictSeat<'_, '_>,
     gate: &G,
-    tasks: &[u32],
-) -> Settlings
+    task: u32,
+) -> Settled
     requires job { seat.old.job ≡ job.now }
-    requires tasks { All (λ task. task < 2 * length job.now.candidates) tasks.now }
+    requires task { task < 2 * length job.now.candidates }
     ensures { seat.new.job ≡ job.now }
 {
-    let mut settled = [None; BATCH];
-    for (place, task) in settled.iter_mut().zip(tasks) {
-        let task = *task;
-        gate.at(phase_of(task), task / 2);
-        let decision = seat.settle(job, task);
-        *place = Some(Settled { task, decision });
-    }
-    settled
+    gate.at(phase_of(task), task / 2);
+    let decision = seat.settle(job, task);
+    Settled { task, decision }
 }
 
-/// One worker: settles tasks until all are done.
+/// Settles the tasks that a worker keeps, and then those of its own deque.
+fn settle_own<J: Tasks, G: Gate>(
+    job: &Job<'_>,
+    seat: &mut VerdictSeat<'_, '_>,
+    gate: &G,
+    kept: &[u32],
+    own: &mut Owner<J>,
+    settled: &mut Settlings,
+)
+    requires job { seat.old.job ≡ job.now }
+    requires tasks { 2 * length job.now.candidates ≡ J.tasks }
+    requires kept { All (λ task. task < 2 * length job.now.candidates) kept.now }
+    requires room { length kept.now ≤ 128 }
+    ensures { seat.new.job ≡ job.now }
+{
+    settled.clear();
+    for task in kept {
+        settled.push(settle_one(job, seat, gate, *task));
+    }
+    for _ in settled.len()..MOST {
+        let Some(task) = pop(own) else {
+            break;
+        };
+        settled.push(settle_one(job, seat, gate, task));
+    }
+}
+
+/// Settles tasks that a worker steals, until each deque is empty in one pass.
+fn settle_stolen<J: Tasks, R: Wait, G: Gate>(
+    rt: &R,
+    job: &Job<'_>,
+    seat: &mut VerdictSeat<'_, '_>,
+    gate: &G,
+    thieves: &[Thief<J>],
+    settled: &mut Settlings,
+)
+    requires job { seat.old.job ≡ job.now }
+    requires tasks { 2 * length job.now.candidates ≡ J.tasks }
+    ensures { seat.new.job ≡ job.now }
+{
+    settled.clear();
+    for _ in 0..MOST {
+        let Some(task) = steal(rt, thieves) else {
+            break;
+        };
+        settled.push(settle_one(job, seat, gate, task));
+    }
+}
+
+/// One worker: settles tasks until nothing is left for it.
 fn work<J: Tasks, R: Wait, G: Gate>(
     rt: &R,
     job: &Job<'_>,
@@ -59,12 +103,32 @@ fn work<J: Tasks, R: Wait, G: Gate>(
     let mut seat = VerdictSeat::enter(steps);
     let mut own = own;
     let tasks = 2 * job.len();
-    let mut settled = [None; BATCH];
+    let mut kept = Kept::new();
+    let mut settled = Settlings::new();
+    let mut seen = None;
     for _ in rt.forever() {
-        let Some(taken) = turns.next(rt, &mut own, thieves, tasks, &settled) else {
-            break;
-        };
-        settled = settle_all(job, &mut seat, gate, taken.as_slice());
+        match turns.next(rt, &mut own, tasks, settled.as_slice(), &mut kept, seen) {
+            Turn::Settle => {
+                settle_own(
+                    job,
+                    &mut seat,
+                    gate,
+                    kept.as_slice(),
+                    &mut own,
+                    &mut settled,
+                );
+                seen = None;
+            }
+            Turn::Find(batches) => {
+                settle_stolen(rt, job, &mut seat, gate, thieves, &mut settled);
+                seen = if settled.is_empty() {
+                    Some(batches)
+                } else {
+                    None
+                };
+            }
+            Turn::End => break,
+        }
     }
 }
 

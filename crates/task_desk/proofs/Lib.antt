@@ -5,6 +5,7 @@ mod Readiness
 mod Reaching
 mod OneBit
 mod Members
+mod FirstBits
 mod Grouping
 mod Linking
 mod Counting

@@ -1,11 +1,11 @@
 -- The numbers in a set of words.
 use Rattle.std.proofs.Common.{◌≡◌, ◌≢◌, ◌⊎◌, inl, inr, ℕ, ◌+◌, ◌*◌, ◌/◌, ◌%◌, ◌<◌, ◌≤◌, eqb, leb, Bool, true, false, cond, Option, Some, None, List, length, set, get_or, refl, sym, ap, ◌∙◌, arith}
-use Rattle.std.specs.Prelude.{◌==◌, slice_index, slice_index_or, replicate, MatchOption}
+use Rattle.std.specs.Prelude.{◌==◌, slice_index, slice_index_or, MatchOption}
 use Rattle.std.specs.Int.{bit_at}
 use Rattle.std.proofs.Math.ListN.{get_or-eq_default}
 use Rattle.std.proofs.lemmas.Bool.Decides.{eqb_tells, leb_tells}
 use Rattle.std.proofs.lemmas.Nat.Bits.{bit_at-zero}
-use Rattle.std.proofs.lemmas.List.{get_or-set_same, get_or-set_other, length-set, length-replicate, get_or-replicate, same_lists}
+use Rattle.std.proofs.lemmas.List.{get_or-set_same, get_or-set_other, length-set, same_lists}
 use Rattle.std.proofs.lemmas.List.FromFn.{get_or-map-range_with_len, length-map-range_with_len}
 use Rattle.task_desk.specs.Bits.{is_set, members, HasWords, IsLeast, IsEmpty}
 use Rattle.task_desk.specs.Groups.{NoneIn, IsFirstIn}
@@ -13,7 +13,7 @@ use Rattle.task_desk.specs.Groups.{NoneIn, IsFirstIn}
 pub members-length : (words : List ℕ) (count : ℕ) → length (members words count) ≡ count
 members-length words count = length-map-range_with_len (is_set words) 0 count
 
-member-at : (words : List ℕ) (count k : ℕ) (d : Bool) → k < count → slice_index_or (members words count) k d ≡ is_set words k
+pub member-at : (words : List ℕ) (count k : ℕ) (d : Bool) → k < count → slice_index_or (members words count) k d ≡ is_set words k
 member-at words count k d lt = get_or-map-range_with_len (is_set words) 0 count k k d lt (omega arith)
 
 -- below the count and above it
@@ -27,28 +27,6 @@ members-at words count k has = by (leb_tells count k)
 -- a word of no bits
 zero_word : (words : List ℕ) (k : ℕ) → slice_index words (k / 64) ≡ 0 → is_set words k ≡ false
 zero_word words k e = ap (λ (x : ℕ). bit_at x (k % 64) == 1) e ∙ ap (λ (x : ℕ). x == 1) (bit_at-zero (k % 64))
-
--- ---- an empty set
-
-zeros : (n i : ℕ) → slice_index (replicate n 0) i ≡ 0
-zeros n i = by (leb_tells n i)
-  where
-    by : ((leb n i ≡ true) × (n ≤ i)) ⊎ ((leb n i ≡ false) × (i < n)) → slice_index (replicate n 0) i ≡ 0
-    by (inl d) = get_or-eq_default (replicate n 0) 0 (omega (arith, length-replicate {A = ℕ} n 0))
-    by (inr d) = get_or-replicate n i 0 0 d.1
-
-pub empty-members : (words : List ℕ) (n count : ℕ) → words ≡ replicate n 0 → members words count ≡ replicate count false
-empty-members words n count is =
-    same_lists (members words count) (replicate count false) (members-length words count ∙ sym (length-replicate {A = Bool} count false))
-    (λ k d lt. member-at words count k d (omega (arith, members-length words count)) ∙ ap (λ ws. is_set ws k) is ∙ zero_word (replicate n 0) k (zeros n (k / 64))
-    ∙ sym (get_or-replicate count k false d (omega (arith, members-length words count))))
-
-pub empty-words : (words : List ℕ) (n count : ℕ) → words ≡ replicate n 0 → n ≤ 128 → count ≤ 64 * n → HasWords words count
-empty-words words n count is few enough = record {
-  few = let same : length words ≡ n = ap (λ (ws : List ℕ). length ws) is ∙ length-replicate {A = ℕ} n 0 in omega arith;
-  enough = let same : length words ≡ n = ap (λ (ws : List ℕ). length ws) is ∙ length-replicate {A = ℕ} n 0 in omega arith;
-  none_above = λ k le. ap (λ ws. is_set ws k) is ∙ zero_word (replicate n 0) k (zeros n (k / 64));
-}
 
 -- ---- a number is put in or taken out
 

@@ -75,14 +75,16 @@ impl Statuses {
             .unwrap_or(Status::Done)
     }
 
-    /// From now on a task is there.
+    /// From now on a task is there. Inlined, since a caller knows one status or both, and what they don't change is left out.
+    #[inline(always)]
     pub fn set(&mut self, task: u32, status: Status)
         requires { task < length self.old }
         ensures { self.new ≡ slice_set self.old task status }
     {
         let old = self.at(task);
-        self.ready.set(task, status.is_ready());
-        self.unhanded.set(task, status.is_unhanded());
+        self.ready.change(task, old.is_ready(), status.is_ready());
+        self.unhanded
+            .change(task, old.is_unhanded(), status.is_unhanded());
         self.out = recounted(self.out, old.is_out(), status.is_out());
         self.undone = recounted(self.undone, !old.is_done(), !status.is_done());
         self.list[task as usize] = status;

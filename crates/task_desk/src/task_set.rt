@@ -1,6 +1,7 @@
 //! A set of tasks whose least one is found at once: beside the tasks' bits stands a bit for each 64 of them.
 ghost use Rattle.std.specs.Prelude.{◌≡◌, ◌<◌, ◌≤◌, true, length, replicate, slice_set, IfOk, MatchOption};
 ghost use Rattle.task_desk.specs.Bits.{IsLeast, IsEmpty};
+ghost use Rattle.task_desk.specs.Groups.{is_member};
 
 use crate::bit_set::BitSet;
 use std::alloc::{AllocError, Global};
@@ -36,7 +37,7 @@ impl TaskSet {
     }
 
     /// Puts a task in or takes it out. Constant.
-    pub fn set(&mut self, task: u32, member: bool)
+    fn set(&mut self, task: u32, member: bool)
         requires { task < length self.old }
         ensures { self.new ≡ slice_set self.old task member }
     {
@@ -44,6 +45,17 @@ impl TaskSet {
         self.members.set(task, member);
         self.filled
             .set(group, self.members.first_of(group).is_some());
+    }
+
+    /// Puts a task in or takes it out, told whether it was in: nothing is written where nothing changes.
+    pub fn change(&mut self, task: u32, was: bool, is: bool)
+        requires task { task < length self.old }
+        requires was { was ≡ is_member self.old task }
+        ensures { self.new ≡ slice_set self.old task is }
+    {
+        if was != is {
+            self.set(task, is);
+        }
     }
 
     /// The least task in the set. Constant: a look at two words, and at one of the tasks' own.

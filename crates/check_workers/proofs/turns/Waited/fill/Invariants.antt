@@ -3,4 +3,4 @@ use Rattle.arrayvec.specs.ArrayVec.{array_vec_len}
 use Rattle.check_workers.proofs.turns.Waited.fill.Given as goal
 
 abbrev pub invariant-loop-place : goal.invariant-loop-place
-invariant-loop-place g l = (array_vec_len l.taken ≤ l.place) × All (λ task. task < g.J.Tasks.tasks) l.taken.items
+invariant-loop-place g l = (array_vec_len l.kept ≤ l.place) × All (λ task. task < g.J.Tasks.tasks) l.kept.items
