@@ -8,7 +8,9 @@ mod Needs
 mod Opened
 mod Order
 mod PageOrder
+mod Passed
 mod Puts
 mod Removes
 mod Tests
+mod Words
 mod Worked

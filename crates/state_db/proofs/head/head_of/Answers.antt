@@ -1,5 +1,5 @@
-use Rattle.std.proofs.Common.{◌≡◌, ◌<◌, ℕ, get_or, length, sym, subst, ◌∙◌, arith}
-use Rattle.std.specs.Prelude.{slice_set}
+use Rattle.std.proofs.Common.{◌≡◌, ◌<◌, ℕ, get_or, length, sym, ap, subst, ◌∙◌, arith}
+use Rattle.std.specs.Prelude.{slice_set, min}
 use Rattle.std.proofs.Math.ListN.{length-set}
 use Rattle.std.proofs.lemmas.List.Edits.{fill_by_more}
 use Rattle.state_db.specs.Head.{spelled, head_of}
@@ -20,4 +20,5 @@ loop-place-preserved c =
 pub returns : goal.returns
 unfolding head_of
 returns c =
-    by_bytes 16 c.loop-place.head (spelled (c.args.namespace.now, c.args.key.now)) c.loop-place.invariant.len (λ i lt. c.loop-place.invariant.bytes i (omega arith))
+    ap (slice_set c.loop-place.head 23) c.count_of.ensures
+    ∙ by_bytes 23 (min (length (spelled (c.args.namespace.now, c.args.key.now))) 24) c.loop-place.head (spelled (c.args.namespace.now, c.args.key.now)) c.loop-place.invariant.len (λ i lt. c.loop-place.invariant.bytes i (omega arith))
