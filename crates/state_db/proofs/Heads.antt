@@ -1,11 +1,13 @@
 -- Heads that differ tell the order of the keys.
-use Rattle.std.proofs.Common.{◌≡◌, ℕ, zero, suc, ◌<◌, true, ◌&&◌, List, [], ◌∷◌, ◌++◌, ◌+◌, ◌≤◌, length, get_or, take, drop, refl, sym, ap, subst, ◌∙◌, arith}
+use Rattle.std.proofs.Common.{◌≡◌, ℕ, zero, suc, ◌<◌, true, ◌&&◌, List, [], ◌∷◌, ◌++◌, ◌+◌, ◌-◌, ◌≤◌, inl, inr, length, get_or, take, drop, refl, sym, ap, subst, ◌∙◌, arith}
 use Rattle.std.specs.Prelude.{IsTrue, nat_le, min, slice_set}
 use Rattle.std.specs.declared.cmp.Ordering.{Ordering}
 use Rattle.std.specs.declared.cmp.Ordering.TheVariants.{Less, Equal, Greater}
 use Rattle.std.specs.Ordering.{nat_cmp, ordering_then, ordering_reverse, MatchOrdering}
 use Rattle.std.specs.List.{list_all}
+use Rattle.std.proofs.lemmas.Bool.{cases_lt}
 use Rattle.std.proofs.lemmas.Bool.Decides.{nat_tests}
+use Rattle.std.proofs.lemmas.List.{get_or_past}
 use Rattle.std.specs.Cmp.{nat_cmp_is, nat_cmp_total, ranks}
 use Rattle.std.specs.Cmp.Lexicographic.{nat_list_cmp_total}
 use Rattle.values.specs.Order.{bytes_cmp}
@@ -25,6 +27,56 @@ by_bytes zero m (a ∷ []) bytes e h = refl
 by_bytes zero m (a ∷ c ∷ head) bytes e h = absurd (omega arith)
 by_bytes (suc n) m (a ∷ head) [] e h = λ i. h 0 (omega arith) i ∷ by_bytes n m head [] (omega arith) (λ j lt. h (suc j) (omega arith)) i
 by_bytes (suc n) m (a ∷ head) (b ∷ bytes) e h = λ i. h 0 (omega arith) i ∷ by_bytes n m head bytes (omega arith) (λ j lt. h (suc j) (omega arith)) i
+
+pub zeros_at : (n i : ℕ) → get_or (padded n []) i 0 ≡ 0
+zeros_at zero i = refl
+zeros_at (suc n) zero = refl
+zeros_at (suc n) (suc i) = zeros_at n i
+
+-- the string by its parts
+in_front : (ns rest : List ℕ) (i : ℕ) → i < length ns → get_or (ns ++ rest) i 0 ≡ get_or ns i 0
+in_front [] rest i lt = absurd (omega arith)
+in_front (x ∷ ns) rest zero lt = refl
+in_front (x ∷ ns) rest (suc i) lt = in_front ns rest i (omega arith)
+
+between : (ns rest : List ℕ) (i : ℕ) → i ≡ length ns → get_or (ns ++ 0 ∷ rest) i 0 ≡ 0
+between [] rest i e = ap (λ (j : ℕ). get_or (0 ∷ rest) j 0) e
+between (x ∷ ns) rest zero e = absurd (omega arith)
+between (x ∷ ns) rest (suc i) e = between ns rest i (omega arith)
+
+in_rest : (ns rest : List ℕ) (i j : ℕ) → i ≡ length ns + 1 + j → get_or (ns ++ 0 ∷ rest) i 0 ≡ get_or rest j 0
+in_rest [] rest i j e = ap (λ (k : ℕ). get_or (0 ∷ rest) k 0) (e ∙ next)
+  where
+    next : length {A = ℕ} [] + 1 + j ≡ suc j
+    next = omega arith
+in_rest (x ∷ ns) rest zero j e = absurd (omega arith)
+in_rest (x ∷ ns) rest (suc i) j e = in_rest ns rest i j (omega arith)
+
+-- a namespace over zeros, and a key behind it
+pub by_parts : (ns key zeros one two : List ℕ) (from : ℕ) → from ≡ min (length ns) 22 + 1
+    → ((i : ℕ) → get_or zeros i 0 ≡ 0)
+    → ((i : ℕ) → i < length ns → 0 + i < 23 → get_or one (0 + i) 0 ≡ get_or ns i 0)
+    → ((i : ℕ) → 0 + length ns ≤ i → get_or one i 0 ≡ get_or zeros i 0)
+    → ((i : ℕ) → i < from → get_or two i 0 ≡ get_or one i 0)
+    → ((i : ℕ) → i < length key → from + i < 23 → get_or two (from + i) 0 ≡ get_or key i 0)
+    → ((i : ℕ) → from + length key ≤ i → get_or two i 0 ≡ get_or one i 0)
+    → (i : ℕ) → i < 23 → get_or two i 0 ≡ get_or (ns ++ 0 ∷ key) i 0
+by_parts ns key zeros one two from is none there behind before key_there key_behind i lt =
+    elim (cases_lt i (length ns)) [
+      | inl front ↦
+        let at : 0 + i ≡ i = omega arith in
+        before i (omega (arith, is)) ∙ ap (λ (j : ℕ). get_or one j 0) (sym at) ∙ there i front (omega arith) ∙ sym (in_front ns (0 ∷ key) i front)
+      | inr past ↦ elim (cases_lt (length ns) i) [
+        | inl more ↦ elim (cases_lt (i - from) (length key)) [
+          | inl inside ↦
+            let at : from + (i - from) ≡ i = omega (arith, is) in
+            ap (λ (j : ℕ). get_or two j 0) (sym at) ∙ key_there (i - from) inside (omega (arith, is)) ∙ sym (in_rest ns key i (i - from) (omega (arith, is)))
+          | inr over ↦
+            key_behind i (omega (arith, is)) ∙ behind i (omega arith) ∙ none i ∙ sym (in_rest ns key i (i - from) (omega (arith, is)) ∙ get_or_past key (i - from) 0 over)
+        ]
+        | inr same ↦ before i (omega (arith, is)) ∙ behind i (omega arith) ∙ none i ∙ sym (between ns key i (omega arith))
+      ]
+    ]
 
 -- ---- the order of heads
 
