@@ -64,15 +64,15 @@ pub by_parts : (ns key zeros one two : List ℕ) (from : ℕ) → from ≡ min (
 by_parts ns key zeros one two from is none there behind before key_there key_behind i lt =
     elim (cases_lt i (length ns)) [
       | inl front ↦
-        let at : 0 + i ≡ i = omega arith in
-        before i (omega (arith, is)) ∙ ap (λ (j : ℕ). get_or one j 0) (sym at) ∙ there i front (omega arith) ∙ sym (in_front ns (0 ∷ key) i front)
+          let at : 0 + i ≡ i = omega arith in
+          before i (omega (arith, is)) ∙ ap (λ (j : ℕ). get_or one j 0) (sym at) ∙ there i front (omega arith) ∙ sym (in_front ns (0 ∷ key) i front)
       | inr past ↦ elim (cases_lt (length ns) i) [
         | inl more ↦ elim (cases_lt (i - from) (length key)) [
           | inl inside ↦
-            let at : from + (i - from) ≡ i = omega (arith, is) in
-            ap (λ (j : ℕ). get_or two j 0) (sym at) ∙ key_there (i - from) inside (omega (arith, is)) ∙ sym (in_rest ns key i (i - from) (omega (arith, is)))
+              let at : from + (i - from) ≡ i = omega (arith, is) in
+              ap (λ (j : ℕ). get_or two j 0) (sym at) ∙ key_there (i - from) inside (omega (arith, is)) ∙ sym (in_rest ns key i (i - from) (omega (arith, is)))
           | inr over ↦
-            key_behind i (omega (arith, is)) ∙ behind i (omega arith) ∙ none i ∙ sym (in_rest ns key i (i - from) (omega (arith, is)) ∙ get_or_past key (i - from) 0 over)
+              key_behind i (omega (arith, is)) ∙ behind i (omega arith) ∙ none i ∙ sym (in_rest ns key i (i - from) (omega (arith, is)) ∙ get_or_past key (i - from) 0 over)
         ]
         | inr same ↦ before i (omega (arith, is)) ∙ behind i (omega arith) ∙ none i ∙ sym (between ns key i (omega arith))
       ]
