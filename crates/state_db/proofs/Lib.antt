@@ -1,4 +1,5 @@
 mod Batches
+mod Begun
 mod Counts
 mod FromKey
 mod Heads

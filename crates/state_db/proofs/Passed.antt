@@ -6,6 +6,7 @@ use Rattle.std.specs.Ordering.{is_lt}
 use Rattle.std.specs.List.{insert}
 use Rattle.std.specs.List as lists
 use Rattle.std.proofs.Math.ListN.{length-set}
+use Rattle.std.proofs.lemmas.List.{take-append-le}
 use Rattle.std.specs.FinMap.{is_sorted}
 use Rattle.std.specs.FinMap.Entries.{below_all}
 use Rattle.rules.specs.declared.row.Row.{Row}
@@ -71,6 +72,11 @@ passed_drop k ps n q at lt = λ x less.
     home_behind n ps (lists.remove qs n) k x at
     (front_part n n qs (drop (suc n) qs) (omega arith) (omega (arith, len)) ∙ front_set n ps q)
     (simp (length-append, length-take, length-drop) (omega (arith, len))) less
+
+-- a page behind all others
+pub passed_begun : (k : StateKey) (ps : List RowList) (n : ℕ) (q : RowList) → n ≡ home k ps → n < length ps → IsPassed k (ps ++ q ∷ []) n
+passed_begun k ps n q at lt = λ x less.
+    home_behind n ps (ps ++ q ∷ []) k x at (take-append-le n ps (q ∷ []) (omega arith)) (simp length-append (omega arith)) less
 
 -- ---- the changes that are left
 

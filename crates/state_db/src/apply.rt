@@ -1,20 +1,50 @@
 //! Changes made in pages: all memory first, then moves alone.
-ghost use Rattle.std.specs.Prelude.{◌≡◌, ◌==◌, ◌<◌, ◌≤◌, ◌+◌, ◌-◌, [], length, get_or, IfOk, OnOk, OnErr};
+ghost use Rattle.std.specs.Prelude.{◌≡◌, ◌==◌, ◌<◌, ◌≤◌, ◌+◌, ◌-◌, [], ◌∷◌, ◌++◌, true, length, get_or, IfOk, OnOk, OnErr};
 ghost use Rattle.std.specs.Vec.{vec_capacity};
 ghost use Rattle.state_db.specs.Edits.{edited};
 ghost use Rattle.state_db.specs.Need.{need, AreOpen, AreEmpty};
-ghost use Rattle.state_db.specs.Pages.{joined, home, ArePages};
+ghost use Rattle.state_db.specs.Pages.{joined, home, is_page_below, ArePages};
 ghost use Rattle.state_db.specs.Search.{IsSorted};
-ghost use Rattle.state_db.specs.Steps.{IsPut, IsRemoved, IsPassed};
+ghost use Rattle.state_db.specs.Steps.{IsPut, IsRemoved, IsPassed, IsBehindFull};
 
 use crate::directory::home_from;
 use crate::edit::Edit;
 use crate::page::{MAX_ROWS, Page};
+use crate::search::Ordered;
 use crate::slot::Slot;
 use crate::spare::{pages_needed, spare_pages};
 use crate::wanted::Wanted;
 use rules::Change;
 use std::alloc::{AllocError, Global};
+
+/// Whether the page is full, and all its rows stand before the key.
+fn is_full_before(page: &Page, wanted: &Wanted<'_>) -> bool
+    ensures full { result ≡ true → length page.now ≡ 256 }
+    ensures below { result ≡ true → is_page_below wanted.now page.now ≡ true }
+{
+    if page.len() != MAX_ROWS {
+        return false;
+    }
+    page.is_below(wanted)
+}
+
+/// Puts a row behind all others into a page of its own, so that rows that come in order fill their pages. Takes no memory.
+fn begin_page(pages: &mut Vec<Page>, spare: &mut Vec<Page>, slot: Slot)
+    requires open { AreOpen pages.old.items }
+    requires behind { IsBehindFull slot.0 pages.old.items }
+    requires empty { AreEmpty spare.old.items }
+    requires stock { 0 < length spare.old.items }
+    requires room { length pages.old.items + length spare.old.items ≤ vec_capacity pages.old }
+    ensures pages { pages.new.items ≡ pages.old.items ++ (slot ∷ []) ∷ [] }
+    ensures made { IsPut slot.0 slot.1 pages.old.items pages.new.items (length spare.old.items) (length spare.new.items) }
+    ensures empty { AreEmpty spare.new.items }
+    ensures room { length pages.new.items + length spare.new.items ≤ vec_capacity pages.new }
+{
+    if let Some(mut page) = spare.pop() {
+        page.put(slot);
+        pages.push_reserved(page);
+    }
+}
 
 /// Puts a row, whose page is at or behind a place. Answers where that page is, or its first part. Takes no memory.
 fn put(pages: &mut Vec<Page>, spare: &mut Vec<Page>, from: usize, slot: Slot) -> usize
@@ -29,6 +59,10 @@ fn put(pages: &mut Vec<Page>, spare: &mut Vec<Page>, from: usize, slot: Slot) ->
     ensures room { length pages.new.items + length spare.new.items ≤ vec_capacity pages.new }
 {
     let at = home_from(pages.as_slice(), from, &slot.wanted());
+    if is_full_before(&pages[at], &slot.wanted()) {
+        begin_page(pages, spare, slot);
+        return at;
+    }
     let page = &mut pages[at];
     page.put(slot);
     if page.len() > MAX_ROWS {

@@ -4,12 +4,13 @@ use Rattle.std.specs.List.{insert}
 use Rattle.std.specs.Vec.{vec_len, vec_capacity}
 use Rattle.rules.specs.State.{StateKey}
 use Rattle.state_db.specs.Search.{IsSorted}
-use Rattle.state_db.specs.Pages.{RowList, home}
+use Rattle.state_db.specs.Pages.{RowList, home, is_page_below}
 use Rattle.state_db.specs.Need.{AreEmpty}
 use Rattle.state_db.specs.Steps.{IsPut, IsPassed}
 use Rattle.state_db.proofs.PageOrder.{page_sorted}
 use Rattle.state_db.proofs.Opened.{bound_at, put_more, put_kept, put_parted, empty_last, any_default}
-use Rattle.state_db.proofs.Passed.{passed_set, passed_split}
+use Rattle.state_db.proofs.Begun.{at_end}
+use Rattle.state_db.proofs.Passed.{passed_set, passed_split, passed_begun}
 use Rattle.state_db.proofs.apply.put.Goals as goal
 
 pub put-requires-clause-sorted : goal.put-requires-clause-sorted
@@ -120,3 +121,24 @@ returns-in_default-clause-passed c =
     let lt : n < length ps = subst (λ (qs : List RowList). n < length qs) c.as_slice.ensures.value c.home_from-at.ensures.bound in
     let at : n ≡ home k ps = c.home_from-at.ensures.place ∙ (λ i. home (c.wanted.ensures i) (c.as_slice.ensures.value i)) in
     passed_set k ps n c.put.new.self at lt
+
+pub begin_page-requires-clause-behind : goal.begin_page-requires-clause-behind
+begin_page-requires-clause-behind c =
+    let ps = c.args.pages.now.items in
+    let k : StateKey = c.args.slot.0 in
+    let n = c.home_from-at.result in
+    let p : RowList = c.index.result.now in
+    let lt : n < length ps = subst (λ (qs : List RowList). n < length qs) c.as_slice.ensures.value c.home_from-at.ensures.bound in
+    let at : n ≡ home k ps = c.home_from-at.ensures.place ∙ (λ i. home (c.wanted.ensures i) (c.as_slice.ensures.value i)) in
+    let there : p ≡ get_or ps (home k ps) p = c.index.ensures ∙ ap (λ (i : ℕ). get_or ps i p) at in
+    at_end k ps p p (omega (arith, lt)) there (c.is_full_before.ensures.full c.if-is_full_before.true)
+    (ap (λ (x : StateKey). is_page_below x p) (sym c.wanted-2.ensures) ∙ c.is_full_before.ensures.below c.if-is_full_before.true)
+
+pub returns-then-is_full_before-clause-passed : goal.returns-then-is_full_before-clause-passed
+returns-then-is_full_before-clause-passed c =
+    let ps = c.args.pages.now.items in
+    let k : StateKey = c.args.slot.0 in
+    let n = c.home_from-at.result in
+    let lt : n < length ps = subst (λ (qs : List RowList). n < length qs) c.as_slice.ensures.value c.home_from-at.ensures.bound in
+    let at : n ≡ home k ps = c.home_from-at.ensures.place ∙ (λ i. home (c.wanted.ensures i) (c.as_slice.ensures.value i)) in
+    subst (λ (xs : List RowList). IsPassed k xs n) (sym c.begin_page.ensures.pages) (passed_begun k ps n (c.args.slot ∷ []) at lt)
