@@ -1,5 +1,5 @@
 -- A row behind all others that begins a page of its own.
-use Rattle.std.proofs.Common.{◌≡◌, ℕ, suc, ◌+◌, ◌<◌, ◌≤◌, Bool, true, false, List, [], ◌∷◌, ◌++◌, ◌&&◌, Some, length, get_or, take, refl, sym, ap, subst, ◌∙◌, length-append, append-nil, append_assoc, arith}
+use Rattle.std.proofs.Common.{◌≡◌, ℕ, suc, ◌+◌, ◌<◌, ◌≤◌, Bool, true, false, List, [], ◌∷◌, ◌++◌, ◌&&◌, Some, length, get_or, refl, sym, ap, ◌∙◌, length-append, append-nil, append_assoc, arith}
 use Rattle.std.specs.Prelude.{if◌then◌else◌}
 use Rattle.std.specs.List.{list_all}
 use Rattle.std.specs.FinMap.{is_sorted}
@@ -9,12 +9,12 @@ use Rattle.rules.specs.State.{StateKey, ChangeOf, key_cmp}
 use Rattle.rules.proofs.Booleans.{both_true}
 use Rattle.state_db.specs.Search.{IsSorted, is_below}
 use Rattle.state_db.specs.Pages.{RowList, joined, AreFilled, is_page_below, home}
-use Rattle.state_db.specs.Need.{added_by, splits, need, past, up_to, AreBounded, AreOpen}
+use Rattle.state_db.specs.Need.{need, AreBounded, AreOpen}
 use Rattle.state_db.specs.Steps.{IsPut, IsBehindFull}
 use Rattle.state_db.proofs.Order.{sorted_front, sorted_back}
 use Rattle.state_db.proofs.PageOrder.{below_all_of}
 use Rattle.state_db.proofs.Puts.{put_skip}
-use Rattle.state_db.proofs.Needs.{all_past, none_up_to, need_cons}
+use Rattle.state_db.proofs.Needs.{all_past, none_up_to}
 use Rattle.state_db.proofs.Opened.{put_sorted}
 
 -- a page that is full, whose last row stands before a key that belongs to it, is the last

@@ -1,6 +1,6 @@
-use Rattle.std.proofs.Common.{◌≡◌, ◌≤◌, ℕ, ◌+◌, List, drop, length, sym, ap, subst, ◌∙◌, arith}
+use Rattle.std.proofs.Common.{◌≤◌, ℕ, ◌+◌, List, drop, sym, ap, subst, ◌∙◌, arith}
 use Rattle.state_db.specs.Search.{leading, Falls}
-use Rattle.state_db.specs.Pages.{RowList, is_page_below, home}
+use Rattle.state_db.specs.Pages.{RowList, is_page_below}
 use Rattle.state_db.proofs.Leading.{falls_drop, leading_drop}
 use Rattle.state_db.proofs.PageOrder.{others, others-take, home-leading, home-lt, falls_pages}
 use Rattle.state_db.proofs.directory.home_from.Goals as goal

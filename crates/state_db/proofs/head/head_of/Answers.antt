@@ -1,4 +1,4 @@
-use Rattle.std.proofs.Common.{◌≡◌, ◌+◌, ℕ, List, [], length, sym, ap, ◌∙◌, arith}
+use Rattle.std.proofs.Common.{◌≡◌, ◌+◌, ℕ, [], length, ap, ◌∙◌, arith}
 use Rattle.std.specs.Prelude.{slice_set, min}
 use Rattle.state_db.specs.Head.{spelled, padded, head_of}
 use Rattle.state_db.proofs.Heads.{by_bytes, by_parts, zeros_at}

@@ -1,4 +1,4 @@
-use Rattle.std.proofs.Common.{◌≡◌, length, ◌+◌, ◌<◌, ◌≤◌, true, false, get_or, sym, ap, ◌∙◌, arith}
+use Rattle.std.proofs.Common.{◌≡◌, ◌<◌, true, false, get_or, sym, ap, ◌∙◌, arith}
 use Rattle.state_db.specs.Search.{leading}
 use Rattle.state_db.proofs.Leading.{leading-le, fails_at, passes_at}
 use Rattle.state_db.proofs.search.count_few_below.Goals as goal

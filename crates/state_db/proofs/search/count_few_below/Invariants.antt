@@ -1,4 +1,4 @@
-use Rattle.std.proofs.Common.{◌+◌, ◌-◌, ◌≤◌, length}
+use Rattle.std.proofs.Common.{◌-◌, ◌≤◌, length}
 use Rattle.state_db.specs.Search.{leading}
 use Rattle.state_db.proofs.search.count_few_below.Given as goal
 
