@@ -1,7 +1,7 @@
-ghost use Rattle.std.specs.Prelude.{◌≡◌, IsTrue, IfSome};
+ghost use Rattle.std.specs.Prelude.{◌≡◌, false, IsTrue, IfSome, IfNone};
 ghost use Rattle.values.specs.Name.{is_name};
 ghost use Rattle.rules.specs.State.{StateKey, key_cmp};
-ghost use Rattle.state_db.specs.Head.{head_of};
+ghost use Rattle.state_db.specs.Head.{head_of, is_whole};
 
 use crate::head::{Head, head_of, is_whole, order_of};
 use std::cmp::Ordering;
@@ -53,7 +53,8 @@ impl<'a> Wanted<'a> {
 
     /// How a key with this head stands to this one, or `None` where the heads don't tell.
     pub fn order_by_head(&self, head: &Head) -> Option<Ordering>
-        ensures { (k : StateKey) → IsTrue (is_name k.0) → head.now ≡ head_of k → IfSome result (λ order. order ≡ key_cmp k self.now) }
+        ensures told { (k : StateKey) → IsTrue (is_name k.0) → head.now ≡ head_of k → IfSome result (λ order. order ≡ key_cmp k self.now) }
+        ensures same { IfNone result ((head.now ≡ head_of self.now) × (is_whole head.now ≡ false)) }
     {
         let order = order_of(head, &self.head);
         if order.is_eq() && !is_whole(head) {
