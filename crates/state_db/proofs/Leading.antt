@@ -1,5 +1,5 @@
 -- How many lead up to a key.
-use Rattle.std.proofs.Common.{◌≡◌, ℕ, zero, suc, ◌<◌, ◌≤◌, Bool, true, false, List, [], ◌∷◌, ◌||◌, length, get_or, refl, sym, ap, subst, ◌∙◌, arith}
+use Rattle.std.proofs.Common.{◌≡◌, ℕ, zero, suc, ◌<◌, ◌≤◌, Bool, true, false, List, [], ◌∷◌, ◌||◌, length, get_or, drop, ◌+◌, refl, sym, ap, subst, ◌∙◌, arith}
 use Rattle.std.specs.Prelude.{if◌then◌else◌}
 use Rattle.std.specs.List.{list_any}
 use Rattle.state_db.specs.Search.{leading, Falls}
@@ -41,3 +41,19 @@ module _ {X : Type 0} (test : X → Bool) where
       by : (b : Bool) → test x ≡ b → i < leading test xs → suc i < (if b then suc (leading test xs) else 0)
       by true s r = omega arith
       by false s r = absurd (let none = h.0 s in let some = any_at xs i d (omega arith) e in let wrong : false ≡ true = sym none ∙ some in cc)
+
+  pub falls_drop : (n : ℕ) (xs : List X) → Falls test xs → Falls test (drop n xs)
+  falls_drop zero xs h = h
+  falls_drop (suc n) [] h = tt
+  falls_drop (suc n) (x ∷ xs) h = falls_drop n xs h.1
+
+  -- those that lead up to a place, and those from there on
+  pub leading_drop : (n : ℕ) (xs : List X) → n ≤ leading test xs → n + leading test (drop n xs) ≡ leading test xs
+  leading_drop zero xs h = omega arith
+  leading_drop (suc n) [] h = absurd (omega arith)
+  leading_drop (suc n) (x ∷ xs) h = by (test x) h (leading_drop n xs)
+    where
+      by : (b : Bool) → suc n ≤ (if b then suc (leading test xs) else 0) → (n ≤ leading test xs → n + leading test (drop n xs) ≡ leading test xs)
+          → suc n + leading test (drop n xs) ≡ (if b then suc (leading test xs) else 0)
+      by true h r = let more = r (omega arith) in omega (arith, more)
+      by false h r = absurd (omega arith)

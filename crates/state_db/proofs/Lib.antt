@@ -1,4 +1,5 @@
 mod Batches
+mod Begun
 mod Counts
 mod FromKey
 mod Heads
@@ -8,7 +9,9 @@ mod Needs
 mod Opened
 mod Order
 mod PageOrder
+mod Passed
 mod Puts
 mod Removes
 mod Tests
+mod Words
 mod Worked

@@ -57,7 +57,7 @@ filter_none [] = refl
 filter_none (c ∷ cs) = filter_none cs
 
 -- a page whose last row is before a key is before each key behind it
-page_below_more : (k x : StateKey) (p : RowList) → key_cmp k x ≡ Less → is_page_below k p ≡ true → is_page_below x p ≡ true
+pub page_below_more : (k x : StateKey) (p : RowList) → key_cmp k x ≡ Less → is_page_below k p ≡ true → is_page_below x p ≡ true
 page_below_more k x [] lt h = refl
 page_below_more k x (e ∷ []) lt h = ap is_lt (key_cmp_total.trans e.0 k x (is_Less (key_cmp e.0 k) h) lt)
 page_below_more k x (e ∷ f ∷ p) lt h = page_below_more k x (f ∷ p) lt h

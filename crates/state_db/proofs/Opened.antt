@@ -135,7 +135,7 @@ without_all k x (e ∷ es) lt = by (key_cmp k e.0) refl (without_all k x es lt)
     by Equal s r = r ∙ ap (λ (b : Bool). b && list_all (is_below x) es) (sym (ap is_lt (sym (key_cmp_total.congr k e.0 x s) ∙ lt)))
     by Greater s r = ap (λ (b : Bool). is_below x e && b) r
 
-put_sorted : (k : StateKey) (v : Row) (es : RowList) → IsSorted es → IsSorted (put key_cmp k v es)
+pub put_sorted : (k : StateKey) (v : Row) (es : RowList) → IsSorted es → IsSorted (put key_cmp k v es)
 put_sorted k v es h = shown _ (is_sorted-put key_cmp key_cmp_total k v es (told _ h))
 
 without_sorted : (k : StateKey) (es : RowList) → IsSorted es → IsSorted (without k es)

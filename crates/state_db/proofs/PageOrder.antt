@@ -21,8 +21,7 @@ last_at (f ∷ []) (suc n) l e is = absurd (omega arith)
 last_at (f ∷ g ∷ p) zero l e is = absurd (omega arith)
 last_at (f ∷ g ∷ p) (suc n) l e is = last_at (g ∷ p) n (omega arith) e is
 
-pub no_last : (p : RowList) → length p ≡ 0 → padded 16 (0 ∷ []) ≡ last_head p
-unfolding head_of
+pub no_last : (p : RowList) → length p ≡ 0 → padded 24 [] ≡ last_head p
 no_last [] e = refl
 no_last (e ∷ p) l = absurd (omega arith)
 

@@ -12,8 +12,8 @@ use Rattle.state_db.specs.Need.{splits, need}
 key : ℕ → StateKey
 key letter = (110 ∷ [], letter ∷ [])
 
--- `n`, a zero, `a`, and zeros
-head_of_a : head_of (110 ∷ [], 97 ∷ []) ≡ 110 ∷ 0 ∷ 97 ∷ 0 ∷ 0 ∷ 0 ∷ 0 ∷ 0 ∷ 0 ∷ 0 ∷ 0 ∷ 0 ∷ 0 ∷ 0 ∷ 0 ∷ 0 ∷ []
+-- `n`, a zero, `a`, and zeros, behind which it says that there are three bytes
+head_of_a : head_of (110 ∷ [], 97 ∷ []) ≡ 110 ∷ 0 ∷ 97 ∷ 0 ∷ 0 ∷ 0 ∷ 0 ∷ 0 ∷ 0 ∷ 0 ∷ 0 ∷ 0 ∷ 0 ∷ 0 ∷ 0 ∷ 0 ∷ 0 ∷ 0 ∷ 0 ∷ 0 ∷ 0 ∷ 0 ∷ 0 ∷ 3 ∷ []
 unfolding head_of
 head_of_a = refl
 

@@ -3,7 +3,7 @@ use Rattle.std.specs.Prelude.{◌<◌, ◌≤◌, ℕ, suc, Bool, true, List, []
 use Rattle.std.specs.FinMap.{from_sorted}
 use Rattle.rules.specs.declared.row.Row.{Row}
 use Rattle.rules.specs.State.{StateKey, State}
-use Rattle.state_db.specs.Head.{head_of}
+use Rattle.state_db.specs.Head.{padded, head_of}
 use Rattle.state_db.specs.Search.{Keyed, IsSorted, is_below}
 
 -- a state, beside it how many rows each of its pages has
@@ -57,8 +57,8 @@ home k [] = 0
 home k (p ∷ []) = 0
 home k (p ∷ q ∷ ps) = if is_page_below k p then suc (home k (q ∷ ps)) else 0
 
--- the head of the last row
+-- the head of the last row, or zeros where there is none
 abbrev pub last_head : RowList → List ℕ
-last_head [] = head_of ([], [])
+last_head [] = padded 24 []
 last_head (e ∷ []) = head_of e.0
 last_head (e ∷ f ∷ es) = last_head (f ∷ es)

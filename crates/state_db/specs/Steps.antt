@@ -1,9 +1,10 @@
 -- What one change makes of pages. No public contract cites this.
-use Rattle.std.specs.Prelude.{◌≡◌, ◌≤◌, ℕ, ◌+◌, true, List, ◌∷◌, Some, None}
+use Rattle.std.specs.Prelude.{◌≡◌, ◌≤◌, ℕ, ◌+◌, true, List, [], ◌∷◌, Some, None, length, ⊤}
+use Rattle.std.specs.declared.cmp.Ordering.TheVariants.{Less}
 use Rattle.std.specs.FinMap.Entries.{put, below_all}
 use Rattle.rules.specs.declared.row.Row.{Row}
 use Rattle.rules.specs.State.{StateKey, ChangeOf, key_cmp}
-use Rattle.state_db.specs.Pages.{RowList, joined}
+use Rattle.state_db.specs.Pages.{RowList, joined, home, is_page_below}
 use Rattle.state_db.specs.Edits.{without}
 use Rattle.state_db.specs.Need.{need, AreOpen}
 
@@ -18,3 +19,18 @@ pub record IsRemoved (k : StateKey) (old new : List RowList) : Type 0 where
   pub open_ : AreOpen new
   pub rows : joined new ≡ without k (joined old)
   pub need_ : (cs : List (ChangeOf Row)) → below_all key_cmp k cs ≡ true → need new cs ≤ need old ((k, None) ∷ cs)
+
+-- each key behind this one belongs to the page at this place or behind it
+abbrev pub IsPassed : StateKey → List RowList → ℕ → Type 0
+IsPassed k ps n = (x : StateKey) → key_cmp k x ≡ Less → n ≤ home x ps
+
+-- and so do the keys of all these changes
+abbrev pub ArePassed : List (ChangeOf Row) → List RowList → ℕ → Type 0
+ArePassed [] ps n = ⊤
+ArePassed (c ∷ cs) ps n = (n ≤ home c.0 ps) × ArePassed cs ps n
+
+-- the key stands behind all rows, and the last page is full
+abbrev pub IsBehindFull : StateKey → List RowList → Type 0
+IsBehindFull k [] = ⊤
+IsBehindFull k (p ∷ []) = (is_page_below k p ≡ true) × (length p ≡ 256)
+IsBehindFull k (p ∷ q ∷ ps) = (is_page_below k p ≡ true) × IsBehindFull k (q ∷ ps)

@@ -1,32 +1,68 @@
 //! Changes made in pages: all memory first, then moves alone.
-ghost use Rattle.std.specs.Prelude.{◌≡◌, ◌==◌, ◌<◌, ◌≤◌, ◌+◌, ◌-◌, [], length, get_or, IfOk, OnOk, OnErr};
+ghost use Rattle.std.specs.Prelude.{◌≡◌, ◌==◌, ◌<◌, ◌≤◌, ◌+◌, ◌-◌, [], ◌∷◌, ◌++◌, true, length, get_or, IfOk, OnOk, OnErr};
 ghost use Rattle.std.specs.Vec.{vec_capacity};
 ghost use Rattle.state_db.specs.Edits.{edited};
 ghost use Rattle.state_db.specs.Need.{need, AreOpen, AreEmpty};
-ghost use Rattle.state_db.specs.Pages.{joined, home, ArePages};
+ghost use Rattle.state_db.specs.Pages.{joined, home, is_page_below, ArePages};
 ghost use Rattle.state_db.specs.Search.{IsSorted};
-ghost use Rattle.state_db.specs.Steps.{IsPut, IsRemoved};
+ghost use Rattle.state_db.specs.Steps.{IsPut, IsRemoved, IsPassed, IsBehindFull};
 
-use crate::directory::home_of;
+use crate::directory::home_from;
 use crate::edit::Edit;
 use crate::page::{MAX_ROWS, Page};
+use crate::search::Ordered;
 use crate::slot::Slot;
 use crate::spare::{pages_needed, spare_pages};
 use crate::wanted::Wanted;
 use rules::Change;
 use std::alloc::{AllocError, Global};
 
-/// Puts a row. Takes no memory.
-fn put(pages: &mut Vec<Page>, spare: &mut Vec<Page>, slot: Slot)
+/// Whether the page is full, and all its rows stand before the key.
+fn is_full_before(page: &Page, wanted: &Wanted<'_>) -> bool
+    ensures full { result ≡ true → length page.now ≡ 256 }
+    ensures below { result ≡ true → is_page_below wanted.now page.now ≡ true }
+{
+    if page.len() != MAX_ROWS {
+        return false;
+    }
+    page.is_below(wanted)
+}
+
+/// Puts a row behind all others into a page of its own, so that rows that come in order fill their pages. Takes no memory.
+fn begin_page(pages: &mut Vec<Page>, spare: &mut Vec<Page>, slot: Slot)
     requires open { AreOpen pages.old.items }
+    requires behind { IsBehindFull slot.0 pages.old.items }
     requires empty { AreEmpty spare.old.items }
-    requires stock { 256 ≤ length (get_or pages.old.items (home slot.0 pages.old.items) []) → 0 < length spare.old.items }
+    requires stock { 0 < length spare.old.items }
     requires room { length pages.old.items + length spare.old.items ≤ vec_capacity pages.old }
+    ensures pages { pages.new.items ≡ pages.old.items ++ (slot ∷ []) ∷ [] }
     ensures made { IsPut slot.0 slot.1 pages.old.items pages.new.items (length spare.old.items) (length spare.new.items) }
     ensures empty { AreEmpty spare.new.items }
     ensures room { length pages.new.items + length spare.new.items ≤ vec_capacity pages.new }
 {
-    let at = home_of(pages.as_slice(), &slot.wanted());
+    if let Some(mut page) = spare.pop() {
+        page.put(slot);
+        pages.push_reserved(page);
+    }
+}
+
+/// Puts a row, whose page is at or behind a place. Answers where that page is, or its first part. Takes no memory.
+fn put(pages: &mut Vec<Page>, spare: &mut Vec<Page>, from: usize, slot: Slot) -> usize
+    requires open { AreOpen pages.old.items }
+    requires from { from ≤ home slot.0 pages.old.items }
+    requires empty { AreEmpty spare.old.items }
+    requires stock { 256 ≤ length (get_or pages.old.items (home slot.0 pages.old.items) []) → 0 < length spare.old.items }
+    requires room { length pages.old.items + length spare.old.items ≤ vec_capacity pages.old }
+    ensures made { IsPut slot.0 slot.1 pages.old.items pages.new.items (length spare.old.items) (length spare.new.items) }
+    ensures passed { IsPassed slot.0 pages.new.items result }
+    ensures empty { AreEmpty spare.new.items }
+    ensures room { length pages.new.items + length spare.new.items ≤ vec_capacity pages.new }
+{
+    let at = home_from(pages.as_slice(), from, &slot.wanted());
+    if is_full_before(&pages[at], &slot.wanted()) {
+        begin_page(pages, spare, slot);
+        return at;
+    }
     let page = &mut pages[at];
     page.put(slot);
     if page.len() > MAX_ROWS {
@@ -35,27 +71,32 @@ fn put(pages: &mut Vec<Page>, spare: &mut Vec<Page>, slot: Slot)
             let _ = pages.insert(at + 1, upper);
         }
     }
+    at
 }
 
-/// Removes the row of a key, if there is one. A page that is emptied goes, but for the last. Takes no memory.
-fn remove(pages: &mut Vec<Page>, wanted: &Wanted<'_>)
-    requires { AreOpen pages.old.items }
+/// Removes the row of a key, if there is one, whose page is at or behind a place. A page that is emptied goes, but for the
+/// last. Answers where the page was. Takes no memory.
+fn remove(pages: &mut Vec<Page>, from: usize, wanted: &Wanted<'_>) -> usize
+    requires open { AreOpen pages.old.items }
+    requires from { from ≤ home wanted.now pages.old.items }
     ensures removed { IsRemoved wanted.now pages.old.items pages.new.items }
+    ensures passed { IsPassed wanted.now pages.new.items result }
     ensures len { length pages.new.items ≤ length pages.old.items }
     ensures capacity { vec_capacity pages.old ≤ vec_capacity pages.new }
 {
-    let at = home_of(pages.as_slice(), wanted);
+    let at = home_from(pages.as_slice(), from, wanted);
     let page = &mut pages[at];
     page.remove(wanted);
     if !page.is_empty() {
-        return;
+        return at;
     }
     if at + 1 < pages.len() {
         let _ = pages.remove(at);
     }
+    at
 }
 
-/// Makes edits one after the other. Takes no memory.
+/// Makes edits in the order of their keys, in one pass over them and the pages. Takes no memory.
 fn make_all(pages: &mut Vec<Page>, spare: &mut Vec<Page>, edits: Vec<Edit>)
     requires open { AreOpen pages.old.items }
     requires empty { AreEmpty spare.old.items }
@@ -65,15 +106,16 @@ fn make_all(pages: &mut Vec<Page>, spare: &mut Vec<Page>, edits: Vec<Edit>)
     ensures open { AreOpen pages.new.items }
     ensures rows { joined pages.new.items ≡ edited (joined pages.old.items) edits.items }
 {
+    let mut at = 0;
     for edit in edits {
         let head = edit.head();
-        match edit.into_change() {
-            Change::Put(row) => put(pages, spare, Slot::with_head(head, row)),
+        at = match edit.into_change() {
+            Change::Put(row) => put(pages, spare, at, Slot::with_head(head, row)),
             Change::Remove(namespace, key) => {
                 let wanted = Wanted::with_head(head, &namespace.lend(), key.as_slice());
-                remove(pages, &wanted);
+                remove(pages, at, &wanted)
             }
-        }
+        };
     }
 }
 

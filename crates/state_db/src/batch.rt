@@ -100,6 +100,16 @@ impl Batch {
         }
     }
 
+    /// The same, with room for so many changes.
+    pub fn with_capacity(alloc: Global, capacity: usize) -> Result<Batch, AllocError>
+        ensures { IfOk result (λ batch. batch ≡ empty) }
+    {
+        Ok(Batch {
+            alloc,
+            edits: Vec::with_capacity(alloc, capacity)?,
+        })
+    }
+
     fn set(&mut self, change: Change) -> Result<(), AllocError>
         ensures ok { OnOk result (self.new ≡ insert self.old (change_of change).0 (change_of change).1) }
         ensures err { OnErr result (self.new ≡ self.old) }

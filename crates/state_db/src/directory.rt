@@ -1,12 +1,12 @@
 //! The pages of a state, in the order of their rows.
-ghost use Rattle.std.specs.Prelude.{◌≡◌, ◌<◌, length};
+ghost use Rattle.std.specs.Prelude.{◌≡◌, ◌<◌, ◌≤◌, length};
 ghost use Rattle.std.specs.Option.{option_copied};
 ghost use Rattle.std.specs.FinMap.{find};
 ghost use Rattle.rules.specs.State.{key_cmp};
 ghost use Rattle.state_db.specs.Pages.{joined, home, AreInOrder, ArePages};
 
 use crate::page::Page;
-use crate::search::count_below;
+use crate::search::{count_below, count_few_below};
 use crate::wanted::Wanted;
 use rules::Row;
 
@@ -20,6 +20,19 @@ pub(crate) fn home_of(pages: &[Page], wanted: &Wanted<'_>) -> usize
 {
     let (others, _) = pages.split_at(pages.len() - 1);
     count_below(others, wanted)
+}
+
+/// The same, where it is known to be at or behind a place. Logarithmic in how far behind.
+pub(crate) fn home_from(pages: &[Page], from: usize, wanted: &Wanted<'_>) -> usize
+    requires pages { AreInOrder pages.now }
+    requires some { 0 < length pages.now }
+    requires from { from ≤ home wanted.now pages.now }
+    ensures place { result ≡ home wanted.now pages.now }
+    ensures bound { result < length pages.now }
+{
+    let (others, _) = pages.split_at(pages.len() - 1);
+    let (_, behind) = others.split_at(from);
+    from + count_few_below(behind, wanted)
 }
 
 /// The row of a key, if it has one. Logarithmic.

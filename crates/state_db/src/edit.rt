@@ -95,9 +95,14 @@ impl Edit {
     pub fn order(&self, wanted: &Wanted<'_>) -> Ordering
         ensures { result ≡ key_cmp self.now.0 wanted.now }
     {
-        let namespace = self.change.namespace();
-        let key = self.change.key();
-        wanted.order_of(namespace.as_slice(), key.as_slice())
+        match wanted.order_by_head(&self.head) {
+            Some(order) => order,
+            None => {
+                let namespace = self.change.namespace();
+                let key = self.change.key();
+                wanted.order_of(namespace.as_slice(), key.as_slice())
+            }
+        }
     }
 }
 

@@ -13,14 +13,16 @@ pub(crate) trait Ordered {
         ensures { result ≡ is_below wanted.now self.now };
 }
 
-/// How many stand before the key, of items in order. Logarithmic.
-pub(crate) fn count_below<T: Ordered>(items: &[T], wanted: &Wanted<'_>) -> usize
-    requires { Falls (T.is_below wanted.now) items.now }
-    ensures place { result ≡ leading (T.is_below wanted.now) items.now }
-    ensures bound { result ≤ length items.now }
+/// How many stand before the key, of items in order, where that is in this range. Logarithmic in what the range spans.
+fn count_between<T: Ordered>(items: &[T], wanted: &Wanted<'_>, least: usize, most: usize) -> usize
+    requires falls { Falls (T.is_below wanted.now) items.now }
+    requires least { least ≤ leading (T.is_below wanted.now) items.now }
+    requires most { leading (T.is_below wanted.now) items.now ≤ most }
+    requires bound { most ≤ length items.now }
+    ensures { result ≡ leading (T.is_below wanted.now) items.now }
 {
-    let mut low = 0;
-    let mut high = items.len();
+    let mut low = least;
+    let mut high = most;
     while low < high {
         let middle = low + (high - low) / 2;
         if items[middle].is_below(wanted) {
@@ -30,4 +32,31 @@ pub(crate) fn count_below<T: Ordered>(items: &[T], wanted: &Wanted<'_>) -> usize
         }
     }
     low
+}
+
+/// How many stand before the key, of items in order. Logarithmic.
+pub(crate) fn count_below<T: Ordered>(items: &[T], wanted: &Wanted<'_>) -> usize
+    requires { Falls (T.is_below wanted.now) items.now }
+    ensures place { result ≡ leading (T.is_below wanted.now) items.now }
+    ensures bound { result ≤ length items.now }
+{
+    count_between(items, wanted, 0, items.len())
+}
+
+/// The same. Logarithmic in the answer, and so fast where few do.
+pub(crate) fn count_few_below<T: Ordered>(items: &[T], wanted: &Wanted<'_>) -> usize
+    requires { Falls (T.is_below wanted.now) items.now }
+    ensures place { result ≡ leading (T.is_below wanted.now) items.now }
+    ensures bound { result ≤ length items.now }
+{
+    let mut passed = 0;
+    let mut next = 0;
+    while next < items.len() {
+        if !items[next].is_below(wanted) {
+            return count_between(items, wanted, passed, next);
+        }
+        passed = next + 1;
+        next = passed.saturating_add(next);
+    }
+    count_between(items, wanted, passed, items.len())
 }

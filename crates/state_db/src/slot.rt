@@ -75,13 +75,13 @@ impl Slot {
         ensures { result ≡ key_cmp self.now.0 wanted.now }
     {
         let row = &self.row;
-        match wanted.order_of_head(head) {
-            Ordering::Equal => {
+        match wanted.order_by_head(head) {
+            Some(order) => order,
+            None => {
                 let namespace = row.get().namespace();
                 let key = row.get().key();
                 wanted.order_of(namespace.as_slice(), key.as_slice())
             }
-            other => other,
         }
     }
 

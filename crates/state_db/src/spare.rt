@@ -3,7 +3,7 @@ ghost use Rattle.std.specs.Prelude.{◌≡◌, length, IfOk};
 ghost use Rattle.state_db.specs.Need.{added, splits, need, AreOpen, AreEmpty};
 ghost use Rattle.state_db.specs.Search.{IsSorted};
 
-use crate::directory::home_of;
+use crate::directory::home_from;
 use crate::edit::Edit;
 use crate::page::{MAX_ROWS, Page};
 use std::alloc::{AllocError, Global};
@@ -27,7 +27,7 @@ fn splits(rows: usize) -> usize
     rows.saturating_sub(MAX_ROWS / 2 + 1) / (MAX_ROWS / 2)
 }
 
-/// How many splits edits in the order of their keys may take. Logarithmic in the number of pages for each.
+/// How many splits edits in the order of their keys may take. One pass over both, which skips pages that none falls to.
 pub(crate) fn pages_needed(pages: &[Page], edits: &[Edit]) -> usize
     requires open { AreOpen pages.now }
     requires edits { IsSorted edits.now }
@@ -37,7 +37,7 @@ pub(crate) fn pages_needed(pages: &[Page], edits: &[Edit]) -> usize
     let mut left = pages;
     let mut rows = pages[0].len();
     for edit in edits {
-        let home = home_of(left, &edit.wanted());
+        let home = home_from(left, 0, &edit.wanted());
         if home == 0 {
             rows += edit.added();
             continue;

@@ -1,10 +1,9 @@
-ghost use Rattle.std.specs.Prelude.{◌≡◌, IsTrue};
-ghost use Rattle.std.specs.declared.cmp.Ordering.TheVariants.{Less, Equal, Greater};
+ghost use Rattle.std.specs.Prelude.{◌≡◌, false, IsTrue, IfSome, IfNone};
 ghost use Rattle.values.specs.Name.{is_name};
 ghost use Rattle.rules.specs.State.{StateKey, key_cmp};
-ghost use Rattle.state_db.specs.Head.{head_of};
+ghost use Rattle.state_db.specs.Head.{head_of, is_whole};
 
-use crate::head::{Head, head_of};
+use crate::head::{Head, head_of, is_whole, order_of};
 use std::cmp::Ordering;
 use std::marker::Model;
 use values::NameRef;
@@ -52,13 +51,16 @@ impl<'a> Wanted<'a> {
         }
     }
 
-    /// How a key with this head stands to this one, or `Equal` where the heads don't tell.
-    pub fn order_of_head(&self, head: &Head) -> Ordering
-        ensures same { result ≡ Equal → head.now ≡ head_of self.now }
-        ensures less { (k : StateKey) → IsTrue (is_name k.0) → head.now ≡ head_of k → result ≡ Less → key_cmp k self.now ≡ Less }
-        ensures greater { (k : StateKey) → IsTrue (is_name k.0) → head.now ≡ head_of k → result ≡ Greater → key_cmp k self.now ≡ Greater }
+    /// How a key with this head stands to this one, or `None` where the heads don't tell.
+    pub fn order_by_head(&self, head: &Head) -> Option<Ordering>
+        ensures told { (k : StateKey) → IsTrue (is_name k.0) → head.now ≡ head_of k → IfSome result (λ order. order ≡ key_cmp k self.now) }
+        ensures same { IfNone result ((head.now ≡ head_of self.now) × (is_whole head.now ≡ false)) }
     {
-        head.cmp(&self.head)
+        let order = order_of(head, &self.head);
+        if order.is_eq() && !is_whole(head) {
+            return None;
+        }
+        Some(order)
     }
 
     /// How a key stands to this one.

@@ -162,6 +162,35 @@ fn six_hundred_rows(rt: HostRuntime) -> Result<(), Failed> {
     Ok(())
 }
 
+#[test]
+fn rows_in_order_fill_their_pages(rt: HostRuntime) -> Result<(), Failed> {
+    let mut state = six_hundred(rt.alloc())?;
+    assert!(rt; sizes(rt.alloc(), &state)?.as_slice() == [256, 256, 88].as_slice());
+    let more = written(rt.alloc(), 600, 1000)?;
+    state.apply(&more)?;
+    assert!(rt; sizes(rt.alloc(), &state)?.as_slice() == [256, 256, 256, 232].as_slice());
+    assert!(rt; are_all(rt.alloc(), &state, 0, 1000)?);
+    Ok(())
+}
+
+#[test]
+fn rows_between_others_split_their_pages(rt: HostRuntime) -> Result<(), Failed> {
+    let mut state = StateDb::new(rt.alloc());
+    for first in 0..2u32 {
+        let mut batch = Batch::new(rt.alloc());
+        for number in 0..500u32 {
+            let number = numbered(2 * number + first);
+            put(rt.alloc(), &mut batch, &number, &number)?;
+        }
+        state.apply(&batch)?;
+    }
+    let sizes = sizes(rt.alloc(), &state)?;
+    assert!(rt; sizes.len() > 3);
+    assert!(rt; sizes.iter().all(|size| (1..=256).contains(size)));
+    assert!(rt; are_all(rt.alloc(), &state, 0, 1000)?);
+    Ok(())
+}
+
 static K25: [&[u8]; 10] = [
     b"k250", b"k251", b"k252", b"k253", b"k254", b"k255", b"k256", b"k257", b"k258", b"k259",
 ];
@@ -280,11 +309,14 @@ fn last_call_of_a_key_stands(rt: HostRuntime) -> Result<(), Failed> {
 }
 
 // Keys in order that begin alike, beyond what a head holds.
-static ALIKE: [&[u8]; 6] = [
+static ALIKE: [&[u8]; 9] = [
     b"\0",
     b"\0\0",
     b"a-key-of-many-byte\0",
     b"a-key-of-many-bytes",
+    b"a-key-of-many-bytes-",
+    b"a-key-of-many-bytes-\0",
+    b"a-key-of-many-bytes-\0\0",
     b"a-key-of-many-bytes-1",
     b"a-key-of-many-bytes-2",
 ];
@@ -314,7 +346,7 @@ fn long_common_beginnings(rt: HostRuntime) -> Result<(), Failed> {
             b"cc",
             b"a-key-of-many-bytes-1",
             b"a-key-of-many-bytes-2",
-            &ALIKE[4..5],
+            &ALIKE[7..8],
         ),
         (b"c", b"", b"", &[b"c"]),
         (b"cc1", b"", b"", &[b"x"]),
@@ -324,6 +356,10 @@ fn long_common_beginnings(rt: HostRuntime) -> Result<(), Failed> {
     }
     assert!(rt; is_value(rt.alloc(), &state, b"\0\0", Some(b"\0\0"))?);
     assert!(rt; is_value(rt.alloc(), &state, b"\0\0\0", None)?);
+    for at in &ALIKE {
+        assert!(rt; is_value(rt.alloc(), &state, at, Some(at))?);
+    }
+    assert!(rt; is_value(rt.alloc(), &state, b"a-key-of-many-bytes-\0\0\0", None)?);
     Ok(())
 }
 
@@ -332,12 +368,13 @@ fn long_common_beginnings(rt: HostRuntime) -> Result<(), Failed> {
 #[test]
 fn refused_memory_changes_nothing(rt: HostRuntime) -> Result<(), Failed> {
     let mut state = StateDb::new(rt.alloc());
-    let first = written(rt.alloc(), 0, 250)?;
+    // a full page, before which and behind which rows are put
+    let first = written(rt.alloc(), 100, 356)?;
     state.apply(&first)?;
     let batch = written(rt.alloc(), 0, 600)?;
     if state.apply(&batch).is_err() {
-        assert!(rt; (state.pages(), state.page_rows(0)) == (1, Some(250)));
-        assert!(rt; are_all(rt.alloc(), &state, 0, 250)?);
+        assert!(rt; (state.pages(), state.page_rows(0)) == (1, Some(256)));
+        assert!(rt; are_all(rt.alloc(), &state, 100, 356)?);
         state.apply(&batch)?;
     }
     assert!(rt; are_all(rt.alloc(), &state, 0, 600)?);

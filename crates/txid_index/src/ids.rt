@@ -3,6 +3,7 @@ ghost use Rattle.std.specs.FinMap.{get, empty, contains_key};
 ghost use Rattle.rules.specs.FirstUses.{with_uses};
 ghost use Rattle.txid_index.specs.Marks.{marks};
 
+use crate::id_key::IdKey;
 use crate::marks::marked;
 use rules::FirstUse;
 use std::alloc::{AllocError, Global};
@@ -13,7 +14,7 @@ use transaction::TxId;
 /// Where ids were used first. A contract sees the map, and the room for new ids.
 #[derive(Drop)]
 pub struct TxIds {
-    uses: HashMap<TxId, FirstUse>,
+    uses: HashMap<IdKey, FirstUse>,
     // how many new ids are sure to fit
     room: usize,
 }
@@ -49,7 +50,7 @@ impl TxIds {
     pub fn first_use(&self, id: &TxId) -> Option<FirstUse>
         ensures { result ≡ get self.now.uses id.now }
     {
-        self.uses.get(id).copied()
+        self.uses.get(&IdKey::new(id)).copied()
     }
 
     /// How many new ids can be added before the next `reserve`.
@@ -78,8 +79,9 @@ impl TxIds {
         ensures uses { self.new.uses ≡ with_uses self.old.uses ((id.now, first_use) ∷ []) }
         ensures room { self.new.room + (if contains_key self.old.uses id.now then 0 else 1) ≡ self.old.room }
     {
-        if !self.uses.contains_key(id) {
-            let _ = self.uses.insert(*id, first_use);
+        let key = IdKey::new(id);
+        if !self.uses.contains_key(&key) {
+            let _ = self.uses.insert(key, first_use);
             self.room -= 1;
         }
     }

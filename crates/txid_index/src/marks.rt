@@ -4,6 +4,7 @@ ghost use Rattle.rules.specs.Candidate.{is_used};
 ghost use Rattle.txid_index.specs.Marks.{marks};
 ghost use Rattle.txid_index.specs.SameIds.{HaveSameIds};
 
+use crate::id_key::IdKey;
 use rules::FirstUse;
 use std::alloc::{AllocError, Global};
 use std::collections::{HashMap, HashSet};
@@ -11,8 +12,8 @@ use transaction::TxId;
 
 /// Whether the id of a place is used, there or at an earlier place. It is an earlier one from then on.
 fn mark(
-    uses: &HashMap<TxId, FirstUse>,
-    earlier: &mut HashSet<TxId>,
+    uses: &HashMap<IdKey, FirstUse>,
+    earlier: &mut HashSet<IdKey>,
     id: &Option<TxId>,
 ) -> Result<bool, AllocError>
     ensures used { IfOk result (λ used. used ≡ is_used (from_entries uses.now.entries) earlier.old.keys id.now) }
@@ -21,13 +22,15 @@ fn mark(
     let Some(id) = id else {
         return Ok(false);
     };
-    let is_new = earlier.insert(*id)?;
-    Ok(uses.contains_key(id) || !is_new)
+    let key = IdKey::new(id);
+    let is_used = uses.contains_key(&key);
+    let is_new = earlier.insert(key)?;
+    Ok(is_used || !is_new)
 }
 
 /// The marks of a block's places, over the uses before it.
 pub(crate) fn marked(
-    uses: &HashMap<TxId, FirstUse>,
+    uses: &HashMap<IdKey, FirstUse>,
     alloc: Global,
     ids: &[Option<TxId>],
 ) -> Result<Vec<bool>, AllocError>

@@ -2,7 +2,6 @@
 -- whole, so it goes part by part.
 use denote.Param.Send.{IsSend, IsSync, sendable}
 use Rattle.std.proofs.Crossing.{crosses}
-use Rattle.std.proofs.MapsCrossing as maps
 use Rattle.std.proofs.option.Option.TheSendSync as option
 use Rattle.std.proofs.alloc.Global.TheSendSync as heap
 use Rattle.std.proofs.vec.Vec.TheSendSync as vec

@@ -16,7 +16,7 @@ use values::Shared;
 pub(crate) fn batch_of(alloc: Global, changes: &[Change]) -> Result<Batch, AllocError>
     ensures { IfOk result (λ batch. (s : State) → changed s batch ≡ with_changes s (changes_in changes.now)) }
 {
-    let mut batch = Batch::new(alloc);
+    let mut batch = Batch::with_capacity(alloc, changes.len())?;
     for change in changes {
         batch.add(change)?;
     }

@@ -1,23 +1,19 @@
-use Rattle.std.proofs.Common.{◌≡◌, ◌<◌, ℕ, get_or, length, sym, subst, ◌∙◌, arith}
-use Rattle.std.specs.Prelude.{slice_set}
-use Rattle.std.proofs.Math.ListN.{length-set}
-use Rattle.std.proofs.lemmas.List.Edits.{fill_by_more}
-use Rattle.state_db.specs.Head.{spelled, head_of}
-use Rattle.state_db.proofs.Heads.{by_bytes}
+use Rattle.std.proofs.Common.{◌≡◌, ◌+◌, ℕ, [], length, ap, ◌∙◌, arith}
+use Rattle.std.specs.Prelude.{slice_set, min}
+use Rattle.state_db.specs.Head.{spelled, padded, head_of}
+use Rattle.state_db.proofs.Heads.{by_bytes, by_parts, zeros_at}
 use Rattle.state_db.proofs.head.head_of.Goals as goal
-
-pub loop-place-preserved : goal.loop-place-preserved
-loop-place-preserved c =
-    let f : ℕ → ℕ = λ i. get_or (spelled (c.args.namespace.now, c.args.key.now)) i 0 in
-    let head = c.loop-place.head in
-    let place = c.loop-place.place in
-    let lt : place < length head = omega arith in
-    record {
-      len = length-set head place c.byte_at.result ∙ c.loop-place.invariant.len;
-      bytes = λ k h. subst (λ (v : ℕ). get_or (slice_set head place v) k 0 ≡ f k) (sym c.byte_at.ensures) (fill_by_more f head place 0 lt c.loop-place.invariant.bytes k h);
-    }
 
 pub returns : goal.returns
 unfolding head_of
 returns c =
-    by_bytes 16 c.loop-place.head (spelled (c.args.namespace.now, c.args.key.now)) c.loop-place.invariant.len (λ i lt. c.loop-place.invariant.bytes i (omega arith))
+    let ns = c.args.namespace.now in
+    let key = c.args.key.now in
+    let one = c.with_bytes-head.result in
+    let two = c.with_bytes-head-2.result in
+    let from : c.min-from.result + 1 ≡ min (length ns) 22 + 1 = ap (λ (n : ℕ). n + 1) c.min-from.ensures in
+    ap (slice_set two 23) c.count_of.ensures
+    ∙ by_bytes 23 (min (length (spelled (ns, key))) 24) two (spelled (ns, key)) (omega (arith, c.with_bytes-head-2.ensures.len))
+    (by_parts ns key (padded 24 []) one two (c.min-from.result + 1) from (zeros_at 24)
+    c.with_bytes-head.ensures.there c.with_bytes-head.ensures.behind
+    c.with_bytes-head-2.ensures.before c.with_bytes-head-2.ensures.there c.with_bytes-head-2.ensures.behind)

@@ -4,7 +4,7 @@ use Rattle.world.proofs.Steps.{no_changes, changes_more}
 use Rattle.world.proofs.deltas.batch_of.Goals as goal
 
 pub loop-change-init : goal.loop-change-init
-loop-change-init c = λ s. ap (changed s) c.new-batch.ensures ∙ no_changes s
+loop-change-init c = λ s. ap (changed s) c.in_ok-batch.ensures ∙ no_changes s
 
 pub loop-change-preserved : goal.loop-change-preserved
 loop-change-preserved c = λ s.

@@ -1,6 +1,6 @@
 use Rattle.std.proofs.Common.{◌-◌, ◌≤◌, length}
 use Rattle.state_db.specs.Search.{leading}
-use Rattle.state_db.proofs.search.count_below.Given as goal
+use Rattle.state_db.proofs.search.count_between.Given as goal
 
 abbrev pub invariant-loop-low : goal.invariant-loop-low
 invariant-loop-low g l = record {
