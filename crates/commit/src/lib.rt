@@ -3,6 +3,7 @@
 
 mod by_workers;
 mod committer;
+mod explaining;
 mod laws;
 mod ledger;
 mod next_delta;
@@ -17,5 +18,6 @@ pub use ledger::Ledger;
 pub use not_committed::NotCommitted;
 pub use opening::{MAX_WORKERS, OpenFault};
 pub use query::{QueryFault, QueryHandle, RangeRows, Receipt, Reply};
+pub use reasons::Reason;
 pub use rules::{Accepted, CommittedBlock, Delta, Flag, Refused};
 pub use world::World;
