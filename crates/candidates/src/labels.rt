@@ -15,7 +15,7 @@ use transaction::{KeyVersion, NsSet, PolicyWrite, Read, Write};
 const FEW: usize = 16;
 
 /// What has a name or a key, by which a list tells its items apart.
-pub(crate) trait Labelled {
+pub trait Labelled {
     ghost label: { Self → List ℕ };
 
     fn label(&self) -> &[u8]
@@ -93,7 +93,8 @@ pub(crate) fn are_rising<T: Labelled>(items: &[T]) -> bool
     true
 }
 
-fn is_among<T: Labelled>(label: &[u8], items: &[T]) -> bool
+/// Whether one of the items has the label.
+pub fn is_among<T: Labelled>(label: &[u8], items: &[T]) -> bool
     ensures { result ≡ list_any (bytes_eq label.now) (map T.label items.now) }
 {
     for item in items {

@@ -4,11 +4,14 @@ ghost use Rattle.rules.specs.Linked.{IsRefused};
 ghost use Rattle.rules.specs.Step.{Step};
 ghost use Rattle.rules.specs.Chain.{Chain};
 ghost use Rattle.commit.specs.NextDelta.{IsNextDelta};
+ghost use Rattle.commit.specs.NextReasons.{AreNextReasons};
 ghost use Rattle.commit.specs.Submissions.{submissions};
 
+use crate::explaining::next_reasons;
 use crate::serial::next_delta;
 use channel::Channel;
 use policy_eval::Verify;
+use reasons::Reason;
 use rules::{Accepted, Delta, Refused};
 use std::alloc::{AllocError, Global};
 use std::marker::Model;
@@ -63,6 +66,14 @@ impl Ledger {
         ensures { MatchResult result (IsNextDelta self.now.channel (V.accepts verifier.now) self.now.world bytes.now) (IsRefused self.now.world bytes.now) }
     {
         next_delta(self.alloc, &self.channel, &self.world, bytes, verifier)
+    }
+
+    /// Why each transaction of the block of these bytes would have its flag, in block order, or why the block would be
+    /// refused. Changes nothing. Costs what `delta` does without making one, and besides what its reasons cost.
+    pub fn explain<V: Verify>(&self, bytes: &[u8], verifier: &V) -> Result<Items<Reason>, Refused>
+        ensures { MatchResult result (AreNextReasons self.now.channel (V.accepts verifier.now) self.now.world bytes.now) (IsRefused self.now.world bytes.now) }
+    {
+        next_reasons(self.alloc, &self.channel, &self.world, bytes, verifier)
     }
 
     /// Takes the bytes of the next block: accepts them, or refuses them and changes nothing.

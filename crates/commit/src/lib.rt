@@ -3,6 +3,7 @@
 
 mod by_workers;
 mod committer;
+mod explaining;
 mod laws;
 mod ledger;
 mod next_delta;
@@ -21,6 +22,7 @@ pub use ledger::Ledger;
 pub use not_committed::NotCommitted;
 pub use opening::OpenFault;
 pub use query::{QueryFault, QueryHandle, RangeRows, Receipt, Reply};
+pub use reasons::Reason;
 pub use rules::{Accepted, CommittedBlock, Delta, Flag, Refused};
 pub use workers::MAX_WORKERS;
 pub use world::World;

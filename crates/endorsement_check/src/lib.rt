@@ -9,3 +9,4 @@ mod writers;
 mod writes;
 
 pub use deciding::decide;
+pub use policies::{governing, meets, own_policy};

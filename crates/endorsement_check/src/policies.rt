@@ -9,7 +9,7 @@ use policy::Policy;
 use policy_eval::{Signers, satisfied};
 
 /// Whether there is a policy, and the signers satisfy it.
-pub(crate) fn meets(signers: &Signers<'_>, policy: Option<&Policy>) -> bool
+pub fn meets(signers: &Signers<'_>, policy: Option<&Policy>) -> bool
     ensures { result ≡ rule.meets signers.now (option_copied policy.entry) }
 {
     match policy {
@@ -18,14 +18,25 @@ pub(crate) fn meets(signers: &Signers<'_>, policy: Option<&Policy>) -> bool
     }
 }
 
+/// The policy that a key has of its own before the block.
+pub fn own_policy<'a>(job: &Job<'a>, key: &StateKey<'_>) -> Option<&'a Policy>
+    ensures { option_copied result ≡ policy_in job.now.state key.now }
+{
+    match job.row(key) {
+        None => None,
+        Some(row) => match &row.policy {
+            None => None,
+            Some(own) => Some(own.get()),
+        },
+    }
+}
+
 /// The policy that governs a key: its own before the block, else its namespace's.
-pub(crate) fn governing<'a>(job: &Job<'a>, key: &StateKey<'_>) -> Option<&'a Policy>
+pub fn governing<'a>(job: &Job<'a>, key: &StateKey<'_>) -> Option<&'a Policy>
     ensures { option_copied result ≡ rule.governing job.now.definitions key.now.0 (policy_in job.now.state key.now) }
 {
-    if let Some(row) = job.row(key) {
-        if let Some(own) = &row.policy {
-            return Some(own.get());
-        }
+    match own_policy(job, key) {
+        Some(own) => Some(own),
+        None => job.definition(&key.namespace()),
     }
-    job.definition(&key.namespace())
 }

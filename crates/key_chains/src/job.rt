@@ -186,6 +186,14 @@ impl<'a> Job<'a> {
         chains.policy_writers.chain(written.policy_writers)
     }
 
+    /// The candidates that write the policy of a key, in the whole block.
+    pub fn policy_writers_of(&self, key: &StateKey<'_>) -> PolicyWriters<'_>
+        ensures { result ≡ policy_writers self.now.candidates key.now (length self.now.candidates) }
+    {
+        let writers = &self.chains.policy_writers;
+        writers.chain(newest_on(&self.chains.keys, writers, key))
+    }
+
     /// The keys of a namespace that the block writes, from a start to before an end, an empty end being no bound.
     pub fn keys_between(
         &self,

@@ -10,5 +10,6 @@ pub mod Results
 pub mod RangeLaw
 pub mod RangeCovers
 pub mod RowsStop
+pub mod ComparedKeys
 pub mod LastResult
 pub mod FirstFault

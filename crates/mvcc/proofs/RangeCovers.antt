@@ -76,7 +76,7 @@ some_operations o os e = absurd cc
 module _ (j : Job) (namespace : List ℕ) (r : Range) (rows : List (StateKey × Row)) (keys : List StateKey)
     (all_rows : rows ≡ rows_where j.state namespace (is_within r.start r.end))
     (all_keys : (k : StateKey) (i : ℕ) → k.0 ≡ namespace → IsTrue (is_within r.start r.end k.1) → operations j.candidates k i ≢ [] → IsTrue (is_among k keys)) where
-  cover : (called : Assignment) (i : ℕ) → Cover (state_under j called i) namespace r (map (λ e. e.0.1) rows ++ map (λ k. k.1) keys)
+  pub cover : (called : Assignment) (i : ℕ) → Cover (state_under j called i) namespace r (map (λ e. e.0.1) rows ++ map (λ k. k.1) keys)
   cover called i q compared some = list_any-append (bytes_eq q) (map (λ e. e.0.1) rows) (map (λ k. k.1) keys) ∙ by (operations j.candidates (namespace, q) i) refl
     where
       within : is_within r.start r.end q ≡ true

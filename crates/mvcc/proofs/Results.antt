@@ -126,3 +126,41 @@ searched xs q (Err n) rising within parted = sym (none_passes (λ x. bytes_eq q 
     by : (k : ℕ) (d : KeyVersion) → k < length xs → ((leb n k ≡ true) × (n ≤ k)) ⊎ ((leb n k ≡ false) × (k < n)) → bytes_eq q (get_or xs k d).key ≡ false
     by k d lt (inl behind) = misses (get_or xs k d).key q (ap is_eq (sides.1 k d behind.1 lt))
     by k d lt (inr before) = misses (get_or xs k d).key q (ap is_eq (sides.0 k d (omega arith) before.1))
+
+-- ---- what a search tells of the version that is given
+
+-- each key is given its own version
+given_at : (xs : List KeyVersion) (n : ℕ) (d : KeyVersion) → T (is_sorted bytes_cmp (versions xs)) → n < length xs → given (get_or xs n d).key xs ≡ Some (get_or xs n d).version
+given_at [] n d rising lt = absurd (omega arith)
+given_at (x ∷ xs) zero d rising lt = ap (λ (b : Bool). cond b (Some x.version) (given x.key xs)) (ties_itself x.key)
+given_at (x ∷ xs) (suc n) d rising lt =
+    by (get_or xs n d) (eq_by_cmp bytes_cmp (get_or xs n d).key x.key) refl
+    (given_at xs n d (second_T (below_all bytes_cmp x.key (versions xs)) (is_sorted bytes_cmp (versions xs)) rising) (omega arith))
+  where
+    not_again : ◌≡◌ {A = Option Version} (given x.key xs) None
+    not_again = not_given_below x.key xs (first_T (below_all bytes_cmp x.key (versions xs)) (is_sorted bytes_cmp (versions xs)) rising)
+
+    by : (y : KeyVersion) (b : Bool) → eq_by_cmp bytes_cmp y.key x.key ≡ b → given y.key xs ≡ Some y.version → cond b (Some x.version) (given y.key xs) ≡ Some y.version
+    by y true tie is =
+        let same : y.key ≡ x.key = (bytes_decides y.key x.key).0 (sym (bytes_ties y.key x.key) ∙ tie) in
+        let none = sym is ∙ ap (λ (k : List ℕ). given k xs) same ∙ not_again in absurd cc
+    by y false tie is = is
+
+pub given_found : (xs : List KeyVersion) (q : List ℕ) (n : ℕ) (r : Result ℕ ℕ) → r ≡ Ok n → T (is_sorted bytes_cmp (versions xs)) → IsSearchInRange r (length xs) → IsBinarySearchResult (λ x. bytes_cmp x.key q) xs r
+    → (d : KeyVersion) → d ≡ get_or xs n d → Some d.version ≡ given q xs
+given_found xs q n (Err m) is rising within at d here = absurd cc
+given_found xs q n (Ok m) is rising within at d here =
+    let same : m ≡ n = cc in
+    let place : get_or xs m d ≡ d = ap (λ (k : ℕ). get_or xs k d) same ∙ sym here in
+    let key : (get_or xs m d).key ≡ q = (bytes_decides (get_or xs m d).key q).0 (sym (bytes_ties (get_or xs m d).key q) ∙ ap is_eq (at d)) in
+    ap (λ (x : KeyVersion). Some x.version) (sym place) ∙ sym (given_at xs m d rising within) ∙ ap (λ (k : List ℕ). given k xs) key
+
+none_if : {X : Type 0} (o : Option X) → is_some o ≡ false → o ≡ None
+none_if None e = refl
+none_if (Some x) e = absurd cc
+
+pub none_found : (xs : List KeyVersion) (q : List ℕ) (n : ℕ) (r : Result ℕ ℕ) → r ≡ Err n → T (is_sorted bytes_cmp (versions xs)) → IsSearchInRange r (length xs) → IsBinarySearchResult (λ x. bytes_cmp x.key q) xs r
+    → ◌≡◌ {A = Option Version} None (given q xs)
+none_found xs q n r is rising within at =
+    let not_ok : is_ok r ≡ false = ap (λ (x : Result ℕ ℕ). is_ok x) is in
+    sym (none_if (given q xs) (given_where q xs ∙ sym (searched xs q r rising within at) ∙ not_ok))

@@ -2,13 +2,14 @@
 ghost use Rattle.std.specs.Prelude.{◌≡◌, None, IsTrue};
 ghost use Rattle.std.specs.List.{last_or};
 ghost use Rattle.std.specs.Ordering.{is_le};
+ghost use Rattle.std.specs.FinMap.{find};
 ghost use Rattle.values.specs.Order.{bytes_cmp};
-ghost use Rattle.rules.specs.Ranges.{is_below, is_within, is_up_to, is_compared};
+ghost use Rattle.rules.specs.Ranges.{is_below, is_within, is_up_to, is_compared, results_of};
 ghost use Rattle.rules.specs.ReadWriteSets.{has_results_in_form};
 ghost use Rattle.mvcc.specs.RangeChecks.{is_result};
 
 use std::cmp::Ordering;
-use transaction::Range;
+use transaction::{Range, Version};
 use values::{BoundRef, KeyRef};
 
 fn order(key: &KeyRef<'_>, other: &KeyRef<'_>) -> Ordering
@@ -31,7 +32,8 @@ fn is_below(key: &KeyRef<'_>, end: &BoundRef<'_>) -> bool
     end.is_empty() || key.as_slice().cmp(&end).is_lt()
 }
 
-fn is_within(start: &BoundRef<'_>, end: &BoundRef<'_>, key: &KeyRef<'_>) -> bool
+/// From the start to before the end, which is no bound where it is empty.
+pub fn is_within(start: &BoundRef<'_>, end: &BoundRef<'_>, key: &KeyRef<'_>) -> bool
     ensures { result ≡ is_within start.now end.now key.now }
 {
     is_from(start, key) && is_below(key, end)
@@ -47,20 +49,29 @@ fn is_up_to_last(range: &Range<'_>, key: &KeyRef<'_>) -> bool
 }
 
 /// Whether the key lies in the part that is compared.
-pub(crate) fn is_compared(range: &Range<'_>, key: &KeyRef<'_>) -> bool
+pub fn is_compared(range: &Range<'_>, key: &KeyRef<'_>) -> bool
     ensures { result ≡ is_compared range.now key.now }
 {
     is_within(&range.start, &range.end, key) && (range.exhausted || is_up_to_last(range, key))
 }
 
-/// Whether the key is one of the results, whose keys rise. Logarithmic in their number.
+/// The version that the query found at a key: none where it isn't among the results, whose keys rise. Logarithmic in
+/// their number.
+pub fn version_found(range: &Range<'_>, key: &KeyRef<'_>) -> Option<Version>
+    requires { IsTrue (has_results_in_form range.now) }
+    ensures { result ≡ find bytes_cmp key.now (results_of range.now) }
+{
+    let results = range.results.as_slice();
+    match results.binary_search_by(|found| order(&found.key, key)) {
+        Ok(place) => Some(results[place].version),
+        Err(_) => None,
+    }
+}
+
+/// Whether the key is one of the results.
 pub(crate) fn is_result(range: &Range<'_>, key: &KeyRef<'_>) -> bool
     requires { IsTrue (has_results_in_form range.now) }
     ensures { result ≡ is_result range.now key.now }
 {
-    range
-        .results
-        .as_slice()
-        .binary_search_by(|found| order(&found.key, key))
-        .is_ok()
+    version_found(range, key).is_some()
 }

@@ -4,11 +4,14 @@
 #![tactic(auto)]
 
 mod bounds;
+mod compared;
 mod deciding;
 mod ranges;
 mod reads;
 mod version;
 mod walk;
 
+pub use bounds::{is_compared, is_within, version_found};
+pub use compared::compared_keys;
 pub use deciding::decide;
 pub use version::version_at;

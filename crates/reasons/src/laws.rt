@@ -1,13 +1,14 @@
-ghost use Rattle.std.specs.Prelude.{◌≡◌, ◌<◌, ℕ, List, length, map, false, Option, Some, None, IfSome};
+ghost use Rattle.std.specs.Prelude.{◌≡◌, ◌<◌, ℕ, List, length, map, false, Option, Some, None, IfSome, is_some};
 ghost use Rattle.transaction.specs.declared.transaction.Tx.{Tx};
 ghost use Rattle.transaction.specs.declared.identity.Identity.{Identity};
 ghost use Rattle.policy.specs.Tree.{Tree};
 ghost use Rattle.policy_eval.specs.Accepts.{Accepts};
 ghost use Rattle.policy_eval.specs.Evaluating.{is_satisfied};
 ghost use Rattle.channel.specs.Configuration.{Configuration};
-ghost use Rattle.rules.specs.State.{version_in};
+ghost use Rattle.rules.specs.State.{StateKey, version_in, is_among};
+ghost use Rattle.rules.specs.Job.{Job};
 ghost use Rattle.rules.specs.World.{World, height_of};
-ghost use Rattle.rules.specs.Fold.{flags};
+ghost use Rattle.rules.specs.Fold.{running, flags};
 ghost use Rattle.rules.specs.Commit.{job_of};
 ghost use Rattle.reasons.specs.declared.endorsement_fault.EndorsementFault.TheVariants.{Touched, Unsatisfied, ChaincodeUnsatisfied};
 ghost use Rattle.reasons.specs.declared.id_use.IdUse.TheVariants.{Here};
@@ -15,6 +16,8 @@ ghost use Rattle.reasons.specs.declared.policy_owner.PolicyOwner.{PolicyOwner};
 ghost use Rattle.reasons.specs.declared.reason.Reason.{Reason};
 ghost use Rattle.reasons.specs.declared.reason.Reason.TheVariants.{UsedId, NotEndorsed, ReadConflict};
 ghost use Rattle.reasons.specs.declared.stale_read.StaleRead.{StaleRead};
+ghost use Rattle.reasons.specs.First.{first_below};
+ghost use Rattle.reasons.specs.Endorsement.{touches};
 ghost use Rattle.reasons.specs.Reason.{flag_of, IsReason, AreReasons};
 
 /// A law, and no work: each place of a block has one reason, never none or two.
@@ -50,6 +53,11 @@ pub fn named_writers_left_what_is_there()
         → IsReason channel accepts w txs i (ReadConflict read) → read.writer ≡ Some h → IfSome read.there (λ v. v ≡ record { block = height_of w; tx = h }) }
     ensures unwritten { (channel : Configuration) (accepts : Accepts) (w : World) (txs : List (Option Tx)) (i : ℕ) (read : StaleRead)
         → IsReason channel accepts w txs i (ReadConflict read) → read.writer ≡ None → read.there ≡ version_in w.state (read.namespace, read.key) }
+{}
+
+/// A law, and no work: a key is touched where an earlier candidate of the block touches it.
+pub fn touched_keys_have_a_toucher()
+    ensures { (j : Job) (k : StateKey) (i : ℕ) → is_among k (running j i).touched ≡ is_some (first_below (touches j k) i) }
 {}
 
 /// A law, and no work: each transaction of the block that a reason names stands before the one that it is the reason of.

@@ -19,7 +19,7 @@ pub use id_use::IdUse;
 pub use key_list::KeyList;
 pub use laws::{
     each_place_has_one_reason, named_places_come_before, named_policies_are_not_satisfied,
-    named_writers_left_what_is_there, reasons_have_the_flags,
+    named_writers_left_what_is_there, reasons_have_the_flags, touched_keys_have_a_toucher,
 };
 pub use phantom_key::PhantomKey;
 pub use policy_owner::PolicyOwner;

@@ -2,7 +2,7 @@ ghost use Rattle.std.specs.Prelude.{◌≡◌, ◌<◌, suc, length, IfOk};
 ghost use Rattle.rules.specs.Job as rule;
 ghost use Rattle.rules.specs.Fold as fold;
 ghost use Rattle.key_chains.specs.Cells.{known_of};
-ghost use Rattle.serial_checks.specs.Shown.{ShowsBefore};
+ghost use Rattle.serial_checks.specs.Shown.{ShowsBefore, Shows};
 
 use key_chains::{Cells, Decision, Job, PlainBoard};
 use rules::{Flag, ReadVerdict};
@@ -55,9 +55,10 @@ fn cells(job: &Job<'_>, i: u32, board: &mut PlainBoard) -> (bool, Flag)
     (endorsed, read_verdict(job, i, board).flag())
 }
 
-/// The flags of a job's candidates, taken one by one in order. Costs what the two checks of each cost.
-pub fn flags(alloc: Global, job: &Job<'_>) -> Result<Vec<Flag>, AllocError>
-    ensures { IfOk result (λ flags. flags.items ≡ fold.flags job.now) }
+/// The verdicts of a job's candidates and their flags, taken one by one in order. Costs what the two checks of each cost.
+pub fn verdicts(alloc: Global, job: &Job<'_>) -> Result<(PlainBoard, Vec<Flag>), AllocError>
+    ensures board { IfOk result (λ r. Shows job.now r.0) }
+    ensures flags { IfOk result (λ r. r.1.items ≡ fold.flags job.now) }
 {
     let count = job.len();
     let mut board = PlainBoard::new(alloc, count as usize)?;
@@ -73,5 +74,13 @@ pub fn flags(alloc: Global, job: &Job<'_>) -> Result<Vec<Flag>, AllocError>
         );
         flags.push(flag)?;
     }
+    Ok((board, flags))
+}
+
+/// The flags of a job's candidates.
+pub fn flags(alloc: Global, job: &Job<'_>) -> Result<Vec<Flag>, AllocError>
+    ensures { IfOk result (λ flags. flags.items ≡ fold.flags job.now) }
+{
+    let (_board, flags) = verdicts(alloc, job)?;
     Ok(flags)
 }

@@ -3,4 +3,4 @@
 
 mod in_order;
 
-pub use in_order::flags;
+pub use in_order::{flags, verdicts};

@@ -4,7 +4,7 @@ use Rattle.std.proofs.lemmas.List.FromFn.{map-range_with_len_more}
 use Rattle.rules.specs.Fold.{flag}
 use Rattle.key_chains.specs.declared.plain_board.Cells.{Cells}
 use Rattle.serial_checks.proofs.Showing.{next_shown}
-use Rattle.serial_checks.proofs.in_order.flags.Goals as goal
+use Rattle.serial_checks.proofs.in_order.verdicts.Goals as goal
 
 pub loop-i-preserved : goal.loop-i-preserved
 loop-i-preserved c =

@@ -1,0 +1,83 @@
+//! The reasons of the next block.
+ghost use Rattle.std.specs.Prelude.{◌≡◌, ◌≤◌, length, map, IfOk, MatchResult};
+ghost use Rattle.block.specs.Limits.{max_txs};
+ghost use Rattle.transaction.specs.Decoded.{tx_of};
+ghost use Rattle.rules.specs.Linked.{IsRefused};
+ghost use Rattle.serial_checks.specs.Shown.{Shows};
+ghost use Rattle.commit.specs.NextReasons.{AreNextReasons, AreFound};
+
+use crate::next_delta::job_of;
+use block_steps::{check_data_hash, check_place, decoded};
+use channel::Channel;
+use explanations::reason_of;
+use header_hash::data_hash;
+use intake::take_in;
+use key_chains::{Job, PlainBoard};
+use policy_eval::Verify;
+use reasons::{Reason, each_place_has_one_reason};
+use rules::Refused;
+use serial_checks::verdicts;
+use std::alloc::{AllocError, Global};
+use transaction::TxId;
+use values::{Items, Slice};
+use world::World;
+
+/// The reason of each place of a block, of its job, its ids and all verdicts; none where one has none, which doesn't happen.
+fn all_reasons(
+    alloc: Global,
+    channel: &Channel,
+    world: &World,
+    txs: &[Slice<'_>],
+    job: &Job<'_>,
+    ids: &[Option<TxId>],
+    board: &mut PlainBoard,
+) -> Result<Option<Items<Reason>>, AllocError>
+    requires count { length txs.now ≡ length job.now.candidates }
+    requires ids { length ids.now ≡ length job.now.candidates }
+    requires few { length ids.now ≤ max_txs }
+    requires shown { Shows job.now board.old }
+    ensures { IfOk result (λ reasons. AreFound channel.now world.now (map tx_of txs.now) job.now ids.now reasons) }
+{
+    each_place_has_one_reason();
+    let mut reasons = Vec::with_capacity(alloc, txs.len())?;
+    for (i, bytes) in txs.iter().enumerate() {
+        let place = i as u32;
+        let found = reason_of(
+            alloc,
+            channel,
+            world,
+            job,
+            ids,
+            place,
+            bytes.as_slice(),
+            board,
+        )?;
+        let Some(reason) = found else {
+            return Ok(None);
+        };
+        reasons.push(reason)?;
+    }
+    Ok(Some(Items::from_vec(reasons)))
+}
+
+/// Why each transaction of the block of these bytes would have its flag, or why the block would be refused.
+pub(crate) fn next_reasons<V: Verify>(
+    alloc: Global,
+    channel: &Channel,
+    world: &World,
+    bytes: &[u8],
+    verifier: &V,
+) -> Result<Items<Reason>, Refused>
+    ensures { MatchResult result (AreNextReasons channel.now (V.accepts verifier.now) world.now bytes.now) (IsRefused world.now bytes.now) }
+{
+    let block = decoded(alloc, bytes)?;
+    check_place(world.height(), world.header_hash(), &block)?;
+    let txs = block.txs.as_slice();
+    check_data_hash(&block, data_hash(txs))?;
+    let taken = take_in(alloc, channel, verifier, txs)?;
+    let (job, ids) = job_of(alloc, channel, world, taken)?;
+    let (mut board, _flags) = verdicts(alloc, &job)?;
+    let found = all_reasons(alloc, channel, world, txs, &job, ids.as_slice(), &mut board)?;
+    let Some(reasons) = found else { unreachable!() };
+    Ok(reasons)
+}

@@ -1,0 +1,32 @@
+-- Which reasons a transaction tells without the state, and which with it. No public contract cites this.
+use Rattle.std.specs.Prelude.{◌≡◌, ℕ, List, Bool, true, false, Option, Some}
+use Rattle.transaction.specs.declared.transaction.Tx.{Tx}
+use Rattle.policy_eval.specs.Accepts.{Accepts}
+use Rattle.channel.specs.Configuration.{Configuration}
+use Rattle.rules.specs.declared.flag.Flag.{Flag}
+use Rattle.rules.specs.declared.flag.Flag.TheVariants.{BadProposalTxId, DuplicateTxId, EndorsementPolicyFailure, MvccReadConflict, PhantomReadConflict, TargetChainNotFound, BadRwset, InvalidChaincode}
+use Rattle.rules.specs.Job.{Job}
+use Rattle.rules.specs.Commit.{job_of}
+use Rattle.rules.specs.World.{World}
+use Rattle.reasons.specs.declared.reason.Reason.{Reason}
+use Rattle.reasons.specs.Reason.{flag_of, IsReason}
+
+abbrev pub is_told_by_tx : Flag → Bool
+is_told_by_tx BadProposalTxId = true
+is_told_by_tx DuplicateTxId = true
+is_told_by_tx TargetChainNotFound = true
+is_told_by_tx BadRwset = true
+is_told_by_tx InvalidChaincode = true
+is_told_by_tx _ = false
+
+abbrev pub is_told_by_state : Flag → Bool
+is_told_by_state EndorsementPolicyFailure = true
+is_told_by_state MvccReadConflict = true
+is_told_by_state PhantomReadConflict = true
+is_told_by_state _ = false
+
+-- whatever block the job is of, this is the reason of place i, where it has this flag
+abbrev pub IsTheReason : Job → ℕ → Flag → Option Reason → Type 0
+IsTheReason j i flag x =
+    (channel : Configuration) (accepts : Accepts) (w : World) (txs : List (Option Tx)) (r : Reason) → j ≡ job_of channel accepts w txs → flag_of r ≡ flag
+    → IsReason channel accepts w txs i r → x ≡ Some r

@@ -1,0 +1,179 @@
+//! Why signers may not write what a transaction writes.
+ghost use Rattle.std.specs.Prelude.{◌≡◌, ◌≤◌, None, Some, IfOk, IfSome, not, find, length};
+ghost use Rattle.transaction.specs.declared.transaction.Tx as tx_of;
+ghost use Rattle.rules.specs.Fold.{running};
+ghost use Rattle.rules.specs.Endorsement as rule;
+ghost use Rattle.reasons.specs.declared.endorsement_fault.EndorsementFault as fault_of;
+ghost use Rattle.reasons.specs.declared.endorsement_fault.EndorsementFault.TheVariants.{Touched, Unsatisfied};
+ghost use Rattle.reasons.specs.Endorsement.{first_barred, IsEndorsementFault};
+ghost use Rattle.serial_checks.specs.Shown.{Shows};
+
+use crate::touchers::first_toucher;
+use crate::written::written_keys;
+use endorsement_check::{governing, meets, own_policy};
+use key_chains::{Job, PlainBoard, StateKey};
+use policy::Policy;
+use policy_eval::Signers;
+use reasons::{EndorsementFault, PolicyOwner, touched_keys_have_a_toucher};
+use std::alloc::{AllocError, Global};
+use transaction::{Identity, OwnedIdentity, Tx};
+use values::{Items, NameRef};
+
+fn owned(alloc: Global, identity: &Identity<'_>) -> Result<OwnedIdentity, AllocError>
+    ensures { IfOk result (λ copied. copied ≡ identity.now) }
+{
+    Ok(OwnedIdentity::new(
+        identity.org.copy(alloc)?,
+        identity.role,
+        identity.label.copy(alloc)?,
+    ))
+}
+
+fn copied(alloc: Global, signers: &Signers<'_>) -> Result<Items<OwnedIdentity>, AllocError>
+    ensures { IfOk result (λ copied. copied ≡ signers.now) }
+{
+    let signers = signers.as_slice();
+    let mut copied = Vec::with_capacity(alloc, signers.len())?;
+    for signer in signers {
+        copied.push(owned(alloc, signer)?)?;
+    }
+    Ok(Items::from_vec(copied))
+}
+
+/// Whether the signers may write the key, as candidate i.
+fn may_write(
+    job: &Job<'_>,
+    i: u32,
+    signers: &Signers<'_>,
+    key: &StateKey<'_>,
+    board: &PlainBoard,
+) -> bool
+    requires place { i ≤ length job.now.candidates }
+    requires shown { Shows job.now board.now }
+    ensures { result ≡ rule.may_write job.now.definitions job.now.state (running job.now i).touched signers.now key.now }
+{
+    touched_keys_have_a_toucher();
+    match first_toucher(job, i, key, board) {
+        Some(_) => false,
+        None => meets(signers, governing(job, key)),
+    }
+}
+
+/// The first of these keys that the signers may not write.
+fn first_barred<'a>(
+    job: &Job<'_>,
+    i: u32,
+    signers: &Signers<'_>,
+    keys: &[StateKey<'a>],
+    board: &PlainBoard,
+) -> Option<StateKey<'a>>
+    requires place { i ≤ length job.now.candidates }
+    requires shown { Shows job.now board.now }
+    ensures { result ≡ find (λ k. not (rule.may_write job.now.definitions job.now.state (running job.now i).touched signers.now k)) keys.now }
+{
+    for key in keys {
+        if !may_write(job, i, signers, key, board) {
+            return Some(key.again());
+        }
+    }
+    None
+}
+
+fn touched(
+    alloc: Global,
+    key: &StateKey<'_>,
+    place: u32,
+) -> Result<Option<EndorsementFault>, AllocError>
+    ensures { IfOk result (λ fault. fault ≡ Some (Touched key.now.0 key.now.1 place)) }
+{
+    Ok(Some(EndorsementFault::Touched {
+        namespace: key.namespace().copy(alloc)?,
+        key: key.key().copy(alloc)?,
+        place,
+    }))
+}
+
+fn unsatisfied(
+    alloc: Global,
+    key: &StateKey<'_>,
+    owner: PolicyOwner,
+    policy: &Policy,
+    signers: &Signers<'_>,
+) -> Result<Option<EndorsementFault>, AllocError>
+    ensures { IfOk result (λ fault. fault ≡ Some (Unsatisfied key.now.0 key.now.1 owner policy.now signers.now)) }
+{
+    Ok(Some(EndorsementFault::Unsatisfied {
+        namespace: key.namespace().copy(alloc)?,
+        key: key.key().copy(alloc)?,
+        owner,
+        policy: policy.copy(alloc)?,
+        signers: copied(alloc, signers)?,
+    }))
+}
+
+/// Why the signers may not write a key, the first that they may not.
+fn key_fault(
+    alloc: Global,
+    job: &Job<'_>,
+    i: u32,
+    signers: &Signers<'_>,
+    key: &StateKey<'_>,
+    board: &PlainBoard,
+) -> Result<Option<EndorsementFault>, AllocError>
+    requires place { i ≤ length job.now.candidates }
+    requires shown { Shows job.now board.now }
+    ensures found { IfOk result (λ x. (tx : tx_of.Tx) → first_barred job.now i tx signers.now ≡ Some key.now → IfSome x (λ f. IsEndorsementFault job.now i tx signers.now f)) }
+    ensures none { IfOk result (λ x. x ≡ None → (tx : tx_of.Tx) (f : fault_of.EndorsementFault) → first_barred job.now i tx signers.now ≡ Some key.now → IsEndorsementFault job.now i tx signers.now f → ⊥) }
+{
+    if let Some(place) = first_toucher(job, i, key, board) {
+        return touched(alloc, key, place);
+    }
+    if let Some(policy) = own_policy(job, key) {
+        return unsatisfied(alloc, key, PolicyOwner::OfKey, policy, signers);
+    }
+    match job.definition(&key.namespace()) {
+        None => Ok(None),
+        Some(policy) => unsatisfied(alloc, key, PolicyOwner::OfChaincode, policy, signers),
+    }
+}
+
+/// Why the signers may not write what a transaction writes where they may write each key.
+fn chaincode_fault(
+    alloc: Global,
+    job: &Job<'_>,
+    chaincode: &NameRef<'_>,
+    signers: &Signers<'_>,
+) -> Result<Option<EndorsementFault>, AllocError>
+    ensures found { IfOk result (λ x. (i : _) (tx : tx_of.Tx) → tx.chaincode ≡ chaincode.now → first_barred job.now i tx signers.now ≡ None → IfSome x (λ f. IsEndorsementFault job.now i tx signers.now f)) }
+    ensures none { IfOk result (λ x. x ≡ None → (i : _) (tx : tx_of.Tx) (f : fault_of.EndorsementFault) → tx.chaincode ≡ chaincode.now → first_barred job.now i tx signers.now ≡ None → IsEndorsementFault job.now i tx signers.now f → ⊥) }
+{
+    match job.definition(chaincode) {
+        None => Ok(None),
+        Some(policy) => Ok(Some(EndorsementFault::ChaincodeUnsatisfied {
+            chaincode: chaincode.copy(alloc)?,
+            policy: policy.copy(alloc)?,
+            signers: copied(alloc, signers)?,
+        })),
+    }
+}
+
+/// Why the signers may not write what a transaction writes, as candidate i.
+pub(crate) fn endorsement_fault(
+    alloc: Global,
+    job: &Job<'_>,
+    i: u32,
+    tx: &Tx<'_>,
+    signers: &Signers<'_>,
+    board: &PlainBoard,
+) -> Result<Option<EndorsementFault>, AllocError>
+    requires place { i ≤ length job.now.candidates }
+    requires shown { Shows job.now board.now }
+    ensures found { IfOk result (λ x. IfSome x (λ f. IsEndorsementFault job.now i tx.now signers.now f)) }
+    ensures none { IfOk result (λ x. x ≡ None → (f : fault_of.EndorsementFault) → IsEndorsementFault job.now i tx.now signers.now f → ⊥) }
+{
+    let keys = written_keys(alloc, tx)?;
+    match first_barred(job, i, signers, keys.as_slice(), board) {
+        Some(key) => key_fault(alloc, job, i, signers, &key, board),
+        None => chaincode_fault(alloc, job, &tx.chaincode, signers),
+    }
+}

@@ -1,0 +1,55 @@
+//! Where an id was used first.
+ghost use Rattle.std.specs.Prelude.{◌≡◌, ◌≤◌, ◌^◌, ℕ, List, Some, Option, length, map, take, position};
+ghost use Rattle.std.specs.List.{list_any};
+ghost use Rattle.std.specs.Prelude.{option_to_list};
+ghost use Rattle.std.specs.Str.{bytes_eq};
+ghost use Rattle.transaction.specs.declared.transaction.Tx.{Tx};
+ghost use Rattle.policy_eval.specs.Accepts.{Accepts};
+ghost use Rattle.channel.specs.Configuration.{Configuration};
+ghost use Rattle.rules.specs.Candidate.{used_id};
+ghost use Rattle.reasons.specs.Identity.{IsFirstUse};
+ghost use Rattle.reasons.specs.declared.id_use.IdUse as use_of;
+
+use reasons::IdUse;
+use transaction::TxId;
+use world::World;
+
+fn is_use(used: &Option<TxId>, id: &TxId) -> bool
+    ensures { result ≡ list_any (bytes_eq id.now) (option_to_list used.now) }
+{
+    match used {
+        None => false,
+        Some(used) => used == id,
+    }
+}
+
+/// The first of these places that uses the id.
+fn place_of(ids: &[Option<TxId>], id: &TxId) -> Option<usize>
+    ensures { result ≡ position (λ used. list_any (bytes_eq id.now) (option_to_list used)) ids.now }
+{
+    for (place, used) in ids.iter().enumerate() {
+        if is_use(used, id) {
+            return Some(place);
+        }
+    }
+    None
+}
+
+/// Where the id was used before place i: in a block before, or at a place of this one, whose ids these are.
+pub(crate) fn first_use(world: &World, ids: &[Option<TxId>], id: &TxId, i: usize) -> Option<IdUse>
+    requires few { length ids.now ≤ 4096 }
+    requires place { i ≤ length ids.now }
+    ensures { (channel : Configuration) (accepts : Accepts) (txs : List (Option Tx)) → ids.now ≡ map (used_id channel accepts) txs
+        → (first : use_of.IdUse) → IsFirstUse channel accepts world.now (take i txs) id.now first → result ≡ Some first }
+{
+    if let Some(first) = world.first_use(id) {
+        return Some(IdUse::Earlier {
+            block: first.block,
+            place: first.place,
+        });
+    }
+    let place = place_of(&ids[..i], id)?;
+    Some(IdUse::Here {
+        place: place as u32,
+    })
+}

@@ -1,0 +1,110 @@
+//! Reasons that ask the state.
+ghost use Rattle.std.specs.Prelude.{◌≡◌, ◌<◌, IsTrue, length, option_map, IfOk};
+ghost use Rattle.reasons.specs.declared.reason.Reason.TheVariants.{NotEndorsed, ReadConflict, PhantomConflict};
+ghost use Rattle.rules.specs.declared.flag.Flag.TheVariants.{EndorsementPolicyFailure, MvccReadConflict, PhantomReadConflict};
+ghost use Rattle.key_chains.specs.Job.{IsOpened};
+ghost use Rattle.serial_checks.specs.Shown.{Shows};
+ghost use Rattle.explanations.specs.Told.{is_told_by_state, IsTheReason};
+
+use crate::endorsement::endorsement_fault;
+use crate::phantoms::phantom_conflict;
+use crate::stale_reads::read_conflict;
+use key_chains::{Job, OpenTx, PlainBoard};
+use reasons::{EndorsementFault, PhantomKey, Reason, StaleRead, each_place_has_one_reason};
+use rules::Flag;
+use std::alloc::{AllocError, Global};
+
+fn not_endorsed(fault: Option<EndorsementFault>) -> Option<Reason>
+    ensures { result ≡ option_map NotEndorsed fault }
+{
+    fault.map(Reason::NotEndorsed)
+}
+
+fn stale(read: Option<StaleRead>) -> Option<Reason>
+    ensures { result ≡ option_map ReadConflict read }
+{
+    read.map(Reason::ReadConflict)
+}
+
+fn phantom(key: Option<PhantomKey>) -> Option<Reason>
+    ensures { result ≡ option_map PhantomConflict key }
+{
+    key.map(Reason::PhantomConflict)
+}
+
+fn endorsement_reason(
+    alloc: Global,
+    job: &Job<'_>,
+    i: u32,
+    open_tx: &OpenTx<'_>,
+    board: &PlainBoard,
+) -> Result<Option<Reason>, AllocError>
+    requires place { i < length job.now.candidates }
+    requires shown { Shows job.now board.now }
+    requires opened { IsOpened job.now i open_tx.now }
+    ensures { IfOk result (λ x. IsTheReason job.now i EndorsementPolicyFailure x) }
+{
+    each_place_has_one_reason();
+    let fault = endorsement_fault(alloc, job, i, &open_tx.tx, &open_tx.signers, board)?;
+    Ok(not_endorsed(fault))
+}
+
+fn read_reason(
+    alloc: Global,
+    job: &Job<'_>,
+    i: u32,
+    open_tx: &OpenTx<'_>,
+    board: &mut PlainBoard,
+) -> Result<Option<Reason>, AllocError>
+    requires place { i < length job.now.candidates }
+    requires shown { Shows job.now board.old }
+    requires opened { IsOpened job.now i open_tx.now }
+    ensures value { IfOk result (λ x. IsTheReason job.now i MvccReadConflict x) }
+    ensures board { board.new ≡ board.old }
+{
+    let read = read_conflict(alloc, job, i, open_tx.tx.namespaces.as_slice(), board)?;
+    Ok(stale(read))
+}
+
+fn phantom_reason(
+    alloc: Global,
+    job: &Job<'_>,
+    i: u32,
+    open_tx: &OpenTx<'_>,
+    board: &mut PlainBoard,
+) -> Result<Option<Reason>, AllocError>
+    requires place { i < length job.now.candidates }
+    requires shown { Shows job.now board.old }
+    requires opened { IsOpened job.now i open_tx.now }
+    ensures value { IfOk result (λ x. IsTheReason job.now i PhantomReadConflict x) }
+    ensures board { board.new ≡ board.old }
+{
+    each_place_has_one_reason();
+    let key = phantom_conflict(alloc, job, i, open_tx.tx.namespaces.as_slice(), board)?;
+    Ok(phantom(key))
+}
+
+/// Why candidate i has its flag, one that the rules on the state gave it.
+pub(crate) fn state_reason(
+    alloc: Global,
+    job: &Job<'_>,
+    i: u32,
+    flag: Flag,
+    board: &mut PlainBoard,
+) -> Result<Option<Reason>, AllocError>
+    requires place { i < length job.now.candidates }
+    requires shown { Shows job.now board.old }
+    requires told { IsTrue (is_told_by_state flag) }
+    ensures value { IfOk result (λ x. IsTheReason job.now i flag x) }
+    ensures board { board.new ≡ board.old }
+{
+    let Some(open_tx) = job.open_tx(i) else {
+        return Ok(None);
+    };
+    match flag {
+        Flag::EndorsementPolicyFailure => endorsement_reason(alloc, job, i, open_tx, board),
+        Flag::MvccReadConflict => read_reason(alloc, job, i, open_tx, board),
+        Flag::PhantomReadConflict => phantom_reason(alloc, job, i, open_tx, board),
+        _ => Ok(None),
+    }
+}
