@@ -17,6 +17,11 @@ pub(crate) enum Form {
         least: u16,
         most: u16,
     },
+    /// `--NAME N`, a number in these bounds, or not at all.
+    OptionalCount {
+        least: u16,
+        most: u16,
+    },
     /// One positional.
     Positional,
     /// The positionals that are left, so many at least.
@@ -63,14 +68,8 @@ fn positional<'a>(alloc: Global, argument: &Argument) -> Arg<'a> {
 }
 
 // A number in bounds; that it has digits alone is looked at by `number_of`.
-fn count<'a>(
-    alloc: Global,
-    argument: &Argument,
-    default: &'static str,
-    least: u16,
-    most: u16,
-) -> Arg<'a> {
-    option(alloc, argument).default_value(default).value_parser(value_parser!(u16).range(
+fn count<'a>(alloc: Global, argument: &Argument, least: u16, most: u16) -> Arg<'a> {
+    option(alloc, argument).value_parser(value_parser!(u16).range(
         i64::from(least)..=i64::from(most),
     ))
 }
@@ -93,7 +92,8 @@ impl Argument {
                 default,
                 least,
                 most,
-            } => count(alloc, self, default, least, most),
+            } => count(alloc, self, least, most).default_value(default),
+            Form::OptionalCount { least, most } => count(alloc, self, least, most),
             Form::Positional => positional(alloc, self).required(true),
             Form::Positionals { least } => positionals(alloc, self, least),
         }

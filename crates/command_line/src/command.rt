@@ -1,4 +1,5 @@
 use crate::draft::{DRAFT, Draft};
+use crate::explain::{EXPLAIN, Explain};
 use crate::fault::Fault;
 use crate::files::Files;
 use crate::get::{GET, Get};
@@ -38,12 +39,13 @@ pub(crate) enum Asked<'a> {
     Get(Get<'a>),
     Scan(Scan<'a>),
     History(History<'a>),
+    Explain(Explain<'a>),
 }
 
 // A function of its own, so that few exits own a command.
 fn with_subcommands<'a>(alloc: Global, command: Command<'a>) -> Result<Command<'a>, AllocError> {
     let mut command = command;
-    for subcommand in [&DRAFT, &RUN, &GET, &SCAN, &HISTORY] {
+    for subcommand in [&DRAFT, &RUN, &GET, &SCAN, &HISTORY, &EXPLAIN] {
         command = command.subcommand(subcommand.command(alloc)?)?;
     }
     Ok(command)
@@ -93,6 +95,7 @@ impl<'a> Asked<'a> {
             "get" => Get::from_matches(alloc, matches)?.map(Asked::Get),
             "scan" => Scan::from_matches(alloc, matches)?.map(Asked::Scan),
             "history" => History::from_matches(alloc, matches)?.map(Asked::History),
+            "explain" => Explain::from_matches(alloc, matches)?.map(Asked::Explain),
             _ => None,
         })
     }
@@ -112,6 +115,7 @@ impl<'a> Asked<'a> {
             Asked::Get(get) => get.perform(alloc, files, out),
             Asked::Scan(scan) => scan.perform(alloc, files, out),
             Asked::History(history) => history.perform(alloc, files, out),
+            Asked::Explain(explain) => explain.perform(alloc, files, out),
         }
     }
 }

@@ -36,6 +36,9 @@ pub enum Fault<'a> {
     /// The file of this path holds no block that another one can follow.
     #[error("{0} not a block")]
     NotABlock(&'a str),
+    /// The block that is explained has no transaction at this place.
+    #[error("no transaction {0}")]
+    NoTransaction(u16),
     #[error("cannot write standard output")]
     Output,
     #[error("out of memory")]
@@ -46,7 +49,7 @@ impl<'a> Fault<'a> {
     /// What the process ends with.
     pub fn status(&self) -> u8 {
         match self {
-            Fault::Word => USAGE,
+            Fault::Word | Fault::NoTransaction(_) => USAGE,
             Fault::Memory => MEMORY,
             _ => FILE_FAULT,
         }

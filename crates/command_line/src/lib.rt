@@ -1,5 +1,5 @@
 //! The program `fabcommit`: drafts blocks of a Fabric channel, takes blocks one by one and says of each
-//! what a committing peer makes of it, and answers what the ledger behind them holds.
+//! what a committing peer makes of it, and why, and answers what the ledger behind them holds.
 #![tactic(auto)]
 
 mod arguments;
@@ -7,6 +7,7 @@ mod command;
 mod committing;
 mod draft;
 mod entry;
+mod explain;
 mod fault;
 mod files;
 mod get;
@@ -19,6 +20,7 @@ mod parallelism;
 mod paths;
 mod question;
 mod readers;
+mod reason_lines;
 mod rows;
 mod run;
 mod scan;

@@ -6,8 +6,10 @@ use crate::paths::LedgerPaths;
 use crate::rows::write_height;
 use crate::status::{ACCEPTED, REFUSED};
 use commit::Ledger;
+use key_book::KeyBook;
 use std::alloc::Global;
 use std::io::{BufWriter, Write};
+use values::Bytes;
 use world::World;
 
 /// What is asked of a ledger behind its blocks.
@@ -19,6 +21,22 @@ pub(crate) trait Question {
         out: &mut W,
         world: &World,
     ) -> Result<(), Fault<'a>>;
+}
+
+/// Hands blocks in, each let go when it is done. Returns what the process ends with, where nothing else befalls it.
+pub(crate) fn hand_in<'a>(
+    ledger: &mut Ledger,
+    blocks: Vec<Bytes>,
+    keys: &KeyBook,
+) -> Result<u8, Fault<'a>> {
+    let mut status = ACCEPTED;
+    for bytes in blocks {
+        if let Err(refused) = ledger.submit_one(bytes.as_slice(), keys) {
+            Refusal::of(refused)?;
+            status = REFUSED;
+        }
+    }
+    Ok(status)
 }
 
 // A ledger behind its blocks, and what the process ends with, where nothing else befalls it.
@@ -40,13 +58,7 @@ impl Committed {
         } = Inputs::read(alloc, files, paths)?;
         let Configuration { channel, keys } = configuration;
         let mut ledger = Ledger::open(alloc, channel);
-        let mut status = ACCEPTED;
-        for bytes in blocks {
-            if let Err(refused) = ledger.submit_one(bytes.as_slice(), &keys) {
-                Refusal::of(refused)?;
-                status = REFUSED;
-            }
-        }
+        let status = hand_in(&mut ledger, blocks, &keys)?;
         Ok(Committed { ledger, status })
     }
 }

@@ -1,0 +1,280 @@
+//! The words of reasons.
+use crate::fault::Fault;
+use commit::{Flag, Reason};
+use reasons::{
+    EndorsementFault, FormFault, IdUse, KeyList, PhantomKey, PolicyOwner, PolicyTextFault,
+    QueriedRange, StaleRead,
+};
+use std::alloc::{AllocError, Global};
+use std::io;
+use std::io::Write;
+use text_lines::Word;
+use transaction::{OwnedIdentity, Role, Version};
+
+/// The name of a flag in `peer.TxValidationCode`.
+fn name_of(flag: Flag) -> &'static str {
+    match flag {
+        Flag::Valid => "VALID",
+        Flag::BadPayload => "BAD_PAYLOAD",
+        Flag::BadCreatorSignature => "BAD_CREATOR_SIGNATURE",
+        Flag::BadProposalTxId => "BAD_PROPOSAL_TXID",
+        Flag::DuplicateTxId => "DUPLICATE_TXID",
+        Flag::EndorsementPolicyFailure => "ENDORSEMENT_POLICY_FAILURE",
+        Flag::MvccReadConflict => "MVCC_READ_CONFLICT",
+        Flag::PhantomReadConflict => "PHANTOM_READ_CONFLICT",
+        Flag::TargetChainNotFound => "TARGET_CHAIN_NOT_FOUND",
+        Flag::BadRwset => "BAD_RWSET",
+        Flag::InvalidChaincode => "INVALID_CHAINCODE",
+    }
+}
+
+fn list_name(list: KeyList) -> &'static str {
+    match list {
+        KeyList::Reads => "reads",
+        KeyList::Writes => "writes",
+        KeyList::PolicyWrites => "policies",
+    }
+}
+
+fn text_fault_name(fault: PolicyTextFault) -> &'static str {
+    match fault {
+        PolicyTextFault::TooLarge => "too-large",
+        PolicyTextFault::Syntax => "syntax",
+        PolicyTextFault::Role => "role",
+        PolicyTextFault::Threshold => "threshold",
+        PolicyTextFault::TooDeep => "too-deep",
+    }
+}
+
+fn role_name(role: Role) -> &'static str {
+    match role {
+        Role::Client => "client",
+        Role::Peer => "peer",
+        Role::Admin => "admin",
+        Role::Orderer => "orderer",
+    }
+}
+
+fn write_version<W: Write>(out: &mut W, version: &Option<Version>) -> io::Result<()> {
+    match version {
+        Some(version) => {
+            let (block, tx) = (version.block, version.tx);
+            write!(out, "{block} {tx}")
+        }
+        None => write!(out, "absent"),
+    }
+}
+
+// ` was VERSION is VERSION`
+fn write_versions<W: Write>(
+    out: &mut W,
+    read: &Option<Version>,
+    there: &Option<Version>,
+) -> io::Result<()> {
+    write!(out, " was ")?;
+    write_version(out, read)?;
+    write!(out, " is ")?;
+    write_version(out, there)
+}
+
+// ` NAMESPACE START END key KEY`
+fn write_range<W: Write>(out: &mut W, range: &QueriedRange, key: &[u8]) -> io::Result<()> {
+    let namespace = Word(range.namespace.as_slice());
+    let (start, end) = (Word(range.start.as_slice()), Word(range.end.as_slice()));
+    let key = Word(key);
+    write!(out, " {namespace} {start} {end} key {key}")
+}
+
+fn write_signer<W: Write>(out: &mut W, signer: &OwnedIdentity) -> io::Result<()> {
+    let signer = signer.lend();
+    let (org, label) = (Word(signer.org.as_slice()), Word(signer.label.as_slice()));
+    let role = role_name(signer.role);
+    write!(out, " {org}:{role}:{label}")
+}
+
+fn write_signers<W: Write>(out: &mut W, signers: &[OwnedIdentity]) -> io::Result<()> {
+    for signer in signers {
+        write_signer(out, signer)?;
+    }
+    Ok(())
+}
+
+fn write_read<W: Write>(out: &mut W, read: &StaleRead) -> io::Result<()> {
+    let (namespace, key) = (Word(read.namespace.as_slice()), Word(read.key.as_slice()));
+    write!(out, " read {namespace} {key}")?;
+    write_versions(out, &read.read, &read.there)?;
+    match read.writer {
+        Some(writer) => write!(out, " by {writer}"),
+        None => Ok(()),
+    }
+}
+
+fn write_phantom<W: Write>(out: &mut W, phantom: &PhantomKey) -> io::Result<()> {
+    write!(out, " range")?;
+    write_range(out, &phantom.range, phantom.key.as_slice())?;
+    write_versions(out, &phantom.read, &phantom.there)
+}
+
+fn write_form<W: Write>(out: &mut W, fault: &FormFault) -> io::Result<()> {
+    match fault {
+        FormFault::NamespaceRepeats { namespace } => {
+            let namespace = Word(namespace.as_slice());
+            write!(out, " repeated {namespace}")
+        }
+        FormFault::KeyRepeats {
+            namespace,
+            list,
+            key,
+        } => {
+            let (namespace, key) = (Word(namespace.as_slice()), Word(key.as_slice()));
+            let list = list_name(*list);
+            write!(out, " repeated {namespace} {list} {key}")
+        }
+        FormFault::ResultFalls { range, key } => {
+            write!(out, " fallen")?;
+            write_range(out, range, key.as_slice())
+        }
+        FormFault::ResultLeaves { range, key } => {
+            write!(out, " outside")?;
+            write_range(out, range, key.as_slice())
+        }
+        FormFault::UnreadablePolicy {
+            namespace,
+            key,
+            fault,
+        } => {
+            let (namespace, key) = (Word(namespace.as_slice()), Word(key.as_slice()));
+            let fault = text_fault_name(*fault);
+            write!(out, " policy {namespace} {key} {fault}")
+        }
+    }
+}
+
+fn write_use<W: Write>(out: &mut W, number: u64, first: &IdUse) -> io::Result<()> {
+    match first {
+        IdUse::Earlier { block, place } => write!(out, " used {block} {place}"),
+        IdUse::Here { place } => write!(out, " used {number} {place}"),
+    }
+}
+
+fn write_touched<W: Write>(
+    out: &mut W,
+    namespace: &[u8],
+    key: &[u8],
+    place: u32,
+) -> io::Result<()> {
+    let (namespace, key) = (Word(namespace), Word(key));
+    write!(out, " touched {namespace} {key} {place}")
+}
+
+// ` key NAMESPACE KEY POLICY SIGNER ..`, or `chaincode` in the place of `key`
+fn write_unsatisfied<W: Write>(
+    out: &mut W,
+    owner: PolicyOwner,
+    namespace: &[u8],
+    key: &[u8],
+    policy: &str,
+    signers: &[OwnedIdentity],
+) -> io::Result<()> {
+    let (namespace, key) = (Word(namespace), Word(key));
+    let whose = match owner {
+        PolicyOwner::OfKey => "key",
+        PolicyOwner::OfChaincode => "chaincode",
+    };
+    write!(out, " {whose} {namespace} {key} {policy}")?;
+    write_signers(out, signers)
+}
+
+fn write_endorsement<W: Write>(
+    out: &mut W,
+    fault: &EndorsementFault,
+    policy: &str,
+) -> io::Result<()> {
+    match fault {
+        EndorsementFault::Touched {
+            namespace,
+            key,
+            place,
+        } => write_touched(out, namespace.as_slice(), key.as_slice(), *place),
+        EndorsementFault::Unsatisfied {
+            namespace,
+            key,
+            owner,
+            policy: _,
+            signers,
+        } => write_unsatisfied(
+            out,
+            *owner,
+            namespace.as_slice(),
+            key.as_slice(),
+            policy,
+            signers.as_slice(),
+        ),
+        EndorsementFault::ChaincodeUnsatisfied {
+            chaincode,
+            policy: _,
+            signers,
+        } => {
+            let chaincode = Word(chaincode.as_slice());
+            write!(out, " named {chaincode} {policy}")?;
+            write_signers(out, signers.as_slice())
+        }
+    }
+}
+
+// What stands behind the flag's name, of a place of the block of this number.
+fn write_words<W: Write>(
+    out: &mut W,
+    number: u64,
+    reason: &Reason,
+    policy: &str,
+) -> io::Result<()> {
+    match reason {
+        Reason::NoFault | Reason::NoTransaction | Reason::BadSignature => Ok(()),
+        Reason::OtherId { wanted } => {
+            let wanted = Word(wanted);
+            write!(out, " wanted {wanted}")
+        }
+        Reason::UsedId(first) => write_use(out, number, first),
+        Reason::NotEndorsed(fault) => write_endorsement(out, fault, policy),
+        Reason::ReadConflict(read) => write_read(out, read),
+        Reason::PhantomConflict(phantom) => write_phantom(out, phantom),
+        Reason::OtherChannel { channel } => {
+            let channel = Word(channel.as_slice());
+            write!(out, " channel {channel}")
+        }
+        Reason::NotInForm(fault) => write_form(out, fault),
+        Reason::Undefined { chaincode } => {
+            let chaincode = Word(chaincode.as_slice());
+            write!(out, " undefined {chaincode}")
+        }
+    }
+}
+
+// The canonical text of the policy that the reason names, empty where it names none.
+fn policy_of(alloc: Global, reason: &Reason) -> Result<String, AllocError> {
+    match reason {
+        Reason::NotEndorsed(EndorsementFault::Unsatisfied { policy, .. })
+        | Reason::NotEndorsed(EndorsementFault::ChaincodeUnsatisfied { policy, .. }) => {
+            policy.text(alloc)
+        }
+        _ => Ok(String::new(alloc)),
+    }
+}
+
+/// Writes `TX FLAG NAME` and the words of the reason, of a place of the block of this number. The memory is the text of
+/// the policy that it names, which is made before any of the line is written.
+pub(crate) fn write_reason<'a, W: Write>(
+    alloc: Global,
+    out: &mut W,
+    number: u64,
+    place: usize,
+    reason: &Reason,
+) -> Result<(), Fault<'a>> {
+    let policy = policy_of(alloc, reason)?;
+    let flag = reason.flag();
+    let (code, name) = (flag.number(), name_of(flag));
+    write!(out, "{place} {code} {name}")?;
+    write_words(out, number, reason, policy.as_str())?;
+    Ok(writeln!(out)?)
+}
