@@ -10,13 +10,13 @@ use chain_vectors::rows::rows;
 use chain_vectors::uses::uses;
 use chain_vectors::{CHANNEL, Committed, SaysOk, read_use};
 use channel::Channel;
-use commit::Ledger;
+use commit::{Ledger, Reason};
 use header_hash::tx_id;
 use random_numbers::Random;
 use rules::{Accepted, CommittedBlock, Flag, HistoryEntry, Refused, Row};
 use std::alloc::Global;
 use transaction::TxId;
-use values::{Bytes, Shared};
+use values::{Bytes, Items, Shared};
 
 #[derive(Drop)]
 struct Pair {
@@ -33,6 +33,22 @@ fn is_same_answer(one: &Result<Accepted, Refused>, other: &Result<Accepted, Refu
             one.number == other.number
                 && one.header_hash == other.header_hash
                 && one.flags.as_slice() == other.flags.as_slice()
+        }
+        (Err(one), Err(other)) => one == other,
+        _ => false,
+    }
+}
+
+// Whether these are reasons of the flags that were given, or the same refusal.
+fn have_flags(told: &Result<Items<Reason>, Refused>, given: &Result<Accepted, Refused>) -> bool {
+    match (told, given) {
+        (Ok(reasons), Ok(accepted)) => {
+            let (reasons, flags) = (reasons.as_slice(), accepted.flags.as_slice());
+            reasons.len() == flags.len()
+                && reasons
+                    .iter()
+                    .zip(flags)
+                    .all(|(reason, flag)| reason.flag() == *flag)
         }
         (Err(one), Err(other)) => one == other,
         _ => false,
@@ -103,14 +119,16 @@ impl Pair {
         })
     }
 
-    // Hands the bytes to both, and tells whether they answer alike.
+    // Hands the bytes to both, and tells whether they answer alike, and whether the reasons that were asked for before
+    // have these flags.
     fn take(&mut self, alloc: Global, bytes: &[u8]) -> bool {
         let slow = plain::submit(alloc, &self.channel, &mut self.plain, bytes, &SaysOk);
+        let told = self.ledger.explain(bytes, &SaysOk);
         let fast = self.ledger.submit_one(bytes, &SaysOk);
         if let Ok(accepted) = &fast {
             count(&mut self.given, accepted.flags.as_slice());
         }
-        is_same_answer(&fast, &slow)
+        is_same_answer(&fast, &slow) && have_flags(&told, &fast)
     }
 
     fn is_alike_at(&self, alloc: Global, namespace: &[u8], at: &[u8]) -> Result<bool, Failed> {
@@ -227,7 +245,7 @@ fn add(all: &mut [u32; 26], given: &[u32; 26]) {
     }
 }
 
-const CHAINS: u64 = 600;
+const CHAINS: u64 = 1000;
 
 // The numbers of all flags.
 const FLAGS: [u8; 11] = [0, 2, 4, 8, 9, 10, 11, 12, 14, 22, 25];
