@@ -22,10 +22,12 @@ Each transaction has two endorsements, which its policy asks for; values are of 
 
 `hashing` is the time in which one thread of the same sha2 hashes, for one transaction, what has to be hashed: its part of
 the data hash, its id, and the HMAC-SHA-256 of what its creator and its endorsers sign, each from the key on. `ratio` is the
-time for a transaction with one worker, divided by that. `faster` is one worker's time divided by that of two and four.
+time for a transaction with one worker, divided by that. `explain` is the time in which a ledger tells the reasons of a
+block that it isn't handed yet. `faster` is one worker's time divided by that of two and four.
 
-A second table has the time for one transaction with one worker, to whom blocks are handed in one by one, by the size of a block, the length of the chain and the
-keys of the state; the slope is that of its logarithm by theirs: 0 where it doesn't grow.
+A second table has the time for one transaction with one worker, to whom blocks are handed in one by one: by the size of a
+block, the length of the chain and the keys of the state; the slope is that of its logarithm by theirs: 0 where it doesn't
+grow.
 
 Times are the least of five runs; `memory` is the most of a run with four workers, in MB. Behind both tables it says what
 load the machine had before and after.
@@ -51,7 +53,7 @@ KEYS = "".join(f"{who} {number:02x}{'5a' * 31}\n" for number, who in enumerate([
 VALUE = b"v" * 100
 POLICY = b"AND('Org1.peer','Org2.peer')"
 
-# Its words are `hash`, `ledger`, `submit`, or for `run` the number of workers, and files of blocks. For each it prints the
+# Its words are `hash`, `ledger`, `explain`, `submit`, or for `run` the number of workers, and files of blocks. For each it prints the
 # nanoseconds that it took, or that its hashing took, and how many of its transactions are valid; for `run` that of the first, and
 # that of all others together.
 PROGRAM = r"""
@@ -165,6 +167,22 @@ fn by_ledger<R: Clock + Print>(rt: &R, ledger: &mut Ledger, keys: &KeyBook, byte
     Ok(())
 }
 
+// The time of `explain` before the block is handed in.
+fn explained<R: Clock + Print>(rt: &R, ledger: &mut Ledger, keys: &KeyBook, bytes: &[u8]) -> anyhow::Result<()> {
+    let start = Instant::now(rt)?;
+    let told = ledger.explain(bytes, keys);
+    let nanos = start.elapsed(rt)?.as_nanos();
+    let Ok(reasons) = told else {
+        bail!("refused");
+    };
+    if ledger.submit_one(bytes, keys).is_err() {
+        bail!("refused");
+    }
+    let count = reasons.len();
+    println!(rt; "{nanos} {count}")?;
+    Ok(())
+}
+
 fn by_committer<R: Clock + Print + Threads + Wait + Sync>(
     rt: &R,
     committer: &mut Committer,
@@ -213,12 +231,16 @@ fn hash_blocks<R: AllocGlobal + Files + Clock + Print>(rt: &R, paths: &[String])
     Ok(())
 }
 
-fn submit_to_ledger<R: AllocGlobal + Files + Clock + Print>(rt: &R, paths: &[String]) -> anyhow::Result<()> {
+fn submit_to_ledger<R: AllocGlobal + Files + Clock + Print>(rt: &R, is_explained: bool, paths: &[String]) -> anyhow::Result<()> {
     let keys = key_book(rt)?;
     let mut ledger = Ledger::open(rt.alloc(), channel(rt)?);
     for path in paths {
         let bytes = fs::read(rt, path.as_str())?;
-        by_ledger(rt, &mut ledger, &keys, &bytes)?;
+        if is_explained {
+            explained(rt, &mut ledger, &keys, &bytes)?;
+        } else {
+            by_ledger(rt, &mut ledger, &keys, &bytes)?;
+        }
     }
     Ok(())
 }
@@ -294,7 +316,8 @@ fn main(rt: HostRuntime) -> anyhow::Result<()> {
     }
     match way.as_str() {
         "hash" => hash_blocks(&rt, &paths),
-        "ledger" => submit_to_ledger(&rt, &paths),
+        "ledger" => submit_to_ledger(&rt, false, &paths),
+        "explain" => submit_to_ledger(&rt, true, &paths),
         "submit" => submit_to_committer(&rt, 1, false, &paths),
         "1" => submit_to_committer(&rt, 1, true, &paths),
         "2" => submit_to_committer(&rt, 2, true, &paths),
@@ -469,13 +492,14 @@ def for_one(nanos, blocks, first=1):
 def told(program, name, blocks):
     hashing = for_one(timed(program, "hash", blocks)[0], blocks)
     ledger = for_one(timed(program, "ledger", blocks)[0], blocks)
+    explain = for_one(timed(program, "explain", blocks)[0], blocks)
     each = []
     for workers in WORKERS:
         nanos, memory = timed(program, str(workers), blocks)
         each.append(for_one(nanos, blocks))
     rates = " ".join(f"{1_000_000 / time:>8,.0f}" for time in each)
     faster = " ".join(f"{each[0] / time:.2f}" for time in each[1:])
-    print(f"{name:>10} {hashing:>8.1f} {ledger:>7.1f} {each[0]:>7.1f} {each[0] / hashing:>6.2f} {rates} {faster:>10} {memory // 1000:>7,}", flush=True)
+    print(f"{name:>10} {hashing:>8.1f} {ledger:>7.1f} {explain:>7.1f} {each[0]:>7.1f} {each[0] / hashing:>6.2f} {rates} {faster:>10} {memory // 1000:>7,}", flush=True)
 
 
 def slope(found):
@@ -534,8 +558,8 @@ def main():
         folder = pathlib.Path(name)
         program = build(folder / "program", "peer", PROGRAM, own=CRATES, kit=["anyhow"])
         if set(wanted) & set(WORKLOADS):
-            print("             µs for one transaction          transactions a second, by 1, 2, 4")
-            print("            hashing  ledger  worker  ratio  workers                       faster      memory")
+            print("             µs for one transaction                  transactions a second, by 1, 2, 4")
+            print("            hashing  ledger explain  worker  ratio  workers                       faster      memory")
         for title, (state, make, *sizes) in WORKLOADS.items():
             if title in wanted:
                 blocks = Blocks(folder / title, state)

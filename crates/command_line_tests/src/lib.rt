@@ -12,8 +12,6 @@ mod disk;
 #[cfg(test)]
 mod drafted;
 #[cfg(test)]
-mod explained;
-#[cfg(test)]
 mod fixture;
 #[cfg(test)]
 mod hostile;
