@@ -12,6 +12,8 @@ mod disk;
 #[cfg(test)]
 mod drafted;
 #[cfg(test)]
+mod explained;
+#[cfg(test)]
 mod fixture;
 #[cfg(test)]
 mod hostile;
