@@ -20,14 +20,10 @@ use Rattle.commit.specs.Committing.{IsCommitted, accepted_in}
 use Rattle.commit.specs.Running.{committing}
 use Rattle.commit.proofs.NextDeltas.{next_delta-step}
 
--- nothing stands where nothing was published
-pub opened_empty : (p : Publishing) → p.base ≡ empty_world → p.list ≡ [] → published_world p ≡ empty_world
-opened_empty p base list = ap (applied_all p.base) list ∙ base
-
--- what its own world refuses, what was published refuses
+-- what the world that is lent refuses, the deltas on the empty one refuse
 pub refused_by : (p : Publishing) (w : World) (bytes : List ℕ) (r : Refused) → p.base ≡ empty_world → w ≡ published_world p → IsRefused w bytes r → IsRefused (applied_all empty_world p.list) bytes r
-refused_by p w bytes r empty own is =
-    subst (λ (u : World). IsRefused (applied_all u p.list) bytes r) empty (subst (λ (u : World). IsRefused u bytes r) own is)
+refused_by p w bytes r empty lent is =
+    subst (λ (u : World). IsRefused (applied_all u p.list) bytes r) empty (subst (λ (u : World). IsRefused u bytes r) lent is)
 
 module _ (channel : Configuration) (accepts : Accepts) where
   pub next-linked : (w : World) (bytes : List ℕ) (d : Delta) → IsNextDelta channel accepts w bytes d → IsLinkedDelta w d
@@ -52,14 +48,14 @@ module _ (channel : Configuration) (accepts : Accepts) where
       → r.number ≡ height_of (published_world old) → r.height ≡ height_of (published_world new)
       → r.header_hash ≡ d.block.header_hash → r.flags ≡ d.block.flags → r.front ≡ record { book = new.book; list = new.list }
       → IsCommitted accepts (committing channel old) bytes r (committing channel new)
-  committed old new w bytes d r going empty own next published number height hash flags told =
+  committed old new w bytes d r going empty lent next published number height hash flags told =
       let before : World = applied_all empty_world old.list in
       let is_before : published_world old ≡ before = ap (λ (u : World). applied_all u old.list) empty in
-      let own_is : w ≡ before = own ∙ is_before in
+      let is : w ≡ before = lent ∙ is_before in
       let list : new.list ≡ old.list ++ d ∷ [] = ap (λ (p : Publishing). p.list) published in
       let base : new.base ≡ empty_world = ap (λ (p : Publishing). p.base) published ∙ empty in
       let after : applied_all empty_world new.list ≡ applied before d = ap (applied_all empty_world) list ∙ applied_all-more empty_world old.list d in
-      let next' : IsNextDelta channel accepts before bytes d = subst (λ (u : World). IsNextDelta channel accepts u bytes d) own_is next in
+      let next' : IsNextDelta channel accepts before bytes d = subst (λ (u : World). IsNextDelta channel accepts u bytes d) is next in
       record {
         going = going;
         step = next_delta-step channel accepts before bytes d (accepted_in r) (applied_all empty_world new.list) next' (λ i. record { number = (number ∙ ap height_of is_before) i; header_hash = hash i; flags = flags i }) after;

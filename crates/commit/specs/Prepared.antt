@@ -7,7 +7,7 @@ use Rattle.intake.specs.Place.{taken_of, shown}
 use Rattle.policy_eval.specs.Accepts.{Accepts}
 use Rattle.rules.specs.declared.answer.Refused.{Refused}
 use Rattle.rules.specs.Commit.{txs_of}
-use Rattle.rules.specs.Linked.{IsRefused}
+use Rattle.rules.specs.Linked.{IsLinked, IsRefused}
 use Rattle.rules.specs.World.{World}
 use Rattle.commit.specs.declared.prepared.Prepared.{Prepared}
 
@@ -24,3 +24,8 @@ IsTakenIn channel accepts w bytes r = MatchResult r (IsPrepared channel accepts 
 -- this, or why the bytes are refused by any world
 abbrev pub IsAhead : Configuration → Accepts → List ℕ → Result Prepared Refused → Type 0
 IsAhead channel accepts bytes r = (w : World) → IsTakenIn channel accepts w bytes r
+
+-- a block that was taken in, and is the next one of the world
+pub record IsNext (channel : Configuration) (accepts : Accepts) (w : World) (bytes : List ℕ) (p : Prepared) : Type 0 where
+  pub prepared : IsPrepared channel accepts bytes p
+  pub linked : IsLinked w p.block

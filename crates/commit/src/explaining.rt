@@ -7,11 +7,10 @@ ghost use Rattle.serial_checks.specs.Shown.{Shows};
 ghost use Rattle.commit.specs.NextReasons.{AreNextReasons, AreFound};
 
 use crate::next_delta::job_of;
-use block_steps::{check_data_hash, check_place, decoded};
+use crate::prepared::Prepared;
+use crate::serial::take_in_next;
 use channel::Channel;
 use explanations::reason_of;
-use header_hash::data_hash;
-use intake::take_in;
 use key_chains::{Job, PlainBoard};
 use policy_eval::Verify;
 use reasons::{Reason, each_place_has_one_reason};
@@ -70,11 +69,9 @@ pub(crate) fn next_reasons<V: Verify>(
 ) -> Result<Items<Reason>, Refused>
     ensures { MatchResult result (AreNextReasons channel.now (V.accepts verifier.now) world.now bytes.now) (IsRefused world.now bytes.now) }
 {
-    let block = decoded(alloc, bytes)?;
-    check_place(world.height(), world.header_hash(), &block)?;
+    let next = take_in_next(alloc, channel, world, bytes, verifier)?;
+    let Prepared { block, taken, .. } = next;
     let txs = block.txs.as_slice();
-    check_data_hash(&block, data_hash(txs))?;
-    let taken = take_in(alloc, channel, verifier, txs)?;
     let (job, ids) = job_of(alloc, channel, world, taken)?;
     let (mut board, _flags) = verdicts(alloc, &job)?;
     let found = all_reasons(alloc, channel, world, txs, &job, ids.as_slice(), &mut board)?;

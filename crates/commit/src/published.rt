@@ -1,4 +1,4 @@
-//! The worlds of a committer: the one that readers ask, and its own.
+//! What a committer has published, which it checks the next block against.
 ghost use Rattle.std.specs.Prelude.{◌≡◌, ◌<◌, ◌↔◌, [], false, length, Err, IfOk};
 ghost use Rattle.std.specs.List.{All};
 ghost use Rattle.query.specs.Published.{published_world};
@@ -25,8 +25,6 @@ use world::World;
 
 /// What was committed. A contract sees what is published.
 pub(crate) struct Published {
-    // the same as the published one, for that one is lent to readers
-    world: World,
     publisher: Publisher,
     gathered: u32,
 }
@@ -34,7 +32,8 @@ pub(crate) struct Published {
 impl Model for Published {
     ghost use Rattle.query.specs.Published.{Publishing};
     ghost use Rattle.query.specs.Code.{publishing_code};
-    ghost use Rattle.commit.specs.Running.{IsKept};
+    ghost use Rattle.std.specs.Prelude.{◌≡◌};
+    ghost use Rattle.rules.specs.World.{empty_world};
 
     ghost Value = { Publishing };
 
@@ -42,7 +41,8 @@ impl Model for Published {
 
     ghost view = { λ p. p.publisher };
 
-    ghost invariant = { λ p. IsKept p.world p.publisher };
+    // nothing stood before what was published
+    ghost invariant = { λ p. p.publisher.base ≡ empty_world };
 }
 
 impl Published {
@@ -65,7 +65,6 @@ impl Published {
             readers,
         )?;
         let published = Published {
-            world: World::new(alloc),
             publisher,
             gathered: 0,
         };
@@ -100,7 +99,7 @@ impl Published {
             rt,
             alloc,
             channel,
-            &self.world,
+            self.publisher.published(),
             workers,
             bytes,
             verifier,
@@ -130,17 +129,13 @@ impl Published {
             rt,
             alloc,
             channel,
-            &self.world,
+            self.publisher.published(),
             workers,
             bytes,
             prepared?,
             verifier,
             gate,
         )?;
-        // memory that is wanted here changes nothing yet
-        if self.world.apply(&delta).is_err() {
-            return Err(NotCommitted::Refused(Refused::Memory));
-        }
         match self.publisher.publish(rt, delta) {
             Ok(receipt) => {
                 self.gathered = gathered;
@@ -153,7 +148,6 @@ impl Published {
     /// Ends it, and lets its handles go on with what was published.
     pub(crate) fn close<R: Wait>(self, rt: &R) {
         let Published {
-            world: _world,
             publisher,
             gathered: _,
         } = self;

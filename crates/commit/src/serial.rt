@@ -2,8 +2,10 @@
 ghost use Rattle.std.specs.Prelude.{MatchResult};
 ghost use Rattle.rules.specs.Linked.{IsRefused};
 ghost use Rattle.commit.specs.NextDelta.{IsNextDelta};
+ghost use Rattle.commit.specs.Prepared.{IsNext};
 
 use crate::next_delta::{delta_of, job_of};
+use crate::prepared::Prepared;
 use block_steps::{check_data_hash, check_place, decoded};
 use channel::Channel;
 use header_hash::data_hash;
@@ -13,6 +15,29 @@ use rules::{Delta, Refused};
 use serial_checks::flags;
 use std::alloc::Global;
 use world::World;
+
+/// Takes the next block of a world in, or says why the bytes are refused.
+pub(crate) fn take_in_next<'b, V: Verify>(
+    alloc: Global,
+    channel: &Channel,
+    world: &World,
+    bytes: &'b [u8],
+    verifier: &V,
+) -> Result<Prepared<'b>, Refused>
+    ensures { MatchResult result (IsNext channel.now (V.accepts verifier.now) world.now bytes.now) (IsRefused world.now bytes.now) }
+{
+    let block = decoded(alloc, bytes)?;
+    check_place(world.height(), world.header_hash(), &block)?;
+    let txs = block.txs.as_slice();
+    let data_hash = data_hash(txs);
+    check_data_hash(&block, data_hash)?;
+    let taken = take_in(alloc, channel, verifier, txs)?;
+    Ok(Prepared {
+        block,
+        taken,
+        data_hash,
+    })
+}
 
 /// What the block of these bytes would change, or why it would be refused.
 pub(crate) fn next_delta<V: Verify>(
@@ -24,11 +49,8 @@ pub(crate) fn next_delta<V: Verify>(
 ) -> Result<Delta, Refused>
     ensures { MatchResult result (IsNextDelta channel.now (V.accepts verifier.now) world.now bytes.now) (IsRefused world.now bytes.now) }
 {
-    let block = decoded(alloc, bytes)?;
-    check_place(world.height(), world.header_hash(), &block)?;
-    let txs = block.txs.as_slice();
-    check_data_hash(&block, data_hash(txs))?;
-    let taken = take_in(alloc, channel, verifier, txs)?;
+    let next = take_in_next(alloc, channel, world, bytes, verifier)?;
+    let Prepared { block, taken, .. } = next;
     let (job, ids) = job_of(alloc, channel, world, taken)?;
     let flags = flags(alloc, &job)?;
     let delta = delta_of(alloc, bytes, &block, &job, ids.as_slice(), flags)?;

@@ -1,23 +1,19 @@
-use Rattle.std.proofs.Common.{◌≡◌, length, map, ap, sym, ◌∙◌}
-use Rattle.std.proofs.lemmas.Result.{err_from_is_err_and}
-use Rattle.transaction.specs.Decoded.{tx_of}
+use Rattle.std.proofs.Common.{length, ap, sym, ◌∙◌}
 use Rattle.rules.specs.Commit.{txs_of}
 use Rattle.rules.specs.Job as job
-use Rattle.intake.specs.Place.{taken_of, shown}
 use Rattle.commit.proofs.NextDeltas.{count-ids}
+use Rattle.commit.proofs.Taken.{few}
 use Rattle.commit.proofs.serial.next_delta.Goals as goal
 
-pub returns-in_err-block : goal.returns-in_err-block
-returns-in_err-block g c =
-    let p = err_from_is_err_and c.from_residual.result c.from_residual.ensures.1 in
-    rw (p.1, p.2) (c.in_err-block.ensures c.args.world.now)
+pub job_of-requires : goal.job_of-requires
+job_of-requires g c = few _ _ _ _ c.in_ok-next.ensures.prepared
 
 pub delta_of-requires-clause-ids : goal.delta_of-requires-clause-ids
 delta_of-requires-clause-ids g c =
     let channel = c.args.channel.now in
     let accepts = g.V.Verify.accepts c.args.verifier.now in
-    let b = c.in_ok-block.block in
-    let taken : map shown c.in_ok-taken.taken.items ≡ map (taken_of channel accepts) (txs_of b) = c.in_ok-taken.ensures ∙ ap (λ txs. map (taken_of channel accepts) (map tx_of txs)) c.as_slice-txs.ensures in
+    let b = c.in_ok-next.next.block in
+    let taken = c.in_ok-next.ensures.prepared.taken in
     ap length c.as_slice.ensures.value
     ∙ count-ids channel accepts c.args.world.now b c.in_ok-job.ids.items (c.in_ok-job.ensures.ids accepts (txs_of b) taken)
     ∙ ap (λ (j : job.Job). length j.candidates) (sym (c.in_ok-job.ensures.job accepts (txs_of b) taken))
@@ -26,13 +22,13 @@ pub returns : goal.returns
 returns g c =
     let channel = c.args.channel.now in
     let accepts = g.V.Verify.accepts c.args.verifier.now in
-    let b = c.in_ok-block.block in
+    let b = c.in_ok-next.next.block in
     let w = c.args.world.now in
-    let taken : map shown c.in_ok-taken.taken.items ≡ map (taken_of channel accepts) (txs_of b) = c.in_ok-taken.ensures ∙ ap (λ txs. map (taken_of channel accepts) (map tx_of txs)) c.as_slice-txs.ensures in
-    let placed = c.in_ok-check_place.ensures w (sym c.height.ensures) (sym c.header_hash.ensures) in
+    let next = c.in_ok-next.ensures in
+    let taken = next.prepared.taken in
     record {
       block = b;
-      spelled = c.in_ok-block.ensures;
-      linked = c.in_ok-check_data_hash.ensures w placed.0 placed.1;
+      spelled = next.prepared.spelled;
+      linked = next.linked;
       delta = c.in_ok-delta.ensures channel accepts w (c.in_ok-job.ensures.job accepts (txs_of b) taken) (c.as_slice.ensures.value ∙ c.in_ok-job.ensures.ids accepts (txs_of b) taken);
     }

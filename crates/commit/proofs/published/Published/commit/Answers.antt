@@ -11,9 +11,8 @@ use Rattle.commit.proofs.published.Published.commit.Goals as goal
 
 pub publish-requires-clause-linked : goal.publish-requires-clause-linked
 publish-requires-clause-linked g c =
-    let own = c.self.invariant.same (sym c.failed.ensures ∙ c.if-failed.false) in
-    subst (λ (w : World). IsLinkedDelta w c.in_ok-delta.delta) own
-    (next-linked c.args.channel.now (g.V.Verify.accepts c.args.verifier.now) c.self.inside.world c.args.bytes.now c.in_ok-delta.delta c.in_ok-delta.ensures)
+    subst (λ (w : World). IsLinkedDelta w c.in_ok-delta.delta) c.published.ensures
+    (next-linked c.args.channel.now (g.V.Verify.accepts c.args.verifier.now) c.published.result.now c.args.bytes.now c.in_ok-delta.delta c.in_ok-delta.ensures)
 
 pub returns-in-Ok : goal.returns-in-Ok
 returns-in-Ok g c =
@@ -23,8 +22,8 @@ returns-in-Ok g c =
     let old = c.self.inside.publisher in
     let e = c.in-Ok.ensures in
     subst (λ (p : Publishing). IsCommitted accepts (committing channel p) c.args.bytes.now c.in-Ok.receipt (committing channel c.publish.new.self)) c.self.view_is
-    (committed channel accepts old c.publish.new.self c.self.inside.world c.args.bytes.now c.in_ok-delta.delta c.in-Ok.receipt
-    going c.self.invariant.empty (c.self.invariant.same going) c.in_ok-delta.ensures e.ok e.number e.height e.block.0 e.block.1 e.front)
+    (committed channel accepts old c.publish.new.self c.published.result.now c.args.bytes.now c.in_ok-delta.delta c.in-Ok.receipt
+    going c.self.invariant c.published.ensures c.in_ok-delta.ensures e.ok e.number e.height e.block.0 e.block.1 e.front)
 
 pub returns-in_err-delta : goal.returns-in_err-delta
 returns-in_err-delta g c =
@@ -33,5 +32,5 @@ returns-in_err-delta g c =
     let going = sym c.failed.ensures ∙ c.if-failed.false in
     let old = c.self.inside.publisher in
     let back = err_from_is_err_and c.from_residual-in_err-delta.result c.from_residual-in_err-delta.ensures.1 in
-    let is = refused_by old c.self.inside.world c.args.bytes.now c.in_err-delta.field-0.0 c.self.invariant.empty (c.self.invariant.same going) c.in_err-delta.ensures in
+    let is = refused_by old c.published.result.now c.args.bytes.now c.in_err-delta.field-0.0 c.self.invariant c.published.ensures c.in_err-delta.ensures in
     rw (back.1, back.2) (subst (λ (p : Publishing). Submits accepts (committing channel p) c.args.bytes.now (Err (Refused c.in_err-delta.field-0.0)) (committing channel p)) c.self.view_is (going, is, refl))

@@ -1,0 +1,26 @@
+use Rattle.std.proofs.Common.{map, ap, sym, ◌∙◌}
+use Rattle.std.proofs.lemmas.Result.{err_from_is_err_and}
+use Rattle.header_hash.specs.Hashes.{data_hash_of}
+use Rattle.transaction.specs.Decoded.{tx_of}
+use Rattle.intake.specs.Place.{taken_of}
+use Rattle.commit.proofs.serial.take_in_next.Goals as goal
+
+pub returns-in_err-block : goal.returns-in_err-block
+returns-in_err-block g c =
+    let p = err_from_is_err_and c.from_residual.result c.from_residual.ensures.1 in
+    rw (p.1, p.2) (c.in_err-block.ensures c.args.world.now)
+
+pub returns : goal.returns
+returns g c =
+    let channel = c.args.channel.now in
+    let accepts = g.V.Verify.accepts c.args.verifier.now in
+    let w = c.args.world.now in
+    let placed = c.in_ok-check_place.ensures w (sym c.height.ensures) (sym c.header_hash.ensures) in
+    record {
+      prepared = record {
+        spelled = c.in_ok-block.ensures;
+        taken = c.in_ok-taken.ensures ∙ ap (λ txs. map (taken_of channel accepts) (map tx_of txs)) c.as_slice-txs.ensures;
+        hash = c.data_hash-data_hash.ensures ∙ ap data_hash_of c.as_slice-txs.ensures;
+      };
+      linked = c.in_ok-check_data_hash.ensures w placed.0 placed.1;
+    }
