@@ -11,6 +11,8 @@ import sys
 
 TOP = pathlib.Path(__file__).resolve().parent.parent
 RUNS = 5
+# As the launcher does for the program.
+os.environ.setdefault("GLIBC_TUNABLES", "glibc.malloc.hugetlb=1")
 sys.path.append(str(TOP / "vectors"))
 
 
