@@ -35,7 +35,16 @@ pub(crate) fn take_in_next<'b, R: Threads + Sync, V: Verify + Sync, G: Gate + Sy
     let block = decoded(alloc, bytes)?;
     check_place(world.height(), world.header_hash(), &block)?;
     let txs = block.txs.as_slice();
-    let taken_in = take_in_beside_hashing(rt, alloc, channel, verifier, gate, txs, workers.count)?;
+    let taken_in = take_in_beside_hashing(
+        rt,
+        alloc,
+        channel,
+        verifier,
+        gate,
+        bytes,
+        txs,
+        workers.count,
+    )?;
     Ok(Prepared::of(block, taken_in))
 }
 
@@ -56,12 +65,13 @@ pub(crate) fn next_delta<R: Threads + Wait + Sync, V: Verify, G: Gate + Sync>(
     requires { IsPrepared channel.now (V.accepts verifier.now) bytes.now prepared }
     ensures { MatchResult result (λ r. IsNextDelta channel.now (V.accepts verifier.now) world.now bytes.now r.0) (IsRefused world.now bytes.now) }
 {
-    // which has verified what was taken in, and stands here for the clauses
-    let _verifier = verifier;
+    // what was taken in comes of these, which stand here for the clauses
+    let (_bytes, _verifier) = (bytes, verifier);
     let Prepared {
         block,
         taken,
         data_hash,
+        bytes,
     } = prepared;
     check_place(world.height(), world.header_hash(), &block)?;
     check_data_hash(&block, data_hash)?;

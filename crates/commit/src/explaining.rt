@@ -7,7 +7,6 @@ ghost use Rattle.serial_checks.specs.Shown.{Shows};
 ghost use Rattle.commit.specs.NextReasons.{AreNextReasons, AreFound};
 
 use crate::next_delta::job_of;
-use crate::prepared::Prepared;
 use crate::serial::take_in_next;
 use channel::Channel;
 use explanations::reason_of;
@@ -69,8 +68,7 @@ pub(crate) fn next_reasons<V: Verify>(
 ) -> Result<Items<Reason>, Refused>
     ensures { MatchResult result (AreNextReasons channel.now (V.accepts verifier.now) world.now bytes.now) (IsRefused world.now bytes.now) }
 {
-    let next = take_in_next(alloc, channel, world, bytes, verifier)?;
-    let Prepared { block, taken, .. } = next;
+    let (block, taken) = take_in_next(alloc, channel, world, bytes, verifier)?;
     let txs = block.txs.as_slice();
     let (job, ids) = job_of(alloc, channel, world, taken)?;
     let (mut board, _flags) = verdicts(alloc, &job)?;

@@ -14,16 +14,16 @@ ghost use Rattle.intake.specs.Place.{taken_of, shown};
 ghost use Rattle.commit.specs.Changes.{Changes};
 
 use block::Block;
-use block_steps::{kept, uses_of};
+use block_steps::uses_of;
 use channel::Channel;
 use effects::effects_of;
 use header_hash::header_hash;
 use intake::{Taken, candidates_of, ids_of};
 use key_chains::Job;
-use rules::{Delta, Flag};
+use rules::{CommittedBlock, Delta, Flag};
 use std::alloc::{AllocError, Global};
 use transaction::TxId;
-use values::{Hash, Items};
+use values::{Bytes, Hash, Items, Shared};
 use world::World;
 
 /// The job of the next block, of what was taken in of its transactions, and the id that each of them uses.
@@ -56,13 +56,13 @@ fn changes_of(
     job: &Job<'_>,
     ids: &[Option<TxId>],
     flags: Vec<Flag>,
-    bytes: &[u8],
+    bytes: Bytes,
     header_hash: Hash,
 ) -> Result<Delta, AllocError>
     requires flags { flags.items ≡ fold.flags job.now }
     requires ids { length ids.now ≡ length job.now.candidates }
     requires few { length ids.now ≤ max_txs }
-    ensures { IfOk result (λ d. Changes job.now ids.now bytes.now header_hash d) }
+    ensures { IfOk result (λ d. Changes job.now ids.now bytes header_hash d) }
 {
     let effects = effects_of(alloc, job, flags.as_slice())?;
     let uses = uses_of(alloc, job.number(), ids, flags.as_slice())?;
@@ -70,14 +70,21 @@ fn changes_of(
         changes: Items::from_vec(effects.changes),
         entries: Items::from_vec(effects.entries),
         uses: Items::from_vec(uses),
-        block: kept(alloc, bytes, header_hash, Items::from_vec(flags))?,
+        block: Shared::new(
+            alloc,
+            CommittedBlock {
+                bytes,
+                header_hash,
+                flags: Items::from_vec(flags),
+            },
+        )?,
     })
 }
 
-/// The delta of a block that is the next one and that these bytes spell, of its job, ids and flags.
+/// The delta of a block that is the next one and that these bytes spell, which it keeps; of its job, ids and flags.
 pub(crate) fn delta_of(
     alloc: Global,
-    bytes: &[u8],
+    bytes: Bytes,
     block: &Block<'_>,
     job: &Job<'_>,
     ids: &[Option<TxId>],
@@ -86,7 +93,7 @@ pub(crate) fn delta_of(
     requires flags { flags.items ≡ fold.flags job.now }
     requires ids { length ids.now ≡ length job.now.candidates }
     requires few { length ids.now ≤ max_txs }
-    ensures { IfOk result (λ d. (channel : Configuration) (accepts : Accepts) (w : world.World) → job.now ≡ commit.job_of channel accepts w (txs_of block.now) → ids.now ≡ map (used_id channel accepts) (txs_of block.now) → IsDelta channel accepts w (txs_of block.now) (committed_of bytes.now block.now (commit.job_of channel accepts w (txs_of block.now))) d) }
+    ensures { IfOk result (λ d. (channel : Configuration) (accepts : Accepts) (w : world.World) → job.now ≡ commit.job_of channel accepts w (txs_of block.now) → ids.now ≡ map (used_id channel accepts) (txs_of block.now) → IsDelta channel accepts w (txs_of block.now) (committed_of bytes block.now (commit.job_of channel accepts w (txs_of block.now))) d) }
 {
     changes_of(alloc, job, ids, flags, bytes, header_hash(&block.header))
 }

@@ -13,27 +13,34 @@ use policy_eval::Verify;
 use rules::Refused;
 use std::alloc::{AllocError, Global};
 use std::thread::Threads;
-use values::Hash;
+use values::{Bytes, Hash};
 
-/// A block, and what can be said of its transactions without the world.
+/// A block, what can be said of its transactions without the world, and a copy of its bytes.
 #[derive(Drop)]
 pub(crate) struct Prepared<'b> {
     pub(crate) block: Block<'b>,
     pub(crate) taken: Vec<Taken<'b>>,
     pub(crate) data_hash: Hash,
+    pub(crate) bytes: Bytes,
 }
 
 impl<'b> Prepared<'b> {
     pub(crate) fn of(block: Block<'b>, taken_in: TakenIn<'b>) -> Prepared<'b>
         ensures block { result.block ≡ block.entry }
-        ensures taken { result.taken.items ≡ taken_in.entry.0.items }
-        ensures hash { result.data_hash ≡ taken_in.entry.1 }
+        ensures taken { result.taken.items ≡ taken_in.entry.taken.items }
+        ensures hash { result.data_hash ≡ taken_in.entry.data_hash }
+        ensures bytes { result.bytes ≡ taken_in.entry.bytes }
     {
-        let (taken, data_hash) = taken_in;
+        let TakenIn {
+            taken,
+            data_hash,
+            bytes,
+        } = taken_in;
         Prepared {
             block,
             taken,
             data_hash,
+            bytes,
         }
     }
 }
@@ -70,6 +77,7 @@ pub(crate) fn take_in_ahead<
         channel,
         verifier,
         gate,
+        bytes,
         block.txs.as_slice(),
         workers.count,
         own,

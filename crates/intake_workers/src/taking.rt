@@ -1,5 +1,5 @@
-//! Workers take pieces in, one of them the data hash too.
-ghost use Rattle.std.specs.Prelude.{◌≡◌, map, IfOk};
+//! Workers take pieces in; one of them hashes the block and copies it too.
+ghost use Rattle.std.specs.Prelude.{◌≡◌, map, Ok, IfOk};
 ghost use Rattle.header_hash.specs.Hashes.{data_hash_of};
 ghost use Rattle.transaction.specs.Decoded.{tx_of};
 ghost use Rattle.intake.specs.Place.{taken_of, shown};
@@ -14,7 +14,7 @@ use pieces::{Beside, Work, in_pieces_beside};
 use policy_eval::Verify;
 use std::alloc::{AllocError, Global};
 use std::thread::Threads;
-use values::{Hash, Slice};
+use values::{Bytes, Hash, Slice};
 
 /// Takes in the transactions of pieces. Each passes the gate first.
 #[derive(Clone, Copy)]
@@ -59,24 +59,51 @@ fn take_piece<'a, V: Verify, G: Gate>(
     Ok(all)
 }
 
-/// Makes the data hash of a block with these transactions.
+/// Makes the data hash of a block with these transactions, and a copy of its bytes.
 #[derive(Drop)]
-struct Hashing<'t, 'a> {
+struct HashAndCopy<'t, 'a> {
+    alloc: Global,
     txs: &'t [Slice<'a>],
+    bytes: &'t [u8],
 }
 
-impl<'t, 'a> Beside<Hash> for Hashing<'t, 'a> {
-    ghost gives = { λ s hash. hash ≡ data_hash_of s.txs.now };
+impl<'t, 'a> Beside<(Hash, Result<Bytes, AllocError>)> for HashAndCopy<'t, 'a> {
+    ghost gives = { λ s made. (made.0 ≡ data_hash_of s.txs.now) × IfOk made.1 (λ bytes. bytes ≡ s.bytes.now) };
 
-    fn make(&self) -> Hash {
-        data_hash(self.txs)
+    fn make(&self) -> (Hash, Result<Bytes, AllocError>) {
+        (
+            data_hash(self.txs),
+            Bytes::from_slice(self.alloc, self.bytes),
+        )
     }
 }
 
-/// What was taken in of a block: its transactions, in order, and its data hash.
-pub type TakenIn<'a> = (Vec<Taken<'a>>, Hash);
+/// What was taken in of a block.
+#[derive(Drop)]
+pub struct TakenIn<'a> {
+    /// Its transactions, in order.
+    pub taken: Vec<Taken<'a>>,
+    pub data_hash: Hash,
+    /// Its bytes, to be kept.
+    pub bytes: Bytes,
+}
 
-// Pieces are taken in by so many workers, one of whom hashes the block first, and the calling thread does its own work.
+fn taken_in<'a>(
+    taken: Result<Vec<Taken<'a>>, AllocError>,
+    data_hash: Hash,
+    bytes: Result<Bytes, AllocError>,
+) -> Result<TakenIn<'a>, AllocError>
+    ensures { IfOk result (λ r. (taken.entry ≡ Ok r.taken) × (r.data_hash ≡ data_hash) × (bytes ≡ Ok r.bytes)) }
+{
+    Ok(TakenIn {
+        taken: taken?,
+        data_hash,
+        bytes: bytes?,
+    })
+}
+
+// Pieces are taken in by so many workers, one of whom hashes and copies the block first, and the calling thread does its own
+// work.
 fn take_pieces<'t, 'a, R: Threads + Sync, V: Verify + Sync, G: Gate + Sync, Z, F: FnMut() -> Z>(
     rt: &R,
     alloc: Global,
@@ -84,14 +111,16 @@ fn take_pieces<'t, 'a, R: Threads + Sync, V: Verify + Sync, G: Gate + Sync, Z, F
     verifier: &V,
     gate: &G,
     pieces: &[Piece<'t, 'a>],
+    bytes: &[u8],
     txs: &[Slice<'a>],
     workers: usize,
     own: &mut F,
 ) -> (Result<TakenIn<'a>, AllocError>, Z)
     requires pieces { transactions_of pieces.now ≡ txs.now }
     requires own { F.pre own.old }
-    ensures taken { IfOk result.0 (λ r. map shown r.0.items ≡ map (taken_of channel.now (V.accepts verifier.now)) (map tx_of txs.now)) }
-    ensures hash { IfOk result.0 (λ r. r.1 ≡ data_hash_of txs.now) }
+    ensures taken { IfOk result.0 (λ r. map shown r.taken.items ≡ map (taken_of channel.now (V.accepts verifier.now)) (map tx_of txs.now)) }
+    ensures hash { IfOk result.0 (λ r. r.data_hash ≡ data_hash_of txs.now) }
+    ensures bytes { IfOk result.0 (λ r. r.bytes ≡ bytes.now) }
     ensures own { F.step own.old result.1 own.new }
 {
     let work = TakeIn {
@@ -99,38 +128,32 @@ fn take_pieces<'t, 'a, R: Threads + Sync, V: Verify + Sync, G: Gate + Sync, Z, F
         verifier,
         gate,
     };
-    let (taken, hash, done) = in_pieces_beside(
-        rt,
-        alloc,
-        pieces,
-        workers,
-        &work,
-        &Hashing { txs },
-        own,
+    let other = HashAndCopy { alloc, txs, bytes };
+    let (taken, (data_hash, bytes), done) = in_pieces_beside(
+        rt, alloc, pieces, workers, &work, &other, own,
     );
-    match taken {
-        Ok(taken) => (Ok((taken, hash)), done),
-        Err(e) => (Err(e), done),
-    }
+    (taken_in(taken, data_hash, bytes), done)
 }
 
 /// Takes in all transactions of a block, in order, by so many workers, as [`intake::take_in`] does on one thread, and
-/// makes its data hash. Each transaction passes the gate first.
+/// makes its data hash and a copy of its bytes. Each transaction passes the gate first.
 ///
 /// Pieces have at most 64 transactions and, where there are more than one, at most 1 MiB. The calling thread is one of the
-/// workers; the others are threads, of which one hashes first, and one that can't be started is done without. No more are
-/// started than there are pieces.
+/// workers; the others are threads, of which one hashes and copies first, and one that can't be started is done without. No
+/// more are started than there are pieces.
 pub fn take_in_beside_hashing<'a, R: Threads + Sync, V: Verify + Sync, G: Gate + Sync>(
     rt: &R,
     alloc: Global,
     channel: &Channel,
     verifier: &V,
     gate: &G,
+    bytes: &[u8],
     txs: &[Slice<'a>],
     workers: usize,
 ) -> Result<TakenIn<'a>, AllocError>
-    ensures taken { IfOk result (λ r. map shown r.0.items ≡ map (taken_of channel.now (V.accepts verifier.now)) (map tx_of txs.now)) }
-    ensures hash { IfOk result (λ r. r.1 ≡ data_hash_of txs.now) }
+    ensures taken { IfOk result (λ r. map shown r.taken.items ≡ map (taken_of channel.now (V.accepts verifier.now)) (map tx_of txs.now)) }
+    ensures hash { IfOk result (λ r. r.data_hash ≡ data_hash_of txs.now) }
+    ensures bytes { IfOk result (λ r. r.bytes ≡ bytes.now) }
 {
     let pieces = cut(alloc, txs)?;
     let workers = workers.min(pieces.len());
@@ -141,6 +164,7 @@ pub fn take_in_beside_hashing<'a, R: Threads + Sync, V: Verify + Sync, G: Gate +
         verifier,
         gate,
         pieces.as_slice(),
+        bytes,
         txs,
         workers,
         &mut || (),
@@ -158,13 +182,15 @@ pub fn take_in_beside<'a, R: Threads + Sync, V: Verify + Sync, G: Gate + Sync, Z
     channel: &Channel,
     verifier: &V,
     gate: &G,
+    bytes: &[u8],
     txs: &[Slice<'a>],
     workers: usize,
     own: &mut F,
 ) -> (Result<TakenIn<'a>, AllocError>, Z)
     requires { F.pre own.old }
-    ensures taken { IfOk result.0 (λ r. map shown r.0.items ≡ map (taken_of channel.now (V.accepts verifier.now)) (map tx_of txs.now)) }
-    ensures hash { IfOk result.0 (λ r. r.1 ≡ data_hash_of txs.now) }
+    ensures taken { IfOk result.0 (λ r. map shown r.taken.items ≡ map (taken_of channel.now (V.accepts verifier.now)) (map tx_of txs.now)) }
+    ensures hash { IfOk result.0 (λ r. r.data_hash ≡ data_hash_of txs.now) }
+    ensures bytes { IfOk result.0 (λ r. r.bytes ≡ bytes.now) }
     ensures own { F.step own.old result.1 own.new }
 {
     let pieces = match cut(alloc, txs) {
@@ -183,6 +209,7 @@ pub fn take_in_beside<'a, R: Threads + Sync, V: Verify + Sync, G: Gate + Sync, Z
         verifier,
         gate,
         pieces.as_slice(),
+        bytes,
         txs,
         workers.min(most),
         own,

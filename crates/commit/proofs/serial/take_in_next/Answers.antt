@@ -1,6 +1,5 @@
 use Rattle.std.proofs.Common.{map, ap, sym, ◌∙◌}
 use Rattle.std.proofs.lemmas.Result.{err_from_is_err_and}
-use Rattle.header_hash.specs.Hashes.{data_hash_of}
 use Rattle.transaction.specs.Decoded.{tx_of}
 use Rattle.intake.specs.Place.{taken_of}
 use Rattle.commit.proofs.serial.take_in_next.Goals as goal
@@ -17,10 +16,9 @@ returns g c =
     let w = c.args.world.now in
     let placed = c.in_ok-check_place.ensures w (sym c.height.ensures) (sym c.header_hash.ensures) in
     record {
-      prepared = record {
+      is_taken = record {
         spelled = c.in_ok-block.ensures;
         taken = c.in_ok-taken.ensures ∙ ap (λ txs. map (taken_of channel accepts) (map tx_of txs)) c.as_slice-txs.ensures;
-        hash = c.data_hash-data_hash.ensures ∙ ap data_hash_of c.as_slice-txs.ensures;
       };
       linked = c.in_ok-check_data_hash.ensures w placed.0 placed.1;
     }
