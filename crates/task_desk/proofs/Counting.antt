@@ -6,10 +6,10 @@ use Rattle.std.proofs.lemmas.List.{map-set, length-set, length-replicate}
 use Rattle.std.proofs.lemmas.List.Sums.{sum_by-set, sum_by-cons}
 use Rattle.task_desk.specs.declared.status.Status.{Status}
 use Rattle.task_desk.specs.declared.status.Status.TheVariants.{Ready, Done}
-use Rattle.task_desk.specs.Status.{is_unhanded, is_out, status_at}
+use Rattle.task_desk.specs.Status.{is_unhanded, is_out, is_undone, status_at}
 use Rattle.task_desk.specs.Desk.{NoneUnhanded, IsNext}
 use Rattle.task_desk.specs.Bits.{IsLeast, IsEmpty}
-use Rattle.task_desk.specs.Counted.{is_undone, IsCounted}
+use Rattle.task_desk.specs.Counted.{IsCounted}
 
 -- the count of a test, once one status has changed
 pub count-set : (p : Status → Bool) (tasks : List Status) (t : ℕ) (v : Status) → t < length tasks → count_by p (set tasks t v) + cond (p (status_at tasks t)) 1 0 ≡ count_by p tasks + cond (p v) 1 0

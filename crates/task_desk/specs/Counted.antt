@@ -1,10 +1,7 @@
 -- What is kept beside the statuses of tasks. No public contract cites this.
-use Rattle.std.specs.Prelude.{◌≡◌, ℕ, ◌≤◌, Bool, not, List, length, map, count_by}
+use Rattle.std.specs.Prelude.{◌≡◌, ℕ, ◌≤◌, Bool, List, length, map, count_by}
 use Rattle.task_desk.specs.declared.status.Status.{Status}
-use Rattle.task_desk.specs.Status.{is_unhanded, is_out, is_done}
-
-abbrev pub is_undone : Status → Bool
-is_undone status = not (is_done status)
+use Rattle.task_desk.specs.Status.{is_unhanded, is_out, is_undone}
 
 pub record IsCounted (tasks : List Status) (unhanded : List Bool) (out undone : ℕ) : Type 0 where
   pub small : length tasks ≤ 8192

@@ -1,6 +1,6 @@
 ghost use Rattle.std.specs.Prelude.{◌≡◌, ◌<◌, ◌≤◌, true, false, if◌then◌else◌, length, count_by, IfOk, IsSome, MatchOption};
 ghost use Rattle.std.specs.List.{list_all};
-ghost use Rattle.task_desk.specs.Status.{is_ready, is_out, is_done, status_at};
+ghost use Rattle.task_desk.specs.Status.{is_ready, is_out, is_done, is_undone, status_at};
 ghost use Rattle.task_desk.specs.Desk.{new_desk, with_out, with_handed, can_park, with_parked, with_done, NoneReady, NoneUnhanded, IsNext, IsDesk};
 ghost use Rattle.task_desk.specs.Waiting.{with_ready};
 ghost use Rattle.task_desk.specs.Links.{AreBelow};
@@ -120,7 +120,8 @@ impl Desk {
         Some(task)
     }
 
-    /// Takes a task out where it is ready. Elsewhere false, and nothing changes. Constant.
+    /// Takes a task out where it is ready. Elsewhere false, and nothing changes. Constant where all tasks before it were
+    /// handed, else linear in these.
     pub fn start(&mut self, task: u32) -> bool
         ensures answer { result ≡ is_ready (status_at self.old task) }
         ensures new { self.new ≡ (if result then with_out self.old task else self.old) }
@@ -145,5 +146,12 @@ impl Desk {
         ensures { result ≡ count_by is_out self.now }
     {
         self.statuses.out()
+    }
+
+    /// How many tasks aren't done. Constant.
+    pub fn left(&self) -> u32
+        ensures { result ≡ count_by is_undone self.now }
+    {
+        self.statuses.left()
     }
 }

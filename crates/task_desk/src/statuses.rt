@@ -2,11 +2,11 @@
 ghost use Rattle.std.specs.Prelude.{◌≡◌, ◌<◌, ◌≤◌, ◌+◌, true, false, if◌then◌else◌, length, replicate, slice_set, count_by, IfOk, MatchOption};
 ghost use Rattle.std.specs.List.{list_all};
 ghost use Rattle.task_desk.specs.declared.status.Status.TheVariants.{Ready};
-ghost use Rattle.task_desk.specs.Status.{is_ready, is_out, is_done, status_at};
+ghost use Rattle.task_desk.specs.Status.{is_ready, is_out, is_done, is_undone, status_at};
 ghost use Rattle.task_desk.specs.Desk.{NoneReady, NoneUnhanded, IsNext};
 
 use crate::status::Status;
-use crate::task_set::TaskSet;
+use crate::unhanded::Unhanded;
 use std::alloc::{AllocError, Global};
 use std::marker::Model;
 
@@ -14,7 +14,7 @@ use std::marker::Model;
 #[derive(Drop)]
 pub(crate) struct Statuses {
     list: Vec<Status>,
-    unhanded: TaskSet,
+    unhanded: Unhanded,
     out: u32,
     undone: u32,
 }
@@ -66,7 +66,7 @@ impl Statuses {
         ensures { IfOk result (λ s. s ≡ replicate count Ready) }
     {
         let list = all_ready(alloc, count as usize)?;
-        let unhanded = TaskSet::full(alloc, count)?;
+        let unhanded = Unhanded::all(alloc, count)?;
         Ok(Statuses {
             list,
             unhanded,
@@ -122,6 +122,13 @@ impl Statuses {
         ensures { result ≡ count_by is_out self.now }
     {
         self.out
+    }
+
+    /// How many aren't done.
+    pub fn left(&self) -> u32
+        ensures { result ≡ count_by is_undone self.now }
+    {
+        self.undone
     }
 
     /// Whether all are done.
