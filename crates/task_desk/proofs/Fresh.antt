@@ -1,8 +1,8 @@
 -- Tasks of which all from one on are there.
-use Rattle.std.proofs.Common.{◌≡◌, ◌≢◌, ◌⊎◌, inl, inr, ℕ, ◌+◌, ◌<◌, ◌≤◌, eqb, leb, ltb, Bool, true, false, cond, List, length, set, get_or, sym, ap, ◌∙◌, arith}
+use Rattle.std.proofs.Common.{◌≡◌, ◌≢◌, ◌⊎◌, inl, inr, ℕ, ◌+◌, ◌<◌, ◌≤◌, eqb, leb, ltb, Bool, true, false, cond, ◌||◌, List, length, set, get_or, refl, sym, ap, ◌∙◌, arith}
 use Rattle.std.specs.Prelude.{replicate}
 use Rattle.std.proofs.Math.ListN.{get_or-eq_default}
-use Rattle.std.proofs.lemmas.Bool.{lt-ltb, le-ltb}
+use Rattle.std.proofs.lemmas.Bool.{lt-ltb, le-ltb, ltb-false}
 use Rattle.std.proofs.lemmas.Bool.Decides.{eqb_tells, leb_tells}
 use Rattle.std.proofs.lemmas.List.{get_or-set_same, get_or-set_other, get_or-replicate, length-replicate, length-set, same_lists}
 use Rattle.std.proofs.lemmas.List.FromFn.{get_or-map-range_with_len, length-map-range_with_len}
@@ -46,16 +46,33 @@ set-before others fresh t m before lt =
     (shown-before (set others t m) fresh t before ∙ get_or-set_same others t m false lt)
     (λ k apart. ap (λ b. cond (ltb k fresh) b true) (get_or-set_other others t k m false apart))
 
-pub set-keeps : (others : List Bool) (fresh count t : ℕ) (m : Bool) → AreBefore others fresh count → t < fresh → AreBefore (set others t m) fresh count
-set-keeps others fresh count t m are before = record {
+pub leave-before : (others : List Bool) (fresh count t : ℕ) (has : Bool) → AreBefore others fresh count has → t < fresh → AreBefore (set others t false) fresh count has
+leave-before others fresh count t has are before = record {
   small = are.small;
-  all = length-set others t m ∙ are.all;
+  all = length-set others t false ∙ are.all;
   bound = are.bound;
-  before = λ k le. get_or-set_other others t k m false (λ e. absurd (omega (arith, e, le, before))) ∙ are.before k le;
+  before = λ k le. get_or-set_other others t k false false (λ e. absurd (omega (arith, e, le, before))) ∙ are.before k le;
+  none = λ none_there k. by k (are.none none_there) (eqb_tells k t);
+}
+  where
+    inside : t < length others
+    inside = let all = are.all in let bound = are.bound in omega (arith, all, bound, before)
+
+    by : (k : ℕ) → IsEmpty others → ((eqb k t ≡ true) × (k ≡ t)) ⊎ ((eqb k t ≡ false) × (k ≢ t)) → is_member (set others t false) k ≡ false
+    by k empty (inl e) = ap (is_member (set others t false)) e.1 ∙ get_or-set_same others t false false inside
+    by k empty (inr e) = get_or-set_other others t k false false e.1 ∙ empty k
+
+pub come-back-before : (others : List Bool) (fresh count t : ℕ) (has : Bool) → AreBefore others fresh count has → t < fresh → AreBefore (set others t true) fresh count true
+come-back-before others fresh count t has are before = record {
+  small = are.small;
+  all = length-set others t true ∙ are.all;
+  bound = are.bound;
+  before = λ k le. get_or-set_other others t k true false (λ e. absurd (omega (arith, e, le, before))) ∙ are.before k le;
+  none = λ e. absurd (let wrong : true ≡ false = e in cc);
 }
 
-pub leaves : (others put : List Bool) (fresh count t : ℕ) → AreBefore others fresh count → fresh ≤ t → t < length others → IsRunPut others fresh t put → with_fresh put (t + 1) ≡ set (with_fresh others fresh) t false
-leaves others put fresh count t are from lt is =
+pub leaves : (others put : List Bool) (fresh count t : ℕ) (has : Bool) → AreBefore others fresh count has → fresh ≤ t → t < length others → IsRunPut others fresh t put → with_fresh put (t + 1) ≡ set (with_fresh others fresh) t false
+leaves others put fresh count t has are from lt is =
     changes others put fresh (t + 1) t false is.all lt
     (shown-before put (t + 1) t (omega arith) ∙ is.above t (omega arith) ∙ are.before t from)
     (λ k apart. there k apart (leb_tells fresh k) (leb_tells t k))
@@ -65,13 +82,22 @@ leaves others put fresh count t are from lt is =
     there k apart (inl d) (inr e) = let under = e.1 in shown-before put (t + 1) k (omega (arith, under)) ∙ is.inside k d.1 under ∙ sym (shown-fresh others fresh k d.1)
     there k apart (inl d) (inl e) = let over = e.1 in shown-fresh put (t + 1) k (omega (arith, over, apart)) ∙ sym (shown-fresh others fresh k d.1)
 
-pub leave-keeps : (others put : List Bool) (fresh count t : ℕ) → AreBefore others fresh count → fresh ≤ t → t < length others → IsRunPut others fresh t put → AreBefore put (t + 1) count
-leave-keeps others put fresh count t are from lt is = record {
+pub leave-keeps : (others put : List Bool) (fresh count t : ℕ) (has : Bool) → AreBefore others fresh count has → fresh ≤ t → t < length others → IsRunPut others fresh t put → AreBefore put (t + 1) count (has || ltb fresh t)
+leave-keeps others put fresh count t has are from lt is = record {
   small = are.small;
   all = is.all ∙ are.all;
   bound = let all = are.all in omega (arith, all, lt);
   before = λ k le. is.above k (omega (arith, le)) ∙ are.before k (omega (arith, le, from));
+  none = λ none_there k. empty k (neither has (ltb fresh t) none_there) (leb_tells t k);
 }
+  where
+    neither : (a b : Bool) → (a || b) ≡ false → (a ≡ false) × (b ≡ false)
+    neither false b e = (refl, e)
+    neither true b e = absurd (let wrong : true ≡ false = e in cc)
+
+    empty : (k : ℕ) → (has ≡ false) × (ltb fresh t ≡ false) → ((leb t k ≡ true) × (t ≤ k)) ⊎ ((leb t k ≡ false) × (k < t)) → is_member put k ≡ false
+    empty k (not_has, not_less) (inl d) = is.above k d.1 ∙ are.none not_has k
+    empty k (not_has, not_less) (inr d) = is.below k (let under = d.1 in let same = ltb-false fresh t not_less in omega (arith, under, same)) ∙ are.none not_has k
 
 -- what is away is before the fresh ones
 pub away-before : (others : List Bool) (fresh t : ℕ) → t < length others → is_member (with_fresh others fresh) t ≡ false → t < fresh
@@ -92,18 +118,19 @@ all-fresh others count is =
     long : length others ≡ count
     long = ap (λ (xs : List Bool). length xs) is ∙ length-replicate {A = Bool} count false
 
-pub none-before : (others : List Bool) (count : ℕ) → count ≤ 8192 → others ≡ replicate count false → AreBefore others 0 count
+pub none-before : (others : List Bool) (count : ℕ) → count ≤ 8192 → others ≡ replicate count false → AreBefore others 0 count false
 none-before others count small is = record {
   small = small;
   all = ap (λ (xs : List Bool). length xs) is ∙ length-replicate {A = Bool} count false;
   bound = omega arith;
   before = λ k le. none-member others count k is;
+  none = λ e k. none-member others count k is;
 }
 
 -- ---- the least
 
-pub least-other : (others : List Bool) (fresh count t : ℕ) → AreBefore others fresh count → IsLeast others t → IsLeast (with_fresh others fresh) t
-least-other others fresh count t are first = by (leb_tells fresh t)
+pub least-other : (others : List Bool) (fresh count t : ℕ) (has : Bool) → AreBefore others fresh count has → IsLeast others t → IsLeast (with_fresh others fresh) t
+least-other others fresh count t has are first = by (leb_tells fresh t)
   where
     inside : t < length others
     inside = member-below others t first.member
@@ -115,8 +142,8 @@ least-other others fresh count t are first = by (leb_tells fresh t)
       least = λ j lt. fresh-at others fresh j false (omega (arith, lt, inside)) ∙ shown-before others fresh j (omega (arith, lt, before)) ∙ first.least j lt;
     }
 
-pub least-fresh : (others : List Bool) (fresh count : ℕ) → AreBefore others fresh count → IsEmpty others → fresh < count → IsLeast (with_fresh others fresh) fresh
-least-fresh others fresh count are none lt = record {
+pub least-fresh : (others : List Bool) (fresh count : ℕ) (has : Bool) → AreBefore others fresh count has → IsEmpty others → fresh < count → IsLeast (with_fresh others fresh) fresh
+least-fresh others fresh count has are none lt = record {
   member = fresh-at others fresh fresh false inside ∙ shown-fresh others fresh fresh (omega arith);
   least = λ j below. fresh-at others fresh j false (omega (arith, below, inside)) ∙ shown-before others fresh j below ∙ none j;
 }
@@ -124,8 +151,8 @@ least-fresh others fresh count are none lt = record {
     inside : fresh < length others
     inside = let all = are.all in omega (arith, all, lt)
 
-pub none-left : (others : List Bool) (fresh count : ℕ) → AreBefore others fresh count → IsEmpty others → count ≤ fresh → IsEmpty (with_fresh others fresh)
-none-left others fresh count are none le k = by (leb_tells (length others) k)
+pub none-left : (others : List Bool) (fresh count : ℕ) (has : Bool) → AreBefore others fresh count has → IsEmpty others → count ≤ fresh → IsEmpty (with_fresh others fresh)
+none-left others fresh count has are none le k = by (leb_tells (length others) k)
   where
     by : ((leb (length others) k ≡ true) × (length others ≤ k)) ⊎ ((leb (length others) k ≡ false) × (k < length others)) → is_member (with_fresh others fresh) k ≡ false
     by (inl d) = get_or-eq_default (with_fresh others fresh) false (let beyond = d.1 in omega (arith, beyond, fresh-length others fresh))

@@ -16,6 +16,8 @@ pub(crate) struct Unhanded {
     fresh: u32,
     count: u32,
     others: TaskSet,
+    // false only where there are none, which saves a look at the set
+    has_others: bool,
 }
 
 impl Model for Unhanded {
@@ -26,7 +28,7 @@ impl Model for Unhanded {
 
     ghost view = { λ s. with_fresh s.others s.fresh };
 
-    ghost invariant = { λ s. AreBefore s.others s.fresh s.count };
+    ghost invariant = { λ s. AreBefore s.others s.fresh s.count s.has_others };
 }
 
 /// Puts tasks in, from one to before another.
@@ -37,6 +39,14 @@ fn put_run(tasks: &mut TaskSet, from: u32, end: u32)
     for task in from..end {
         tasks.set(task, true);
     }
+}
+
+/// The least task, told whether there may be some.
+fn first_in(tasks: &TaskSet, has_some: bool) -> Option<u32>
+    requires { has_some ≡ false → IsEmpty tasks.now }
+    ensures { MatchOption result (IsEmpty tasks.now) (λ t. IsLeast tasks.now t) }
+{
+    if has_some { tasks.first() } else { None }
 }
 
 impl Unhanded {
@@ -50,6 +60,7 @@ impl Unhanded {
             fresh: 0,
             count,
             others,
+            has_others: false,
         })
     }
 
@@ -61,6 +72,7 @@ impl Unhanded {
         if task < self.fresh {
             self.others.set(task, false);
         } else {
+            self.has_others |= self.fresh < task;
             put_run(&mut self.others, self.fresh, task);
             self.fresh = task + 1;
         }
@@ -73,6 +85,7 @@ impl Unhanded {
         ensures { self.new ≡ slice_set self.old task true }
     {
         self.others.set(task, true);
+        self.has_others = true;
     }
 
     /// Puts a task in or takes it out, told whether it was in: nothing is written where nothing changes.
@@ -93,7 +106,7 @@ impl Unhanded {
     pub fn first(&self) -> Option<u32>
         ensures { MatchOption result (IsEmpty self.now) (λ t. IsLeast self.now t) }
     {
-        match self.others.first() {
+        match first_in(&self.others, self.has_others) {
             Some(task) => Some(task),
             None if self.fresh < self.count => Some(self.fresh),
             None => None,

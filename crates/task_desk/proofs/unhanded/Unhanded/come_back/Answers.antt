@@ -2,7 +2,7 @@ use Rattle.std.proofs.Common.{◌<◌, ◌∙◌, List, Bool, length, sym, ap, s
 use Rattle.std.specs.Prelude.{slice_set, true}
 use Rattle.task_desk.specs.Groups.{is_member}
 use Rattle.task_desk.specs.Unhanded.{with_fresh, AreBefore}
-use Rattle.task_desk.proofs.Fresh.{fresh-length, away-before, set-before, set-keeps}
+use Rattle.task_desk.proofs.Fresh.{fresh-length, away-before, set-before, come-back-before}
 use Rattle.task_desk.proofs.unhanded.Unhanded.come_back.Goals as goal
 
 pub set-requires : goal.set-requires
@@ -13,8 +13,8 @@ invariant_of-self c =
     let others = c.self.inside.others in
     let lt : c.args.task < length others = omega (arith, c.requires.task, fresh-length others c.self.inside.fresh, ap (λ (xs : List Bool). length xs) c.self.view_is) in
     let away = ap (λ (xs : List Bool). is_member xs c.args.task) c.self.view_is ∙ c.requires.away in
-    subst (λ (xs : List Bool). AreBefore xs c.self.inside.fresh c.self.inside.count) (sym c.set.ensures)
-    (set-keeps others c.self.inside.fresh c.self.inside.count c.args.task true c.self.invariant (away-before others c.self.inside.fresh c.args.task lt away))
+    subst (λ (xs : List Bool). AreBefore xs c.self.inside.fresh c.self.inside.count true) (sym c.set.ensures)
+    (come-back-before others c.self.inside.fresh c.self.inside.count c.args.task c.self.inside.has_others c.self.invariant (away-before others c.self.inside.fresh c.args.task lt away))
 
 pub returns : goal.returns
 returns c =

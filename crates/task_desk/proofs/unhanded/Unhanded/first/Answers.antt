@@ -7,14 +7,14 @@ use Rattle.task_desk.proofs.unhanded.Unhanded.first.Goals as goal
 pub returns-in-Some : goal.returns-in-Some
 returns-in-Some c =
     subst (λ (xs : List Bool). IsLeast xs c.in-Some.task) c.self.view_is
-    (least-other c.self.inside.others c.self.inside.fresh c.self.inside.count c.in-Some.task c.self.invariant c.in-Some.ensures)
+    (least-other c.self.inside.others c.self.inside.fresh c.self.inside.count c.in-Some.task c.self.inside.has_others c.self.invariant c.in-Some.ensures)
 
 pub returns-in-None : goal.returns-in-None
 returns-in-None c =
     subst (λ (xs : List Bool). IsLeast xs c.self.inside.fresh) c.self.view_is
-    (least-fresh c.self.inside.others c.self.inside.fresh c.self.inside.count c.self.invariant c.in-None.ensures c.if-self.true)
+    (least-fresh c.self.inside.others c.self.inside.fresh c.self.inside.count c.self.inside.has_others c.self.invariant c.in-None.ensures c.if-self.true)
 
 pub returns-in-None-2 : goal.returns-in-None-2
 returns-in-None-2 c = λ k.
     ap (λ (xs : List Bool). is_member xs k) (sym c.self.view_is)
-    ∙ none-left c.self.inside.others c.self.inside.fresh c.self.inside.count c.self.invariant c.in-None.ensures c.if-self.false k
+    ∙ none-left c.self.inside.others c.self.inside.fresh c.self.inside.count c.self.inside.has_others c.self.invariant c.in-None.ensures c.if-self.false k

@@ -20,7 +20,7 @@ overflow_add-self c =
 
 pub invariant_of-self-else-task-self : goal.invariant_of-self-else-task-self
 invariant_of-self-else-task-self c =
-    leave-keeps c.self.inside.others c.put_run.new.tasks c.self.inside.fresh c.self.inside.count c.args.task c.self.invariant c.if-task-self.false
+    leave-keeps c.self.inside.others c.put_run.new.tasks c.self.inside.fresh c.self.inside.count c.args.task c.self.inside.has_others c.self.invariant c.if-task-self.false
     (inside c.self.inside.others c.self.inside.fresh c.args.task c.args.self.now c.self.view_is c.requires) c.put_run.ensures
 
 pub returns-then-task-self : goal.returns-then-task-self
@@ -31,6 +31,6 @@ returns-then-task-self c =
 
 pub returns-else-task-self : goal.returns-else-task-self
 returns-else-task-self c =
-    leaves c.self.inside.others c.put_run.new.tasks c.self.inside.fresh c.self.inside.count c.args.task c.self.invariant c.if-task-self.false
+    leaves c.self.inside.others c.put_run.new.tasks c.self.inside.fresh c.self.inside.count c.args.task c.self.inside.has_others c.self.invariant c.if-task-self.false
     (inside c.self.inside.others c.self.inside.fresh c.args.task c.args.self.now c.self.view_is c.requires) c.put_run.ensures
     ∙ ap (λ (xs : List Bool). slice_set xs c.args.task false) c.self.view_is
