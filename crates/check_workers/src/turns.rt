@@ -50,8 +50,6 @@ pub(crate) enum Turn {
 struct Waited {
     desk: Desk,
     workers: u32,
-    // how many tasks aren't done
-    left: u32,
     // how many batches were pushed; after the greatest number comes 0
     batches: u64,
     // whether a worker may sleep
@@ -64,9 +62,7 @@ impl Waited {
     fn report_one(&mut self, settled: Settled) {
         match settled.decision {
             Decision::Sure(()) => {
-                if self.desk.done(settled.task) {
-                    self.left = self.left.saturating_sub(1);
-                }
+                self.desk.done(settled.task);
             }
             Decision::Blocked(on) => {
                 self.was_blocked = true;
@@ -87,7 +83,7 @@ impl Waited {
     fn most(&self) -> usize
         ensures { result ≤ 128 }
     {
-        let half = (self.left / self.workers.saturating_mul(2).max(1)) as usize;
+        let half = (self.desk.left() / self.workers.saturating_mul(2).max(1)) as usize;
         if half < BATCH || self.has_sleepers {
             return 1;
         }
@@ -159,7 +155,6 @@ impl Turns {
             waited: Mutex::new(Waited {
                 desk,
                 workers,
-                left: 2 * n,
                 batches: 0,
                 has_sleepers: false,
                 was_blocked: false,
@@ -197,7 +192,7 @@ impl Turns {
                 return Turn::Find(waited.batches);
             }
             // All that isn't done is in the hands of others, who go on with what may come of it.
-            if waited.desk.out() == waited.left {
+            if waited.desk.out() == waited.desk.left() {
                 return Turn::End;
             }
             waited.has_sleepers = true;

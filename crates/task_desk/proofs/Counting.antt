@@ -6,10 +6,10 @@ use Rattle.std.proofs.lemmas.List.{map-set, length-set, length-replicate}
 use Rattle.std.proofs.lemmas.List.Sums.{sum_by-set, sum_by-cons}
 use Rattle.task_desk.specs.declared.status.Status.{Status}
 use Rattle.task_desk.specs.declared.status.Status.TheVariants.{Ready, Done}
-use Rattle.task_desk.specs.Status.{is_ready, is_unhanded, is_out, status_at}
-use Rattle.task_desk.specs.Desk.{NoneReady, NoneUnhanded, IsNext}
+use Rattle.task_desk.specs.Status.{is_unhanded, is_out, is_undone, status_at}
+use Rattle.task_desk.specs.Desk.{NoneUnhanded, IsNext}
 use Rattle.task_desk.specs.Bits.{IsLeast, IsEmpty}
-use Rattle.task_desk.specs.Counted.{is_undone, IsCounted}
+use Rattle.task_desk.specs.Counted.{IsCounted}
 
 -- the count of a test, once one status has changed
 pub count-set : (p : Status → Bool) (tasks : List Status) (t : ℕ) (v : Status) → t < length tasks → count_by p (set tasks t v) + cond (p (status_at tasks t)) 1 0 ≡ count_by p tasks + cond (p v) 1 0
@@ -20,14 +20,13 @@ count-map p f [] same = refl
 count-map p f (s ∷ tasks) same =
     sum_by-cons (λ x. cond (p x) 1 0) (f s) (map f tasks) ∙ (λ k. cond (same s k) 1 0 + count-map p f tasks same k) ∙ sym (sum_by-cons (λ x. cond (p x) 1 0) s tasks)
 
-pub counted-set : (tasks : List Status) (t : ℕ) (v : Status) (ready unhanded readies unhandeds : List Bool) (out undone outs undones : ℕ) → IsCounted tasks ready unhanded out undone → t < length tasks
-    → readies ≡ set ready t (is_ready v) → unhandeds ≡ set unhanded t (is_unhanded v)
+pub counted-set : (tasks : List Status) (t : ℕ) (v : Status) (unhanded unhandeds : List Bool) (out undone outs undones : ℕ) → IsCounted tasks unhanded out undone → t < length tasks
+    → unhandeds ≡ set unhanded t (is_unhanded v)
     → outs + cond (is_out (status_at tasks t)) 1 0 ≡ out + cond (is_out v) 1 0
     → undones + cond (is_undone (status_at tasks t)) 1 0 ≡ undone + cond (is_undone v) 1 0
-    → IsCounted (set tasks t v) readies unhandeds outs undones
-counted-set tasks t v ready unhanded readies unhandeds out undone outs undones counted lt is_readies is_unhandeds is_outs is_undones = record {
+    → IsCounted (set tasks t v) unhandeds outs undones
+counted-set tasks t v unhanded unhandeds out undone outs undones counted lt is_unhandeds is_outs is_undones = record {
   small = let small = counted.small in omega (arith, length-set tasks t v);
-  are_ready = is_readies ∙ ap (λ (rs : List Bool). set rs t (is_ready v)) counted.are_ready ∙ sym (map-set is_ready tasks t v);
   are_unhanded = is_unhandeds ∙ ap (λ (rs : List Bool). set rs t (is_unhanded v)) counted.are_unhanded ∙ sym (map-set is_unhanded tasks t v);
   are_out = let before = counted.are_out in let now = count-set is_out tasks t v lt in omega (arith, before, now, is_outs);
   are_undone = let before = counted.are_undone in let now = count-set is_undone tasks t v lt in omega (arith, before, now, is_undones);
@@ -47,10 +46,9 @@ count-every : (p : Status → Bool) (n : ℕ) (s : Status) → p s ≡ true → 
 count-every p zero s every = refl
 count-every p (suc n) s every = sum_by-cons (λ x. cond (p x) 1 0) s (replicate n s) ∙ (λ k. cond (every k) 1 0 + count-every p n s every k) ∙ omega arith
 
-pub counted-new : (n : ℕ) (tasks : List Status) (ready unhanded : List Bool) → n ≤ 8192 → tasks ≡ replicate n Ready → ready ≡ replicate n true → unhanded ≡ replicate n true → IsCounted tasks ready unhanded 0 n
-counted-new n tasks ready unhanded small is is_ready_set is_unhanded_set = record {
+pub counted-new : (n : ℕ) (tasks : List Status) (unhanded : List Bool) → n ≤ 8192 → tasks ≡ replicate n Ready → unhanded ≡ replicate n true → IsCounted tasks unhanded 0 n
+counted-new n tasks unhanded small is is_unhanded_set = record {
   small = let same : length tasks ≡ n = ap (λ (xs : List Status). length xs) is ∙ length-replicate n Ready in omega arith;
-  are_ready = is_ready_set ∙ sym (ap (map is_ready) is ∙ map-replicate is_ready n Ready);
   are_unhanded = is_unhanded_set ∙ sym (ap (map is_unhanded) is ∙ map-replicate is_unhanded n Ready);
   are_out = sym (ap (count_by is_out) is ∙ count-none is_out n Ready refl);
   are_undone = sym (ap (count_by is_undone) is ∙ count-every is_undone n Ready refl);
@@ -60,10 +58,6 @@ counted-new n tasks ready unhanded small is is_ready_set is_unhanded_set = recor
 
 mark : (p : Status → Bool) (tasks : List Status) (t : ℕ) → slice_index_or (map p tasks) t (p Done) ≡ p (status_at tasks t)
 mark p tasks t = get_or-map p tasks t Done
-
-pub ready-found : (tasks : List Status) (ready : List Bool) (o : Option ℕ) → ready ≡ map is_ready tasks → MatchOption o (IsEmpty ready) (λ t. IsLeast ready t) → MatchOption o (NoneReady tasks) (λ t. is_ready (status_at tasks t) ≡ true)
-ready-found tasks ready None is none = λ t. sym (ap (λ (ms : List Bool). slice_index_or ms t false) is ∙ mark is_ready tasks t) ∙ none t
-ready-found tasks ready (Some t) is least = sym (ap (λ (ms : List Bool). slice_index_or ms t false) is ∙ mark is_ready tasks t) ∙ least.member
 
 pub unhanded-found : (tasks : List Status) (unhanded : List Bool) (o : Option ℕ) → unhanded ≡ map is_unhanded tasks → MatchOption o (IsEmpty unhanded) (λ t. IsLeast unhanded t) → MatchOption o (NoneUnhanded tasks) (λ t. IsNext tasks t)
 unhanded-found tasks unhanded None is none = λ t. sym (ap (λ (ms : List Bool). slice_index_or ms t false) is ∙ mark is_unhanded tasks t) ∙ none t

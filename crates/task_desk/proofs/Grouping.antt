@@ -7,7 +7,7 @@ use Rattle.std.proofs.lemmas.List.{get_or-set_same, get_or-set_other, get_or-rep
 use Rattle.task_desk.specs.Bits.{IsLeast, IsEmpty}
 use Rattle.task_desk.specs.Groups.{is_member, NoneIn, IsFirstIn, IsIndexed}
 
-true_false : (b : Bool) → b ≡ true → b ≡ false → {A : Type 0} → A
+pub true_false : (b : Bool) → b ≡ true → b ≡ false → {A : Type 0} → A
 true_false b yes_b not_b = absurd (let wrong : true ≡ false = sym yes_b ∙ not_b in cc)
 
 -- a member is below the length
@@ -18,37 +18,32 @@ member-below members k is = by (leb_tells (length members) k)
     by (inl d) = true_false (is_member members k) is (get_or-eq_default members false d.1)
     by (inr d) = d.1
 
--- ---- a full set
+-- ---- an empty set
 
-all-members : (n k : ℕ) → k < n → is_member (replicate n true) k ≡ true
-all-members n k lt = get_or-replicate n k true false lt
-
-no-more-members : (n k : ℕ) → is_member (replicate n true) k ≡ false → n ≤ k
-no-more-members n k none = by (leb_tells n k)
+no-members : (n k : ℕ) → is_member (replicate n false) k ≡ false
+no-members n k = by (leb_tells n k)
   where
-    by : ((leb n k ≡ true) × (n ≤ k)) ⊎ ((leb n k ≡ false) × (k < n)) → n ≤ k
-    by (inl d) = d.1
-    by (inr d) = true_false (is_member (replicate n true) k) (all-members n k d.1) none
+    by : ((leb n k ≡ true) × (n ≤ k)) ⊎ ((leb n k ≡ false) × (k < n)) → is_member (replicate n false) k ≡ false
+    by (inl d) = get_or-eq_default (replicate n false) false (let le = d.1 in omega (arith, le, length-replicate {A = Bool} n false))
+    by (inr d) = get_or-replicate n k false false d.1
 
-pub full-indexed : (members filled : List Bool) (count n : ℕ) → members ≡ replicate count true → filled ≡ replicate n true → count ≤ 8192 → count ≤ 64 * n → 64 * n < count + 64 → IsIndexed members filled
-full-indexed members filled count n is_members is_filled small enough no_more = record {
+pub none-member : (members : List Bool) (n k : ℕ) → members ≡ replicate n false → is_member members k ≡ false
+none-member members n k is = ap (λ (ms : List Bool). is_member ms k) is ∙ no-members n k
+
+pub empty-indexed : (members filled : List Bool) (count n : ℕ) → members ≡ replicate count false → filled ≡ replicate n false → count ≤ 8192 → count ≤ 64 * n → 64 * n < count + 64 → IsIndexed members filled
+empty-indexed members filled count n is_members is_filled small enough no_more = record {
   small = omega (arith, long);
   enough = omega (arith, long, wide);
   no_more = omega (arith, long, wide);
-  none = λ group not_filled k place.
-      ap (λ (ms : List Bool). is_member ms k) is_members
-      ∙ get_or-eq_default (replicate count true) false
-      (let far = no-more-members n group (ap (λ (ms : List Bool). is_member ms group) (sym is_filled) ∙ not_filled) in omega (arith, far, place, length-replicate {A = Bool} count true));
-  some = λ group is.
-      let lt = member-below filled group is in
-      (64 * group, omega arith, ap (λ (ms : List Bool). is_member ms (64 * group)) is_members ∙ all-members count (64 * group) (omega (arith, lt, wide)));
+  none = λ group not_filled k place. none-member members count k is_members;
+  some = λ group is. true_false (is_member filled group) is (none-member filled n group is_filled);
 }
   where
     long : length members ≡ count
-    long = ap (λ (ms : List Bool). length ms) is_members ∙ length-replicate {A = Bool} count true
+    long = ap (λ (ms : List Bool). length ms) is_members ∙ length-replicate {A = Bool} count false
 
     wide : length filled ≡ n
-    wide = ap (λ (ms : List Bool). length ms) is_filled ∙ length-replicate {A = Bool} n true
+    wide = ap (λ (ms : List Bool). length ms) is_filled ∙ length-replicate {A = Bool} n false
 
 -- ---- one task is put in or taken out
 

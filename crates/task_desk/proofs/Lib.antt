@@ -5,8 +5,8 @@ mod Readiness
 mod Reaching
 mod OneBit
 mod Members
-mod FirstBits
 mod Grouping
+mod Fresh
 mod Linking
 mod Counting
 mod Parking

@@ -1,11 +1,11 @@
 -- The numbers in a set of words.
 use Rattle.std.proofs.Common.{◌≡◌, ◌≢◌, ◌⊎◌, inl, inr, ℕ, ◌+◌, ◌*◌, ◌/◌, ◌%◌, ◌<◌, ◌≤◌, eqb, leb, Bool, true, false, cond, Option, Some, None, List, length, set, get_or, refl, sym, ap, ◌∙◌, arith}
-use Rattle.std.specs.Prelude.{◌==◌, slice_index, slice_index_or, MatchOption}
+use Rattle.std.specs.Prelude.{◌==◌, replicate, slice_index, slice_index_or, MatchOption}
 use Rattle.std.specs.Int.{bit_at}
 use Rattle.std.proofs.Math.ListN.{get_or-eq_default}
 use Rattle.std.proofs.lemmas.Bool.Decides.{eqb_tells, leb_tells}
 use Rattle.std.proofs.lemmas.Nat.Bits.{bit_at-zero}
-use Rattle.std.proofs.lemmas.List.{get_or-set_same, get_or-set_other, length-set, same_lists}
+use Rattle.std.proofs.lemmas.List.{get_or-set_same, get_or-set_other, get_or-replicate, length-replicate, length-set, same_lists}
 use Rattle.std.proofs.lemmas.List.FromFn.{get_or-map-range_with_len, length-map-range_with_len}
 use Rattle.task_desk.specs.Bits.{is_set, members, HasWords, IsLeast, IsEmpty}
 use Rattle.task_desk.specs.Groups.{NoneIn, IsFirstIn}
@@ -27,6 +27,31 @@ members-at words count k has = by (leb_tells count k)
 -- a word of no bits
 zero_word : (words : List ℕ) (k : ℕ) → slice_index words (k / 64) ≡ 0 → is_set words k ≡ false
 zero_word words k e = ap (λ (x : ℕ). bit_at x (k % 64) == 1) e ∙ ap (λ (x : ℕ). x == 1) (bit_at-zero (k % 64))
+
+-- ---- no number
+
+zeros-set : (words : List ℕ) (n k : ℕ) → words ≡ replicate n 0 → is_set words k ≡ false
+zeros-set words n k is = zero_word words k (ap (λ (ws : List ℕ). slice_index ws (k / 64)) is ∙ by (leb_tells n (k / 64)))
+  where
+    by : ((leb n (k / 64) ≡ true) × (n ≤ k / 64)) ⊎ ((leb n (k / 64) ≡ false) × (k / 64 < n)) → slice_index (replicate n 0) (k / 64) ≡ 0
+    by (inl d) = get_or-eq_default (replicate n 0) 0 (let le = d.1 in omega (arith, le, length-replicate {A = ℕ} n 0))
+    by (inr d) = get_or-replicate n (k / 64) 0 0 d.1
+
+pub zeros-members : (words : List ℕ) (n count : ℕ) → words ≡ replicate n 0 → members words count ≡ replicate count false
+zeros-members words n count is =
+    same_lists (members words count) (replicate count false) (members-length words count ∙ sym (length-replicate {A = Bool} count false))
+    (λ k d below. let lt : k < count = omega (arith, below, members-length words count) in
+    member-at words count k d lt ∙ zeros-set words n k is ∙ sym (get_or-replicate count k false d lt))
+
+pub zeros-words : (words : List ℕ) (n count : ℕ) → words ≡ replicate n 0 → n ≤ 128 → count ≤ 64 * n → HasWords words count
+zeros-words words n count is few enough = record {
+  few = omega (arith, few, long);
+  enough = omega (arith, enough, long);
+  none_above = λ k le. zeros-set words n k is;
+}
+  where
+    long : length words ≡ n
+    long = ap (λ (ws : List ℕ). length ws) is ∙ length-replicate {A = ℕ} n 0
 
 -- ---- a number is put in or taken out
 

@@ -1,5 +1,5 @@
 -- Which numbers below a count are in a set of words of 64 bits. No public contract cites this.
-use Rattle.std.specs.Prelude.{◌≡◌, ℕ, ◌<◌, ◌≤◌, ◌*◌, ◌/◌, ◌%◌, Bool, true, false, ◌==◌, nat_lt, ◌+◌, List, length, map, slice_index, slice_index_or}
+use Rattle.std.specs.Prelude.{◌≡◌, ℕ, ◌<◌, ◌≤◌, ◌*◌, ◌/◌, ◌%◌, Bool, true, false, ◌==◌, List, length, map, slice_index, slice_index_or}
 use Rattle.std.specs.List.{range_with_len}
 use Rattle.std.specs.Int.{bit_at}
 
@@ -14,12 +14,6 @@ pub record HasWords (words : List ℕ) (count : ℕ) : Type 0 where
   pub few : length words ≤ 128
   pub enough : count ≤ 64 * length words
   pub none_above : (k : ℕ) → count ≤ k → is_set words k ≡ false
-
--- exactly the numbers below the count are set, in as few words as hold them
-pub record AreFirst (words : List ℕ) (count : ℕ) : Type 0 where
-  pub enough : count ≤ 64 * length words
-  pub no_more : 64 * length words < count + 64
-  pub bits : (k : ℕ) → is_set words k ≡ nat_lt k count
 
 -- k is the least member
 pub record IsLeast (members : List Bool) (k : ℕ) : Type 0 where

@@ -3,6 +3,7 @@ pub mod Desk
 pub mod Reached
 pub mod Bits
 pub mod Groups
+pub mod Unhanded
 pub mod Counted
 pub mod Waiting
 pub mod Links

@@ -1,5 +1,5 @@
 -- Where a task is. It is ready both before and after it was handed.
-use Rattle.std.specs.Prelude.{ℕ, Bool, true, false, List, slice_index_or, ◌==◌}
+use Rattle.std.specs.Prelude.{ℕ, Bool, true, false, not, List, slice_index_or, ◌==◌}
 use Rattle.task_desk.specs.declared.status.Status.{Status}
 use Rattle.task_desk.specs.declared.status.Status.TheVariants.{Ready, Handed, Out, Parked, Done}
 
@@ -19,6 +19,9 @@ is_out _ = false
 abbrev pub is_done : Status → Bool
 is_done Done = true
 is_done _ = false
+
+abbrev pub is_undone : Status → Bool
+is_undone status = not (is_done status)
 
 abbrev pub is_parked_on : ℕ → Status → Bool
 is_parked_on h (Parked g) = g == h

@@ -1,7 +1,7 @@
 //! A set of numbers below a count, in words of 64 bits.
-ghost use Rattle.std.specs.Prelude.{◌≡◌, ℕ, ◌==◌, if◌then◌else◌, ◌<◌, ◌≤◌, ◌+◌, ◌*◌, ◌/◌, ◌^◌, true, false, nat_lt, length, replicate, slice_set, IfOk, MatchOption};
+ghost use Rattle.std.specs.Prelude.{◌≡◌, ℕ, ◌==◌, if◌then◌else◌, ◌<◌, ◌≤◌, ◌+◌, ◌*◌, ◌/◌, ◌^◌, true, false, length, replicate, slice_set, IfOk, MatchOption};
 ghost use Rattle.std.specs.Int.{bit_at};
-ghost use Rattle.task_desk.specs.Bits.{is_set, AreFirst, IsLeast, IsEmpty};
+ghost use Rattle.task_desk.specs.Bits.{is_set, IsLeast, IsEmpty};
 ghost use Rattle.task_desk.specs.Groups.{NoneIn, IsFirstIn};
 
 use std::alloc::{AllocError, Global};
@@ -25,28 +25,10 @@ impl Model for BitSet {
     ghost invariant = { λ s. HasWords s.words.items s.count };
 }
 
-/// A word whose lowest bits are set, so many or all.
-fn lowest_bits(count: u32) -> u64
-    ensures { (k : ℕ) → k < 64 → (bit_at result k == 1) ≡ nat_lt k count }
+fn zeros(alloc: Global, count: usize) -> Result<Vec<u64>, AllocError>
+    ensures { IfOk result (λ words. words.items ≡ replicate count 0) }
 {
-    if count < 64 {
-        (1 << count) - 1
-    } else {
-        u64::MAX
-    }
-}
-
-/// Words whose first bits are set, so many.
-fn first_bits(alloc: Global, count: u32) -> Result<Vec<u64>, AllocError>
-    requires { count ≤ 8192 }
-    ensures { IfOk result (λ words. AreFirst words.items count) }
-{
-    let groups = count.div_ceil(64);
-    let mut words = Vec::with_capacity(alloc, groups as usize)?;
-    for group in 0..groups {
-        words.push(lowest_bits(count - 64 * group))?;
-    }
-    Ok(words)
+    vec![in alloc; 0; count]
 }
 
 /// A word with one bit set or cleared.
@@ -90,12 +72,12 @@ fn first_in(words: &[u64]) -> Option<u32>
 }
 
 impl BitSet {
-    /// All numbers below the count are in the set.
-    pub fn full(alloc: Global, count: u32) -> Result<BitSet, AllocError>
+    /// None of the numbers below the count is in the set.
+    pub fn empty(alloc: Global, count: u32) -> Result<BitSet, AllocError>
         requires { count ≤ 8192 }
-        ensures { IfOk result (λ s. s ≡ replicate count true) }
+        ensures { IfOk result (λ s. s ≡ replicate count false) }
     {
-        let words = first_bits(alloc, count)?;
+        let words = zeros(alloc, count.div_ceil(64) as usize)?;
         Ok(BitSet { words, count })
     }
 

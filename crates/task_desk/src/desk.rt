@@ -1,6 +1,6 @@
 ghost use Rattle.std.specs.Prelude.{◌≡◌, ◌<◌, ◌≤◌, true, false, if◌then◌else◌, length, count_by, IfOk, IsSome, MatchOption};
 ghost use Rattle.std.specs.List.{list_all};
-ghost use Rattle.task_desk.specs.Status.{is_ready, is_out, is_done, status_at};
+ghost use Rattle.task_desk.specs.Status.{is_ready, is_out, is_done, is_undone, status_at};
 ghost use Rattle.task_desk.specs.Desk.{new_desk, with_out, with_handed, can_park, with_parked, with_done, NoneReady, NoneUnhanded, IsNext, IsDesk};
 ghost use Rattle.task_desk.specs.Waiting.{with_ready};
 ghost use Rattle.task_desk.specs.Links.{AreBelow};
@@ -39,7 +39,8 @@ fn wake(waiting: Waiting<'_>, statuses: &mut Statuses)
     ensures { statuses.new ≡ with_ready waiting.entry statuses.old }
 {
     for task in waiting {
-        statuses.set(task, Status::Ready);
+        let was = statuses.at(task);
+        statuses.set(task, was, Status::Ready);
     }
 }
 
@@ -57,7 +58,7 @@ impl Desk {
     }
 
     /// Takes some ready task out; none where none is ready. While a task isn't done and none is out, one is ready.
-    /// Constant.
+    /// Constant, but linear in the tasks where each that is ready was handed.
     pub fn take(&mut self) -> Option<u32>
         ensures taken { MatchOption result (NoneReady self.old × (self.new ≡ self.old))
             (λ t. (is_ready (status_at self.old t) ≡ true) × (self.new ≡ with_out self.old t)) }
@@ -66,7 +67,8 @@ impl Desk {
         let Some(task) = self.statuses.first_ready() else {
             return None;
         };
-        self.statuses.set(task, Status::Out);
+        let was = self.statuses.at(task);
+        self.statuses.set(task, was, Status::Out);
         Some(task)
     }
 
@@ -76,13 +78,14 @@ impl Desk {
         ensures answer { result ≡ can_park self.old task h }
         ensures new { self.new ≡ (if result then with_parked self.old task h else self.old) }
     {
-        if !self.statuses.at(task).is_out() || h >= task {
+        let was = self.statuses.at(task);
+        if !was.is_out() || h >= task {
             return false;
         }
         if self.statuses.at(h).is_done() {
-            self.statuses.set(task, Status::Ready);
+            self.statuses.set(task, was, Status::Ready);
         } else {
-            self.statuses.set(task, Status::Parked(h));
+            self.statuses.set(task, was, Status::Parked(h));
             self.waits.push(h, task);
         }
         true
@@ -94,10 +97,11 @@ impl Desk {
         ensures answer { result ≡ is_out (status_at self.old task) }
         ensures new { self.new ≡ (if result then with_done self.old task else self.old) }
     {
-        if !self.statuses.at(task).is_out() {
+        let was = self.statuses.at(task);
+        if !was.is_out() {
             return false;
         }
-        self.statuses.set(task, Status::Done);
+        self.statuses.set(task, was, Status::Done);
         wake(self.waits.on(task), &mut self.statuses);
         self.waits.clear(task);
         true
@@ -112,19 +116,21 @@ impl Desk {
         let Some(task) = self.statuses.first_unhanded() else {
             return None;
         };
-        self.statuses.set(task, Status::Handed);
+        self.statuses.set(task, Status::Ready, Status::Handed);
         Some(task)
     }
 
-    /// Takes a task out where it is ready. Elsewhere false, and nothing changes. Constant.
+    /// Takes a task out where it is ready. Elsewhere false, and nothing changes. Constant where all tasks before it were
+    /// handed, else linear in these.
     pub fn start(&mut self, task: u32) -> bool
         ensures answer { result ≡ is_ready (status_at self.old task) }
         ensures new { self.new ≡ (if result then with_out self.old task else self.old) }
     {
-        if !self.statuses.at(task).is_ready() {
+        let was = self.statuses.at(task);
+        if !was.is_ready() {
             return false;
         }
-        self.statuses.set(task, Status::Out);
+        self.statuses.set(task, was, Status::Out);
         true
     }
 
@@ -140,5 +146,12 @@ impl Desk {
         ensures { result ≡ count_by is_out self.now }
     {
         self.statuses.out()
+    }
+
+    /// How many tasks aren't done. Constant.
+    pub fn left(&self) -> u32
+        ensures { result ≡ count_by is_undone self.now }
+    {
+        self.statuses.left()
     }
 }

@@ -9,6 +9,7 @@ mod laws;
 mod status;
 mod statuses;
 mod task_set;
+mod unhanded;
 mod wait_lists;
 
 pub use desk::Desk;

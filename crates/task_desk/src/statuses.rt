@@ -2,11 +2,11 @@
 ghost use Rattle.std.specs.Prelude.{◌≡◌, ◌<◌, ◌≤◌, ◌+◌, true, false, if◌then◌else◌, length, replicate, slice_set, count_by, IfOk, MatchOption};
 ghost use Rattle.std.specs.List.{list_all};
 ghost use Rattle.task_desk.specs.declared.status.Status.TheVariants.{Ready};
-ghost use Rattle.task_desk.specs.Status.{is_ready, is_out, is_done, status_at};
+ghost use Rattle.task_desk.specs.Status.{is_ready, is_out, is_done, is_undone, status_at};
 ghost use Rattle.task_desk.specs.Desk.{NoneReady, NoneUnhanded, IsNext};
 
 use crate::status::Status;
-use crate::task_set::TaskSet;
+use crate::unhanded::Unhanded;
 use std::alloc::{AllocError, Global};
 use std::marker::Model;
 
@@ -14,8 +14,7 @@ use std::marker::Model;
 #[derive(Drop)]
 pub(crate) struct Statuses {
     list: Vec<Status>,
-    ready: TaskSet,
-    unhanded: TaskSet,
+    unhanded: Unhanded,
     out: u32,
     undone: u32,
 }
@@ -29,7 +28,7 @@ impl Model for Statuses {
 
     ghost view = { λ s. s.list.items };
 
-    ghost invariant = { λ s. IsCounted s.list.items s.ready s.unhanded s.out s.undone };
+    ghost invariant = { λ s. IsCounted s.list.items s.unhanded s.out s.undone };
 }
 
 fn all_ready(alloc: Global, count: usize) -> Result<Vec<Status>, AllocError>
@@ -47,6 +46,19 @@ fn recounted(count: u32, was: bool, is: bool) -> u32
     count + u32::from(is) - u32::from(was)
 }
 
+/// The least task that is ready.
+fn first_ready_in(list: &[Status]) -> Option<u32>
+    requires { length list.now ≤ 8192 }
+    ensures { MatchOption result (NoneReady list.now) (λ t. is_ready (status_at list.now t) ≡ true) }
+{
+    for (task, status) in list.iter().enumerate() {
+        if status.is_ready() {
+            return Some(task as u32);
+        }
+    }
+    None
+}
+
 impl Statuses {
     /// So many tasks, all ready.
     pub fn new(alloc: Global, count: u32) -> Result<Statuses, AllocError>
@@ -54,11 +66,9 @@ impl Statuses {
         ensures { IfOk result (λ s. s ≡ replicate count Ready) }
     {
         let list = all_ready(alloc, count as usize)?;
-        let ready = TaskSet::full(alloc, count)?;
-        let unhanded = TaskSet::full(alloc, count)?;
+        let unhanded = Unhanded::all(alloc, count)?;
         Ok(Statuses {
             list,
-            ready,
             unhanded,
             out: 0,
             undone: count,
@@ -75,26 +85,29 @@ impl Statuses {
             .unwrap_or(Status::Done)
     }
 
-    /// From now on a task is there. Inlined, since a caller knows one status or both, and what they don't change is left out.
+    /// From now on a task is there, told where it was. Inlined, since a caller knows one status or both, and what they don't
+    /// change is left out.
     #[inline(always)]
-    pub fn set(&mut self, task: u32, status: Status)
-        requires { task < length self.old }
-        ensures { self.new ≡ slice_set self.old task status }
+    pub fn set(&mut self, task: u32, was: Status, is: Status)
+        requires task { task < length self.old }
+        requires was { was ≡ status_at self.old task }
+        ensures { self.new ≡ slice_set self.old task is }
     {
-        let old = self.at(task);
-        self.ready.change(task, old.is_ready(), status.is_ready());
         self.unhanded
-            .change(task, old.is_unhanded(), status.is_unhanded());
-        self.out = recounted(self.out, old.is_out(), status.is_out());
-        self.undone = recounted(self.undone, !old.is_done(), !status.is_done());
-        self.list[task as usize] = status;
+            .change(task, was.is_unhanded(), is.is_unhanded());
+        self.out = recounted(self.out, was.is_out(), is.is_out());
+        self.undone = recounted(self.undone, !was.is_done(), !is.is_done());
+        self.list[task as usize] = is;
     }
 
-    /// The least task that is ready.
+    /// Some task that is ready. Linear in the tasks where each that is ready was handed.
     pub fn first_ready(&self) -> Option<u32>
         ensures { MatchOption result (NoneReady self.now) (λ t. is_ready (status_at self.now t) ≡ true) }
     {
-        self.ready.first()
+        match self.unhanded.first() {
+            Some(task) => Some(task),
+            None => first_ready_in(self.list.as_slice()),
+        }
     }
 
     /// The least task that is ready and wasn't handed since it became so.
@@ -109,6 +122,13 @@ impl Statuses {
         ensures { result ≡ count_by is_out self.now }
     {
         self.out
+    }
+
+    /// How many aren't done.
+    pub fn left(&self) -> u32
+        ensures { result ≡ count_by is_undone self.now }
+    {
+        self.undone
     }
 
     /// Whether all are done.

@@ -1,7 +1,6 @@
 //! A set of tasks whose least one is found at once: beside the tasks' bits stands a bit for each 64 of them.
-ghost use Rattle.std.specs.Prelude.{◌≡◌, ◌<◌, ◌≤◌, true, length, replicate, slice_set, IfOk, MatchOption};
+ghost use Rattle.std.specs.Prelude.{◌≡◌, ◌<◌, ◌≤◌, false, length, replicate, slice_set, IfOk, MatchOption};
 ghost use Rattle.task_desk.specs.Bits.{IsLeast, IsEmpty};
-ghost use Rattle.task_desk.specs.Groups.{is_member};
 
 use crate::bit_set::BitSet;
 use std::alloc::{AllocError, Global};
@@ -26,18 +25,18 @@ impl Model for TaskSet {
 }
 
 impl TaskSet {
-    /// All tasks below the count are in the set.
-    pub fn full(alloc: Global, count: u32) -> Result<TaskSet, AllocError>
+    /// None of the tasks below the count is in the set.
+    pub fn empty(alloc: Global, count: u32) -> Result<TaskSet, AllocError>
         requires { count ≤ 8192 }
-        ensures { IfOk result (λ s. s ≡ replicate count true) }
+        ensures { IfOk result (λ s. s ≡ replicate count false) }
     {
-        let members = BitSet::full(alloc, count)?;
-        let filled = BitSet::full(alloc, count.div_ceil(64))?;
+        let members = BitSet::empty(alloc, count)?;
+        let filled = BitSet::empty(alloc, count.div_ceil(64))?;
         Ok(TaskSet { members, filled })
     }
 
     /// Puts a task in or takes it out. Constant.
-    fn set(&mut self, task: u32, member: bool)
+    pub fn set(&mut self, task: u32, member: bool)
         requires { task < length self.old }
         ensures { self.new ≡ slice_set self.old task member }
     {
@@ -45,17 +44,6 @@ impl TaskSet {
         self.members.set(task, member);
         self.filled
             .set(group, self.members.first_of(group).is_some());
-    }
-
-    /// Puts a task in or takes it out, told whether it was in: nothing is written where nothing changes.
-    pub fn change(&mut self, task: u32, was: bool, is: bool)
-        requires task { task < length self.old }
-        requires was { was ≡ is_member self.old task }
-        ensures { self.new ≡ slice_set self.old task is }
-    {
-        if was != is {
-            self.set(task, is);
-        }
     }
 
     /// The least task in the set. Constant: a look at two words, and at one of the tasks' own.

@@ -119,6 +119,38 @@ fn tasks_that_are_handed(rt: HostRuntime) -> Result<(), AllocError> {
     Ok(())
 }
 
+fn starting() -> &'static [(Call, Answer)] {
+    &STARTING
+}
+
+// Some that nobody was handed are started; what is left is handed in order, also what becomes ready again.
+static STARTING: [(Call, Answer); 15] = [
+    (Call::Start(3), Answer::Is(true)),
+    (Call::Start(1), Answer::Is(true)),
+    (Call::Hand, Answer::Task(Some(0))),
+    (Call::Start(0), Answer::Is(true)),
+    (Call::Park(3, 1), Answer::Is(true)),
+    (Call::Park(1, 0), Answer::Is(true)),
+    (Call::Done(0), Answer::Is(true)),
+    (Call::Hand, Answer::Task(Some(1))),
+    (Call::Hand, Answer::Task(Some(2))),
+    (Call::Start(1), Answer::Is(true)),
+    (Call::Done(1), Answer::Is(true)),
+    (Call::Hand, Answer::Task(Some(3))),
+    (Call::Hand, Answer::Task(Some(4))),
+    (Call::Hand, Answer::Task(Some(5))),
+    (Call::Hand, Answer::Task(None)),
+];
+
+#[test]
+fn tasks_that_are_started_out_of_turn(rt: HostRuntime) -> Result<(), AllocError> {
+    let mut desk = Desk::new(rt.alloc(), 3)?;
+    assert!(rt; answered(&mut desk, starting()) == starting().len());
+    // two are done, and of the others none is out
+    assert!(rt; desk.left() == 4 && desk.out() == 0);
+    Ok(())
+}
+
 const NOTHING: [(Call, Answer); 7] = [
     (Call::AllDone, Answer::Is(true)),
     (Call::Take, Answer::Task(None)),

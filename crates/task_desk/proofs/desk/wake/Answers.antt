@@ -7,7 +7,10 @@ use Rattle.task_desk.proofs.Linking.{has-first, has-rest}
 use Rattle.task_desk.proofs.desk.wake.Goals as goal
 
 pub set-requires : goal.set-requires
-set-requires c = c.loop-task.invariant.below c.in-Some.task (ap (λ (ts : List ℕ). has ts c.in-Some.task) c.in-Some.ensures.steps ∙ has-first c.in-Some.task c.next.new.self)
+set-requires c = record {
+  task = c.loop-task.invariant.below c.in-Some.task (ap (λ (ts : List ℕ). has ts c.in-Some.task) c.in-Some.ensures.steps ∙ has-first c.in-Some.task c.next.new.self);
+  was = c.at-was.ensures;
+}
 
 pub loop-task-preserved : goal.loop-task-preserved
 loop-task-preserved c = record {
