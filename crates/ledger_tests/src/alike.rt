@@ -1,25 +1,24 @@
 //! The ledger and the plain committer over the same bytes.
 
-use crate::building::{CREATOR, next_block};
 use crate::failed::Failed;
-use crate::fixture::{key, name};
-use crate::random_txs::{KEYS, NAMESPACES, NONCES, tx_at_random};
+use crate::fixture::{configuration, key, name};
 use chain_vectors::first_blocks::first_blocks;
 use chain_vectors::later_blocks::later_blocks;
 use chain_vectors::rows::rows;
 use chain_vectors::uses::uses;
-use chain_vectors::{CHANNEL, Committed, SaysOk, read_use};
+use chain_vectors::{Committed, SaysOk, read_use};
 use channel::Channel;
 use commit::{Ledger, Reason};
-use header_hash::tx_id;
-use random_numbers::Random;
+use policy_eval::Verify;
 use rules::{Accepted, CommittedBlock, Flag, HistoryEntry, Refused, Row};
 use std::alloc::Global;
 use transaction::TxId;
 use values::{Bytes, Items, Shared};
+use world::World;
 
+/// Both, with the same blocks.
 #[derive(Drop)]
-struct Pair {
+pub struct Pair {
     channel: Channel,
     plain: plain::World,
     ledger: Ledger,
@@ -110,28 +109,36 @@ fn count(given: &mut [u32; 26], flags: &[Flag]) {
 }
 
 impl Pair {
-    fn open(alloc: Global) -> Result<Pair, Failed> {
+    pub fn open(alloc: Global) -> Result<Pair, Failed> {
         Ok(Pair {
-            channel: Channel::read(alloc, CHANNEL)?,
+            channel: configuration(alloc)?,
             plain: plain::World::new(alloc),
-            ledger: Ledger::open(alloc, Channel::read(alloc, CHANNEL)?),
+            ledger: Ledger::open(alloc, configuration(alloc)?),
             given: [0; 26],
         })
     }
 
-    // Hands the bytes to both, and tells whether they answer alike, and whether the reasons that were asked for before
-    // have these flags.
-    fn take(&mut self, alloc: Global, bytes: &[u8]) -> bool {
-        let slow = plain::submit(alloc, &self.channel, &mut self.plain, bytes, &SaysOk);
-        let told = self.ledger.explain(bytes, &SaysOk);
-        let fast = self.ledger.submit_one(bytes, &SaysOk);
+    pub fn world(&self) -> &World {
+        self.ledger.view()
+    }
+
+    pub fn given(&self) -> &[u32; 26] {
+        &self.given
+    }
+
+    /// Hands the bytes to both, and tells whether they answer alike, and whether the reasons that were asked for before
+    /// have these flags.
+    pub fn take<V: Verify>(&mut self, alloc: Global, bytes: &[u8], verifier: &V) -> bool {
+        let slow = plain::submit(alloc, &self.channel, &mut self.plain, bytes, verifier);
+        let told = self.ledger.explain(bytes, verifier);
+        let fast = self.ledger.submit_one(bytes, verifier);
         if let Ok(accepted) = &fast {
             count(&mut self.given, accepted.flags.as_slice());
         }
         is_same_answer(&fast, &slow) && have_flags(&told, &fast)
     }
 
-    fn is_alike_at(&self, alloc: Global, namespace: &[u8], at: &[u8]) -> Result<bool, Failed> {
+    pub fn is_alike_at(&self, alloc: Global, namespace: &[u8], at: &[u8]) -> Result<bool, Failed> {
         let namespace = name(alloc, namespace)?;
         let at = key(alloc, at)?;
         let world = self.ledger.view();
@@ -153,11 +160,11 @@ impl Pair {
         )
     }
 
-    fn is_alike_of(&self, id: &TxId) -> bool {
+    pub fn is_alike_of(&self, id: &TxId) -> bool {
         self.ledger.view().first_use(id) == self.plain.first_use(id)
     }
 
-    fn has_same_blocks(&self) -> bool {
+    pub fn has_same_blocks(&self) -> bool {
         let world = self.ledger.view();
         let mut are_same = world.height() == self.plain.height()
             && world.header_hash() == self.plain.header_hash();
@@ -171,7 +178,7 @@ impl Pair {
 fn take_all(alloc: Global, pair: &mut Pair, blocks: &[Committed]) -> bool {
     let mut are_alike = true;
     for block in blocks {
-        are_alike = pair.take(alloc, block.bytes) && are_alike;
+        are_alike = pair.take(alloc, block.bytes, &SaysOk) && are_alike;
     }
     are_alike
 }
@@ -196,79 +203,5 @@ fn the_chain(rt: HostRuntime) -> Result<(), Failed> {
     assert!(rt; take_all(rt.alloc(), &mut pair, first_blocks()));
     assert!(rt; take_all(rt.alloc(), &mut pair, later_blocks()));
     assert!(rt; is_alike_where_left(rt.alloc(), &pair)?);
-    Ok(())
-}
-
-fn block_at_random(alloc: Global, random: &mut Random, ledger: &Ledger) -> Result<Vec<u8>, Failed> {
-    let mut txs = Vec::new(alloc);
-    for _ in 0..random.below(8) {
-        txs.push(tx_at_random(alloc, random, ledger.view())?)?;
-    }
-    let mut bytes = next_block(alloc, ledger.view(), &txs)?.into_vec();
-    if random.one_of(10) {
-        if let Some(byte) = bytes.get_mut(random.below(100) as usize) {
-            *byte ^= 1;
-        }
-    }
-    Ok(bytes)
-}
-
-// Takes 1 to 4 blocks at random, and tells whether both answer alike.
-fn take_at_random(alloc: Global, random: &mut Random, pair: &mut Pair) -> Result<bool, Failed> {
-    let mut are_alike = true;
-    for _ in 0..=random.below(4) {
-        let bytes = block_at_random(alloc, random, &pair.ledger)?;
-        are_alike = pair.take(alloc, &bytes) && are_alike;
-    }
-    Ok(are_alike)
-}
-
-fn is_alike_everywhere(alloc: Global, pair: &Pair) -> Result<bool, Failed> {
-    for namespace in NAMESPACES {
-        for at in KEYS {
-            if !pair.is_alike_at(alloc, namespace, at)? {
-                return Ok(false);
-            }
-        }
-    }
-    for nonce in 0..NONCES {
-        if !pair.is_alike_of(&tx_id(&[0, nonce], CREATOR)) {
-            return Ok(false);
-        }
-    }
-    Ok(pair.has_same_blocks())
-}
-
-fn add(all: &mut [u32; 26], given: &[u32; 26]) {
-    for (sum, count) in all.iter_mut().zip(given) {
-        *sum = sum.saturating_add(*count);
-    }
-}
-
-const CHAINS: u64 = 1000;
-
-// The numbers of all flags.
-const FLAGS: [u8; 11] = [0, 2, 4, 8, 9, 10, 11, 12, 14, 22, 25];
-
-fn is_each_given(given: &[u32; 26]) -> bool {
-    FLAGS
-        .iter()
-        .all(|number| given[(*number % 26) as usize] >= 20)
-}
-
-#[test]
-fn chains_at_random(rt: HostRuntime) -> Result<(), Failed> {
-    let mut given = [0; 26];
-    for chain in 1..=CHAINS {
-        let mut random = Random::new(chain);
-        let mut pair = Pair::open(rt.alloc())?;
-        assert!(rt;
-            take_at_random(rt.alloc(), &mut random, &mut pair)?,
-            "chain {chain}"
-        );
-        assert!(rt; is_alike_everywhere(rt.alloc(), &pair)?, "chain {chain}");
-        add(&mut given, &pair.given);
-    }
-    assert!(rt; is_each_given(&given), "{given:?}");
     Ok(())
 }

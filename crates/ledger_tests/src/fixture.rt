@@ -10,6 +10,9 @@ use std::alloc::{AllocError, Global};
 use values::{Key, Name, is_key, is_name};
 use world::World;
 
+/// The bytes of the identity `Org1:client:c0`.
+pub const CREATOR: &[u8] = b"\x04Org1\x01\x02c0";
+
 pub fn name(alloc: Global, bytes: &[u8]) -> Result<Name, Failed> {
     if !is_name(bytes) {
         return Err(Failed::Missing("a name"));

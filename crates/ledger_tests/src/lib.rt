@@ -5,8 +5,6 @@
 #[cfg(test)]
 mod alike;
 #[cfg(test)]
-mod building;
-#[cfg(test)]
 mod by_workers;
 #[cfg(test)]
 mod chain;
@@ -15,19 +13,25 @@ mod failed;
 #[cfg(test)]
 mod fixture;
 #[cfg(test)]
+mod forgers;
+#[cfg(test)]
 mod large_blocks;
 #[cfg(test)]
 mod long_block;
 #[cfg(test)]
 mod memory;
 #[cfg(test)]
-mod random_txs;
+mod random_chains;
+#[cfg(test)]
+mod random_scripts;
 #[cfg(test)]
 mod refusals;
 #[cfg(test)]
 mod scripted;
 #[cfg(test)]
 mod shown;
+#[cfg(test)]
+mod spoiling;
 #[cfg(test)]
 mod submitting;
 #[cfg(test)]

@@ -1,7 +1,7 @@
 //! A long block, of which every second transaction reads what the one before it has written.
 
-use crate::building::CREATOR;
 use crate::failed::Failed;
+use crate::fixture::CREATOR;
 use crate::scripted::ScriptedPeer;
 use crate::shown::is_row;
 use chain_vectors::LeftRow;

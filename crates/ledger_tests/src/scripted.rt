@@ -29,7 +29,8 @@ fn last_header(alloc: Global, world: &World) -> Result<Option<Header>, Failed> {
     }
 }
 
-fn drafted(
+/// The bytes of this script's block, behind the one with this header.
+pub fn drafted(
     alloc: Global,
     keys: &KeyBook,
     after: Option<Header>,
@@ -42,6 +43,17 @@ fn drafted(
     }
     let channel = name(alloc, b"ch")?;
     Ok(draft(alloc, &channel, keys, after, script)?)
+}
+
+/// The bytes of the next block, which a script drafts.
+pub fn next_block(
+    alloc: Global,
+    keys: &KeyBook,
+    world: &World,
+    script: &str,
+) -> Result<Bytes, Failed> {
+    let after = last_header(alloc, world)?;
+    drafted(alloc, keys, after, script)
 }
 
 /// A peer with the keys of all who sign.
@@ -68,8 +80,7 @@ impl ScriptedPeer {
 
     /// The bytes of the next block, which a script drafts.
     pub fn block(&self, alloc: Global, script: &str) -> Result<Bytes, Failed> {
-        let after = last_header(alloc, self.world())?;
-        drafted(alloc, &self.keys, after, script)
+        next_block(alloc, &self.keys, self.world(), script)
     }
 
     pub fn refusal_of(&mut self, bytes: &[u8]) -> Option<Refused> {

@@ -1,20 +1,13 @@
 //! Blocks that are handed in at once.
 
 use crate::failed::Failed;
-use block::{Block, Header, Previous, encode_block};
+use crate::scripted::drafted;
+use block::decode_block;
 use channel::Channel;
 use commit::{Accepted, Ledger, Refused};
-use header_hash::header_hash;
-use policy_eval::Verify;
+use key_book::KeyBook;
 use std::alloc::Global;
-use transaction::Identity;
-use values::{Bytes, Items};
-
-// SHA-256 of no bytes (FIPS 180-4).
-const NO_DATA: [u8; 32] = [
-    0xe3, 0xb0, 0xc4, 0x42, 0x98, 0xfc, 0x1c, 0x14, 0x9a, 0xfb, 0xf4, 0xc8, 0x99, 0x6f, 0xb9, 0x24,
-    0x27, 0xae, 0x41, 0xe4, 0x64, 0x9b, 0x93, 0x4c, 0xa4, 0x95, 0x99, 0x1b, 0x78, 0x52, 0xb8, 0x55,
-];
+use values::Bytes;
 
 // The header hashes of blocks 0 and 1 without transactions, by Python's pyasn1 and hashlib.
 const HASH_0: [u8; 32] = [
@@ -27,43 +20,17 @@ const HASH_1: [u8; 32] = [
     0x7e, 0xea, 0x07, 0xca, 0x7f, 0x93, 0x7b, 0x91, 0xb5, 0x5d, 0xed, 0xa9, 0xe6, 0x3d, 0x72, 0x6e,
 ];
 
-// No signature is good.
-struct NoSigner;
-
-impl Verify for NoSigner {
-    ghost use Rattle.std.specs.Prelude.{false};
-
-    ghost accepts = { λ _ _ _ _. false };
-
-    fn verify(&self, _identity: &Identity<'_>, _message: &[u8], _signature: &[u8]) -> bool {
-        false
-    }
-}
-
-fn put_block(alloc: Global, blocks: &mut Vec<Bytes>, header: &Header) -> Result<(), Failed> {
-    let block = Block {
-        header: *header,
-        txs: Items::new(alloc),
-    };
-    blocks.push(encode_block(alloc, &block)?)?;
-    Ok(())
-}
-
 // Blocks without transactions: the first twice, then those that follow it, up to this number.
-fn chain_of(alloc: Global, length: u64) -> Result<Vec<Bytes>, Failed> {
+fn chain_of(alloc: Global, keys: &KeyBook, length: u64) -> Result<Vec<Bytes>, Failed> {
     let mut blocks = Vec::new(alloc);
-    let mut previous = Previous::Empty;
+    let mut last = None;
     for number in 0..length {
-        let header = Header {
-            number,
-            previous,
-            data_hash: NO_DATA,
-        };
-        put_block(alloc, &mut blocks, &header)?;
+        let block = drafted(alloc, keys, last, "")?;
+        last = Some(decode_block(alloc, block.as_slice())?.header);
         if number == 0 {
-            put_block(alloc, &mut blocks, &header)?;
+            blocks.push(block.copy(alloc)?)?;
         }
-        previous = Previous::Hash(header_hash(&header));
+        blocks.push(block)?;
     }
     Ok(blocks)
 }
@@ -87,18 +54,19 @@ fn are_answers(answers: &[Result<Accepted, Refused>]) -> bool {
 }
 
 // Whether the blocks are answered in their order.
-fn is_answered(alloc: Global, ledger: &mut Ledger) -> Result<bool, Failed> {
-    let blocks = chain_of(alloc, 12)?;
-    let answers = ledger.submit_all(&blocks, &NoSigner)?;
+fn is_answered(alloc: Global, ledger: &mut Ledger, keys: &KeyBook) -> Result<bool, Failed> {
+    let blocks = chain_of(alloc, keys, 12)?;
+    let answers = ledger.submit_all(&blocks, keys)?;
     Ok(are_answers(answers.as_slice()))
 }
 
 #[test]
 fn all_at_once(rt: HostRuntime) -> Result<(), Failed> {
+    let keys = KeyBook::read(rt.alloc(), "")?;
     let mut ledger = Ledger::open(rt.alloc(), Channel::read(rt.alloc(), "channel ch")?);
-    assert!(rt; ledger.submit_all(&[], &NoSigner)?.is_empty());
+    assert!(rt; ledger.submit_all(&[], &keys)?.is_empty());
     assert!(rt; (ledger.view().height(), ledger.view().header_hash()) == (0, None));
-    assert!(rt; is_answered(rt.alloc(), &mut ledger)?);
+    assert!(rt; is_answered(rt.alloc(), &mut ledger, &keys)?);
     assert!(rt; ledger.view().height() == 12);
     Ok(())
 }
