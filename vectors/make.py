@@ -12,6 +12,7 @@ sys.dont_write_bytecode = True
 
 import chain
 import drafted
+import explained
 import headers
 import sample
 import script_cases
@@ -21,6 +22,8 @@ import told
 CRATES = pathlib.Path(__file__).resolve().parent.parent / "crates"
 CHAIN = CRATES / "chain_vectors/src"
 DRAFTED = CRATES / "command_line_tests/src/drafted"
+EXPLAINED = CRATES / "command_line_tests/src/explained"
+EXPLAINED_MEMORY = CRATES / "ledger_tests/src/explained_memory"
 HEADERS = CRATES / "bytes_tests/src/header_hashes"
 SAMPLE = CRATES / "fabcommit"
 SCRIPTS = CRATES / "draft_tests/src/drafting"
@@ -34,6 +37,8 @@ def files():
     for folder, made in (
         (CHAIN, chain.files()),
         (DRAFTED, drafted.files(keys.encode())),
+        (EXPLAINED, explained.program_files(SAMPLE / "data")),
+        (EXPLAINED_MEMORY, explained.ledger_files()),
         (HEADERS, headers.files()),
         (SAMPLE, sample.files(SAMPLE / "data")),
         (SCRIPTS, script_cases.files()),

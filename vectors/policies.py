@@ -9,20 +9,21 @@ ALL, ANY, OUTOF = {b"AND", b"And", b"and"}, {b"OR", b"Or", b"or"}, {b"OutOf", b"
 
 
 class NoPolicy(Exception):
-    """The text isn't of the language."""
+    """The text isn't of the language, for a fault of this kind."""
 
 
 def tokens_of(text):
-    tokens, place = [], 0
+    """One after the other, so that the first fault from the left is met first."""
+    place = 0
     while True:
         while text[place : place + 1] == b" ":
             place += 1
         if place == len(text):
-            return tokens
+            return
         found = TOKEN.match(text, place)
         if not found:
-            raise NoPolicy
-        tokens.append(found.group())
+            raise NoPolicy("syntax")
+        yield found.group()
         place = found.end()
 
 
@@ -31,26 +32,26 @@ class Parser:
 
     def __init__(self, text):
         if len(text) > 4096:
-            raise NoPolicy
+            raise NoPolicy("too-large")
         self.tokens, self.principals, self.depth = tokens_of(text), 0, 0
 
     def next(self):
-        if not self.tokens:
-            raise NoPolicy
-        return self.tokens.pop(0)
+        for token in self.tokens:
+            return token
+        raise NoPolicy("syntax")
 
     def want(self, token):
         if self.next() != token:
-            raise NoPolicy
+            raise NoPolicy("syntax")
 
     def principal(self, quoted):
         org, dot, role = quoted[1:-1].rpartition(b".")
         self.principals += 1
         known = role.decode("latin-1") in ROLES + ["member"]
         if not dot or not known or not 1 <= len(org) <= 64 or not set(org) <= NAME_BYTES:
-            raise NoPolicy
+            raise NoPolicy("role")
         if self.principals > 256:
-            raise NoPolicy
+            raise NoPolicy("too-large")
         return ("principal", org, role.decode())
 
     def members(self):
@@ -60,7 +61,7 @@ class Parser:
             if token == b")":
                 return members
             if token != b",":
-                raise NoPolicy
+                raise NoPolicy("syntax")
             members.append(self.expression())
 
     def expression(self):
@@ -68,16 +69,16 @@ class Parser:
         if token[:1] in b"'\"":
             return self.principal(token)
         if token not in ALL | ANY | OUTOF:
-            raise NoPolicy
+            raise NoPolicy("syntax")
         self.depth += 1
         if self.depth > 32:
-            raise NoPolicy
+            raise NoPolicy("too-deep")
         self.want(b"(")
         threshold = None
         if token in OUTOF:
             number = self.next()
             if not number.isdigit() or len(number) > 3:
-                raise NoPolicy
+                raise NoPolicy("syntax")
             threshold = int(number)
             self.want(b",")
         members = self.members()
@@ -87,24 +88,29 @@ class Parser:
         if token in ANY:
             threshold = 1
         if not 1 <= threshold <= len(members):
-            raise NoPolicy
+            raise NoPolicy("threshold")
         return ("gate", threshold, members)
 
 
 def read_policy(text):
     parser = Parser(text)
     policy = parser.expression()
-    if parser.tokens:
-        raise NoPolicy
+    for _ in parser.tokens:
+        raise NoPolicy("syntax")
     return policy
 
 
-def is_policy(text):
+def policy_fault(text):
+    """The kind of its first fault, `None` where it is a policy."""
     try:
         read_policy(text)
-        return True
-    except NoPolicy:
-        return False
+        return None
+    except NoPolicy as fault:
+        return fault.args[0]
+
+
+def is_policy(text):
+    return policy_fault(text) is None
 
 
 def canonical(policy):

@@ -3,9 +3,10 @@
 
 `python3 vectors/scripts_at_random.py [PROGRAM [COUNT [SEED]]]` makes at least COUNT scripts (1000) from SEED (1), in
 chains of up to five blocks. Each is drafted by PROGRAM (`./fabcommit`): a good one has to give the block that
-`scripts.py` gives, a faulty one the line that it names, with OUT left as it was. Each chain is then handed to `run`,
-`get`, `history` and `scan`, whose lines have to be those of `committer.py`. It ends with figures: how many scripts,
-calls, flags, and faults of each kind there were, and fails where a kind is missing or anything differs.
+`scripts.py` gives, a faulty one the line that it names, with OUT left as it was. Each block is explained, in the lines of
+`explaining.py`, and each chain then handed to `run`, `get`, `history` and `scan`, whose lines have to be those of
+`committer.py`. It ends with figures: how many scripts, calls, flags, and faults of each kind there were, and fails where a
+kind is missing or anything differs.
 """
 
 import pathlib
@@ -20,6 +21,7 @@ sys.dont_write_bytecode = True
 
 import answers
 from committer import World, is_inside
+from explaining import explained
 from policies import read_policy
 from scripts import LONGEST, Faulty, accepts, drafted, keys_of, txs_of, word_bytes
 from words import word
@@ -37,7 +39,8 @@ STRANGER = "Org3:peer:p0"
 # Words and the same bytes spelled otherwise; the last is the longest key.
 KEYS = ["a", "b", "%61", "b%20b", "%00", "%ff", "%FF%ff", "deleted", "~", "k" * 1024]
 VALUES = ["v", "%", "deleted", "%64eleted", "de%6Ceted", "%00%01", "a%20%25", "x" * 300, "%C3%A9"]
-POLICIES = [*CHANNEL.values(), "and( 'Org1.peer' , OutOf(1,\"Org2.admin\") )", "'Org1.member'", "no policy"]
+NO_POLICIES = ["no policy", "'Org1.king'", "OutOf(2,'Org1.peer')"]
+POLICIES = [*CHANNEL.values(), "and( 'Org1.peer' , OutOf(1,\"Org2.admin\") )", "'Org1.member'", *NO_POLICIES]
 BOUNDS = ["%", "a", "b", "b%00", "~", "%ff"]
 
 
@@ -265,6 +268,8 @@ class Trial:
                 self.fault(kind, number, blocks, faulty_lines(pick, kind))
             block = self.draft(number, blocks, self.text(list(good_lines(pick, world, nonces))))
             blocks.append(block)
+            lines = "".join(line + "\n" for line in explained(world, block))
+            self.want(0, lines, "", "explain", *[f"block{number}" for number in range(len(blocks))])
             world.submit(block)
             self.flags.update(world.blocks[-1][2])
         files = [f"block{number}" for number in range(len(blocks))]

@@ -1,5 +1,6 @@
 // Why transactions have their flags, from the scripts that they are drafted of.
-use crate::fixture::{CHANNEL, File, MemoryFiles, ended, words_of};
+use crate::explained::vectors::{block0, block1, block2, every_flag, lines};
+use crate::fixture::{CHANNEL, File, MemoryFiles, ended, expect_rows, words_of};
 use crate::signatures::keys;
 use command_line::{FileFault, Files};
 use std::alloc::{AllocError, Global};
@@ -9,6 +10,10 @@ use std::sync::Wait;
 use std::test::Fail;
 use std::thread::Threads;
 use values::Bytes;
+
+mod memory;
+mod policy_texts;
+mod vectors;
 
 // Files in memory, and what was written last, whatever its path.
 #[derive(Drop)]
@@ -49,7 +54,7 @@ fn answered<F: Files>(
 }
 
 // The block of the script `s`, drafted by these words.
-fn drafted(
+pub(crate) fn drafted(
     rt: &(impl Abort + AllocGlobal + Threads + Wait + Sync),
     files: &[File<'_>],
     words: &str,
@@ -68,7 +73,7 @@ fn drafted(
 }
 
 // What explaining the last of these says behind the line of the block, whose front is this.
-fn expect_reasons(
+pub(crate) fn expect_reasons(
     rt: &(impl Abort + AllocGlobal + Threads + Wait + Sync),
     files: &[File<'_>],
     words: &str,
@@ -214,7 +219,7 @@ const REASONS: &str = "0 2 BAD_PAYLOAD
 ";
 
 // The files that a script is drafted from.
-fn of_script<'a>(channel: &'a [u8], keys: &'a [u8], script: &'a [u8]) -> [File<'a>; 3] {
+pub(crate) fn of_script<'a>(channel: &'a [u8], keys: &'a [u8], script: &'a [u8]) -> [File<'a>; 3] {
     [("c", channel), ("k", keys), ("s", script)]
 }
 
@@ -224,7 +229,7 @@ fn of_script_behind<'a>(keys: &'a [u8], script: &'a [u8], block: &'a [u8]) -> [F
 }
 
 // The files of one block, and of two.
-fn of_block<'a>(keys: &'a [u8], block: &'a [u8]) -> [File<'a>; 3] {
+pub(crate) fn of_block<'a>(keys: &'a [u8], block: &'a [u8]) -> [File<'a>; 3] {
     [("c", CHANNEL), ("k", keys), ("b0", block)]
 }
 
@@ -305,4 +310,22 @@ fn reasons_of_the_origin(rt: HostRuntime) -> Result<(), Fail> {
     let files = of_block(keys(), forged.as_slice());
     let lines = "1 4 BAD_CREATOR_SIGNATURE\n";
     expect_reasons(&rt, &files, "explain --tx 1 b0", "block 0 ", lines)
+}
+
+// The sample's blocks. The last of them shows every flag, and was made outside of the crates.
+#[test]
+fn a_reason_of_each_flag(rt: HostRuntime) -> Result<(), Fail> {
+    let files = [
+        ("c", CHANNEL),
+        ("k", keys()),
+        ("b0", block0()),
+        ("b1", block1()),
+        ("b2", block2()),
+        ("b3", every_flag()),
+    ];
+    let rows = [
+        ("explain b0 b1 b2 b3", 0, lines(), ""),
+        ("explain b0 b1 b3", 1, "refused 3 C2 want 2 got 3\n", ""),
+    ];
+    expect_rows(&rt, &MemoryFiles(&files), &rows)
 }

@@ -11,8 +11,11 @@ use std::test::Fail;
 use std::thread::Threads;
 use values::Bytes;
 
+// What is said of the empty block 0, as it is explained.
+const BLOCK_0: &str = "block 0 9cae6f5c10756febc407bba95fc23853774c1f65f10354895bfdab6443d66ed3\n";
+
 // Of the files the first two can be read, `s` is a script, `b0` a block and `last` the one of the greatest number.
-static ROWS: [Row; 31] = [
+static ROWS: [Row; 41] = [
     // Words are looked at before any file.
     ("get --ns cc --key % no", 2, "", "bad word\n"),
     ("get --ns cc --key %4 no", 2, "", "bad word\n"),
@@ -31,6 +34,9 @@ static ROWS: [Row; 31] = [
     ("get --ns cc --key k no s", 3, "", "cannot read no\n"),
     ("scan --ns cc b0 no", 3, "", "cannot read no\n"),
     ("history --ns cc --key k no", 3, "", "cannot read no\n"),
+    ("explain no", 3, "", "cannot read no\n"),
+    ("explain b0 no s", 3, "", "cannot read no\n"),
+    ("explain --tx 9 b0 no", 3, "", "cannot read no\n"),
     ("draft no out", 3, "", "cannot read no\n"),
     ("draft --after no no2 out", 3, "", "cannot read no\n"),
     ("draft --after s no out", 3, "", "s not a block\n"),
@@ -45,6 +51,14 @@ static ROWS: [Row; 31] = [
     ("get --ns cc --key k s", 1, "height 0\nabsent\n", ""),
     ("scan --ns cc s b0", 1, "height 1\n", ""),
     ("history --ns cc --key k s c k", 1, "height 0\n", ""),
+    ("explain s b0", 1, BLOCK_0, ""),
+    ("explain b0", 0, BLOCK_0, ""),
+    // But of the last block, at whose place no transaction stands.
+    ("explain s", 1, "refused 1 C1 B1\n", ""),
+    ("explain b0 b0", 1, "refused 2 C2 want 1 got 0\n", ""),
+    ("explain --tx 0 b0 s", 1, "refused 2 C1 B1\n", ""),
+    ("explain --tx 0 b0", 2, "", "no transaction 0\n"),
+    ("explain --tx 4095 s b0", 2, "", "no transaction 4095\n"),
     ("history --ns cc --key k", 0, "height 0\n", ""),
     ("scan --ns cc --limit 65535", 0, "height 0\n", ""),
     ("scan --ns cc --limit 0001", 0, "height 0\n", ""),
@@ -219,6 +233,7 @@ fn standard_output_that_fails(rt: HostRuntime) -> Result<(), Fail> {
             room,
         )?;
         expect_cut(&rt, &files, "scan --ns cc b0", "height 1\n", room)?;
+        expect_cut(&rt, &files, "explain b0", BLOCK_0, room)?;
         expect_cut(
             &rt,
             &files,

@@ -25,10 +25,13 @@ const SCAN: &str =
 const HISTORY: &str =
     "Usage: fabcommit history --channel <FILE> --keys <FILE> --ns <NAME> --key <WORD> [BLOCK]...\n";
 
+const EXPLAIN: &str =
+    "Usage: fabcommit explain [OPTIONS] --channel <FILE> --keys <FILE> <BLOCK>...\n";
+
 // Words behind the program's name, and two texts that what is said of them has.
 type Row = (&'static [&'static str], &'static str, &'static str);
 
-const MISTAKES: [Row; 21] = [
+const MISTAKES: [Row; 24] = [
     (
         &[],
         "'fabcommit' requires a subcommand but one was not provided",
@@ -116,6 +119,30 @@ const MISTAKES: [Row; 21] = [
         COMMAND,
     ),
     (
+        &["explain", "--channel", "c", "--keys", "k", "--tx", "0"],
+        "\n  <BLOCK>...\n",
+        "fabcommit explain",
+    ),
+    (
+        &["explain", "--tx", "4096"],
+        "invalid value '4096' for '--tx <N>': 4096 is not in 0..=4095",
+        "--help",
+    ),
+    (
+        &[
+            "explain",
+            "--channel",
+            "c",
+            "--keys",
+            "k",
+            "--tx",
+            "+2",
+            "b",
+        ],
+        "a number is written with digits alone",
+        COMMAND,
+    ),
+    (
         &["run", "--workers", "0"],
         "invalid value '0' for '--workers <N>': 0 is not in 1..=64",
         "--help",
@@ -151,7 +178,7 @@ const MISTAKES: [Row; 21] = [
     ),
 ];
 
-const HELP: [Row; 9] = [
+const HELP: [Row; 10] = [
     (&["--help"], "\nCommands:\n  draft ", COMMAND),
     (&["help"], "\nExample, from a script to what", COMMAND),
     (&["draft", "-h"], "\nExample:\n  fabcommit draft ", DRAFT),
@@ -161,6 +188,11 @@ const HELP: [Row; 9] = [
         &["history", "-h"],
         "\nExample:\n  fabcommit history ",
         HISTORY,
+    ),
+    (
+        &["explain", "-h"],
+        "\nExample:\n  fabcommit explain ",
+        EXPLAIN,
     ),
     (
         &["run", "--help"],

@@ -9,6 +9,8 @@ mod by_workers;
 #[cfg(test)]
 mod chain;
 #[cfg(test)]
+mod explained_memory;
+#[cfg(test)]
 mod failed;
 #[cfg(test)]
 mod fixture;
