@@ -6,7 +6,6 @@ use drafts::DraftFault;
 use key_book::KeyBookFault;
 use rules::Refused;
 use std::alloc::{AllocError, AllocFailed};
-use transaction::EncodeFault;
 
 #[derive(Clone, Copy, Debug)]
 pub enum Failed {
@@ -16,7 +15,6 @@ pub enum Failed {
     Draft(DraftFault),
     Block(BlockFault),
     Refused(Refused),
-    Encode(EncodeFault),
     Missing(&'static str),
 }
 
@@ -59,12 +57,6 @@ impl From<BlockFault> for Failed {
 impl From<Refused> for Failed {
     fn from(refused: Refused) -> Failed {
         Failed::Refused(refused)
-    }
-}
-
-impl From<EncodeFault> for Failed {
-    fn from(fault: EncodeFault) -> Failed {
-        Failed::Encode(fault)
     }
 }
 

@@ -49,7 +49,7 @@ fn namespace_at_random(random: &mut Random) -> &'static str {
     }]
 }
 
-// A version that an earlier transaction of the block may have given.
+// One that an earlier transaction of the next block may give.
 fn version_of_block(random: &mut Random, world: &World) -> Version {
     Version {
         block: world.height(),
@@ -57,7 +57,7 @@ fn version_of_block(random: &mut Random, world: &World) -> Version {
     }
 }
 
-// One that the state has, or one of the block.
+// One that the state has, or that the next block may give.
 fn version_at_random(
     alloc: Global,
     random: &mut Random,
@@ -135,7 +135,7 @@ fn put_range_line(
     script.push_str(line.as_str())
 }
 
-// Of the rows, but one in three with another version.
+// These rows, one in three with another version.
 fn put_results(
     alloc: Global,
     script: &mut String,
@@ -282,7 +282,7 @@ fn put_lines(
     Ok(put_endorsements(script, random)?)
 }
 
-// A transaction with the next of the nonces. One in twelve is spoiled.
+// A transaction with this nonce. One in twelve is spoiled.
 fn put_tx(
     alloc: Global,
     script: &mut String,
