@@ -470,10 +470,10 @@ WORKLOADS = {
 }
 
 
-def timed(program, way, blocks):
-    """For each line the least nanoseconds, and the most memory of a run, in KB."""
+def timed(program, way, blocks, times=RUNS):
+    """For each line the least nanoseconds of so many runs, and the most memory of one, in KB."""
     runs, memory = [], 0
-    for _ in range(RUNS):
+    for _ in range(times):
         process = subprocess.Popen([program, way, *blocks.paths], cwd=blocks.folder, stdout=subprocess.PIPE, text=True)
         lines = [int(line.split()[0]) for line in process.stdout]
         _, status, usage = os.wait4(process.pid, 0)
@@ -573,4 +573,5 @@ def main():
     print(f"load before: {before}; after: {load()}; {os.cpu_count()} processors")
 
 
-main()
+if __name__ == "__main__":
+    main()
