@@ -11,3 +11,4 @@ mod Conflicts
 mod Places
 mod StateTelling
 mod Bare
+pub mod Repeating

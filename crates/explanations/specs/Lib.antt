@@ -3,3 +3,4 @@ pub mod Touchers
 pub mod Differences
 pub mod Found
 pub mod Told
+pub mod Labels

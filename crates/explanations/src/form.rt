@@ -35,7 +35,7 @@ fn repeated_read(
 ) -> Result<Option<FormFault>, AllocError>
     ensures { IfOk result (λ fault. fault ≡ option_map (KeyRepeats namespace.now Reads) (first_repeated (map (λ r. r.key) reads.now))) }
 {
-    match first_repeated(reads) {
+    match first_repeated(alloc, reads)? {
         None => Ok(None),
         Some(read) => key_repeats(alloc, namespace, KeyList::Reads, &read.key),
     }
@@ -48,7 +48,7 @@ fn repeated_write(
 ) -> Result<Option<FormFault>, AllocError>
     ensures { IfOk result (λ fault. fault ≡ option_map (KeyRepeats namespace.now Writes) (first_repeated (map (λ w. w.key) writes.now))) }
 {
-    match first_repeated(writes) {
+    match first_repeated(alloc, writes)? {
         None => Ok(None),
         Some(write) => key_repeats(alloc, namespace, KeyList::Writes, &write.key),
     }
@@ -61,7 +61,7 @@ fn repeated_policy_write(
 ) -> Result<Option<FormFault>, AllocError>
     ensures { IfOk result (λ fault. fault ≡ option_map (KeyRepeats namespace.now PolicyWrites) (first_repeated (map (λ w. w.key) writes.now))) }
 {
-    match first_repeated(writes) {
+    match first_repeated(alloc, writes)? {
         None => Ok(None),
         Some(write) => key_repeats(alloc, namespace, KeyList::PolicyWrites, &write.key),
     }
@@ -103,7 +103,7 @@ pub(crate) fn form_fault(alloc: Global, tx: &Tx<'_>) -> Result<Option<FormFault>
     ensures { IfOk result (λ fault. fault ≡ form_fault tx.now) }
 {
     let sets = tx.namespaces.as_slice();
-    if let Some(set) = first_repeated(sets) {
+    if let Some(set) = first_repeated(alloc, sets)? {
         return Ok(Some(FormFault::NamespaceRepeats {
             namespace: set.name.copy(alloc)?,
         }));
