@@ -2,7 +2,7 @@
 """Times `explain` of a block beside `submit_one` of it, by the ledger, on one thread.
 
 Run as `bench/explain.py [WORKLOAD ..]` from anywhere, on a quiet machine that has the kit. It builds the program of
-`peer.py`, and hands it the blocks of a workload, behind one that makes the state.
+`peer.py`, and hands it the blocks of a workload, behind two that make the state.
 
 - `valid`: 20 blocks of 500 transactions, which read two of 2,000 keys and write two others; all are valid.
 - `mixed`: the same, but every other transaction has one of the kinds of reason, each in turn.
@@ -14,13 +14,12 @@ A line has the microseconds for one transaction, and how many times a submit's i
 Behind all it says what load the machine had before and after, and what part of the processors was stolen meanwhile.
 """
 
-import os
 import pathlib
 import sys
 import tempfile
 
-from peer import CRATES, CREATOR, PEERS, POLICY, PROGRAM, VALUE, Blocks, for_one, key, load, timed
-from scratch import build
+from peer import CRATES, CREATOR, PEERS, POLICY, PROGRAM, VALUE, Blocks, for_one, key, timed
+from scratch import Machine, build
 from encoding import Namespace, Tx, identity, spelled_tx, tx_id
 
 STATE, STEP, OWN = 2000, 500, 100
@@ -130,12 +129,6 @@ WORKLOADS = {
 }
 
 
-def processors():
-    """What all processors did so far, and what part of that was stolen from them."""
-    ticks = [int(number) for number in pathlib.Path("/proc/stat").read_text().split("\n")[0].split()[1:9]]
-    return sum(ticks), ticks[7]
-
-
 def told(program, name, blocks):
     submit, explain = (for_one(timed(program, way, blocks, TIMES)[0], blocks) for way in ("ledger", "explain"))
     print(f"{name:>15} {submit:>12,.1f} {explain:>14,.1f} {explain / submit:>7.2f}", flush=True)
@@ -143,7 +136,7 @@ def told(program, name, blocks):
 
 def main():
     wanted = sys.argv[1:] or WORKLOADS
-    load_before, (all_before, stolen_before) = load(), processors()
+    machine = Machine()
     with tempfile.TemporaryDirectory() as name:
         folder = pathlib.Path(name)
         program = build(folder / "program", "peer", PROGRAM, own=CRATES, kit=["anyhow"])
@@ -155,9 +148,7 @@ def main():
                 blocks.fill()
                 make(blocks)
                 told(program, title, blocks)
-    all_after, stolen_after = processors()
-    stolen = (stolen_after - stolen_before) / (all_after - all_before)
-    print(f"load before: {load_before}; after: {load()}; stolen: {stolen:.0%}; {os.cpu_count()} processors")
+    print(machine)
 
 
 if __name__ == "__main__":

@@ -3,7 +3,7 @@
 
 Run as `bench/peer.py [WORKLOAD ..]` from anywhere, on a quiet machine with four cores that has the kit; it needs 4 GB under
 TMPDIR. It builds a program over the repository's crates in a scratch folder, which hands the blocks of a workload in: the
-first by itself, and all others at once, to `run` of a `commit::Committer` of 1, 2 and 4 workers; or one by one to the
+first two by themselves, and all others at once, to `run` of a `commit::Committer` of 1, 2 and 4 workers; or one by one to the
 `commit::Ledger`, which has one thread and none to start.
 
 Each transaction has two endorsements, which its policy asks for; values are of 100 bytes, keys of 16. The seed is fixed.
@@ -25,12 +25,14 @@ the data hash, its id, and the HMAC-SHA-256 of what its creator and its endorser
 time for a transaction with one worker, divided by that. `explain` is the time in which a ledger tells the reasons of a
 block that it isn't handed yet. `faster` is one worker's time divided by that of two and four.
 
+Above it stands the limit of the machine, `limit`: how much faster two and four processes hash that share nothing.
+
 A second table has the time for one transaction with one worker, to whom blocks are handed in one by one: by the size of a
 block, the length of the chain and the keys of the state; the slope is that of its logarithm by theirs: 0 where it doesn't
 grow.
 
 Times are the least of five runs; `memory` is the most of a run with four workers, in MB. Behind both tables it says what
-load the machine had before and after.
+load the machine had before and after, and what part of its time was stolen from it.
 """
 
 import math
@@ -41,12 +43,14 @@ import subprocess
 import sys
 import tempfile
 
-from scratch import RUNS, build
+from scratch import RUNS, Machine, build
 from encoding import Namespace, Tx, data_hash, header_hash, identity, spelled_block, spelled_tx, tx_id
 from signing import Keys
 
 CRATES = ["block", "transaction", "values", "header_hash", "key_book", "gates", "commit"]
 WORKERS = [1, 2, 4]
+# The blocks that make the state, handed in by themselves: the program has the same number.
+SETUP = 2
 CHANNEL = "channel ch\nchaincode cc AND('Org1.peer','Org2.peer')\n"
 CREATOR, PEERS = "Org1:client:c0", ["Org1:peer:p0", "Org2:peer:q0"]
 KEYS = "".join(f"{who} {number:02x}{'5a' * 31}\n" for number, who in enumerate([CREATOR] + PEERS))
@@ -54,8 +58,8 @@ VALUE = b"v" * 100
 POLICY = b"AND('Org1.peer','Org2.peer')"
 
 # Its words are `hash`, `ledger`, `explain`, `submit`, or for `run` the number of workers, and files of blocks. For each it prints the
-# nanoseconds that it took, or that its hashing took, and how many of its transactions are valid; for `run` that of the first, and
-# that of all others together.
+# nanoseconds that it took, or that its hashing took, and how many of its transactions are valid; for `run` that of the first two,
+# and that of all others together.
 PROGRAM = r"""
 #![tactic(auto)]
 
@@ -74,6 +78,9 @@ use std::time::{Clock, Instant};
 use std::{env, fs};
 use transaction::{SpelledTx, append_identity, decode_tx, encode_body};
 use values::{Bytes, Slice};
+
+// The blocks that make the state.
+const SETUP: usize = 2;
 
 fn copied(alloc: Global, parts: &[&[u8]]) -> anyhow::Result<Vec<u8>> {
     let mut bytes = Vec::new(alloc);
@@ -251,11 +258,11 @@ fn run_all<R: AllocGlobal + Files + Clock + Print + Threads + Wait + Sync>(
     paths: &[String],
 ) -> anyhow::Result<()> {
     let keys = key_book(rt)?;
-    let Some((first, others)) = paths.split_first() else {
-        bail!("no block");
-    };
-    let bytes = fs::read(rt, first.as_str())?;
-    by_committer(rt, committer, &keys, &bytes)?;
+    let (setup, others) = paths.split_at(SETUP.min(paths.len()));
+    for path in setup {
+        let bytes = fs::read(rt, path.as_str())?;
+        by_committer(rt, committer, &keys, &bytes)?;
+    }
     let mut blocks = Vec::new(rt.alloc());
     for path in others {
         blocks.push(Bytes::from_vec(fs::read(rt, path.as_str())?))?;
@@ -333,7 +340,7 @@ def key(number):
 
 
 class Blocks:
-    """Linked blocks as files of a folder, the first of which makes the state that the others find."""
+    """Linked blocks as files of a folder, the first two of which make the state that the others find."""
 
     def __init__(self, folder, state):
         self.folder, self.keys, self.previous, self.paths, self.nonce = folder, Keys(KEYS), b"", [], 0
@@ -369,11 +376,13 @@ class Blocks:
         self.sizes.append(len(txs))
 
     def fill(self, with_policies=False):
-        """Block 0 writes all keys, 2,500 a transaction; their versions."""
+        """Block 0 writes all keys, 2,500 a transaction; their versions. Block 1, in which the committer's other world catches
+        up with it, writes one more."""
         step = 2500
         parts = [[key(n) for n in range(start, min(start + step, self.state))] for start in range(0, self.state, step)]
         self.add([self.tx(writes=part, policies=part if with_policies else ()) for part in parts])
         self.version = lambda n: (0, n // step)
+        self.add([self.tx(writes=[key(self.state)])])
 
     def read(self, n):
         return key(n), self.version(n)
@@ -443,7 +452,7 @@ def policies(blocks, count, size):
 
 def written(blocks, size):
     blocks.fill()
-    last = (key(0), (1, size - 1))
+    last = (key(0), (blocks.number, size - 1))
     blocks.add([blocks.tx(writes=[key(0)]) for _ in range(size)] + [blocks.tx([last]) for _ in range(size)])
 
 
@@ -484,7 +493,7 @@ def timed(program, way, blocks, times=RUNS):
     return [min(each) for each in zip(*runs)], memory
 
 
-def for_one(nanos, blocks, first=1):
+def for_one(nanos, blocks, first=SETUP):
     """The microseconds for a transaction, over all blocks from the first one on."""
     return sum(nanos[first:]) / sum(blocks.sizes[first:]) / 1000
 
@@ -516,7 +525,7 @@ def grows(title, found, least=0):
 
 def by_size(program, folder, state):
     """All sizes over one state, so that the dear one is made once."""
-    blocks, found, first = Blocks(folder / f"size{state}", state), {}, 1
+    blocks, found, first = Blocks(folder / f"size{state}", state), {}, SETUP
     sizes = {1: 40, 10: 40, 100: 20, 1000: 8, 4096: 4}
     mixed(blocks, 0, 0)
     for size, count in sizes.items():
@@ -547,16 +556,36 @@ def by_state(program, folder):
     grows("by keys of the state", found)
 
 
-def load():
-    return " ".join(pathlib.Path("/proc/loadavg").read_text().split()[:3])
+def at_once(program, blocks, count):
+    """The microseconds for a transaction in which so many processes, each for itself, hash the blocks at once."""
+    least = math.inf
+    for _ in range(RUNS):
+        all_of_them = [subprocess.Popen([program, "hash", *blocks.paths], cwd=blocks.folder, stdout=subprocess.PIPE, text=True) for _ in range(count)]
+        took = [sum(int(line.split()[0]) for line in process.stdout) for process in all_of_them]
+        for process in all_of_them:
+            if process.wait() != 0:
+                sys.exit("a run of hash failed")
+        least = min(least, sum(took) / count / count / sum(blocks.sizes) / 1000)
+    return least
+
+
+def limit(program, folder):
+    """How much faster this machine hashes by processes that share nothing: no workers can do better."""
+    blocks = Blocks(folder / "limit", 2000)
+    mixed(blocks, 40, 500)
+    one, *more = [at_once(program, blocks, count) for count in WORKERS]
+    faster = ", ".join(f"{count}: {one / time:.2f}" for count, time in zip(WORKERS[1:], more))
+    print(f"how much faster processes of their own hash: {faster}", flush=True)
 
 
 def main():
-    wanted = sys.argv[1:] or [*WORKLOADS, "growth"]
-    before = load()
+    wanted = sys.argv[1:] or ["limit", *WORKLOADS, "growth"]
+    machine = Machine()
     with tempfile.TemporaryDirectory() as name:
         folder = pathlib.Path(name)
         program = build(folder / "program", "peer", PROGRAM, own=CRATES, kit=["anyhow"])
+        if "limit" in wanted:
+            limit(program, folder)
         if set(wanted) & set(WORKLOADS):
             print("             µs for one transaction                  transactions a second, by 1, 2, 4")
             print("            hashing  ledger explain  worker  ratio  workers                       faster      memory")
@@ -570,7 +599,7 @@ def main():
                 by_size(program, folder, state)
             by_length(program, folder)
             by_state(program, folder)
-    print(f"load before: {before}; after: {load()}; {os.cpu_count()} processors")
+    print(machine)
 
 
 if __name__ == "__main__":

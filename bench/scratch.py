@@ -1,4 +1,4 @@
-"""What the benchmarks share: programs that are built outside the repository, and the least of five runs.
+"""What the benchmarks share: programs that are built outside the repository, the least of five runs, the machine's load.
 
 Who imports it finds the modules of `vectors/` too.
 """
@@ -14,6 +14,28 @@ RUNS = 5
 # As the launcher does for the program.
 os.environ.setdefault("GLIBC_TUNABLES", "glibc.malloc.hugetlb=1")
 sys.path.append(str(TOP / "vectors"))
+
+
+def processors():
+    """What all processors did so far, and what part of that was stolen from them."""
+    ticks = [int(number) for number in pathlib.Path("/proc/stat").read_text().split("\n")[0].split()[1:9]]
+    return sum(ticks), ticks[7]
+
+
+def load():
+    return " ".join(pathlib.Path("/proc/loadavg").read_text().split()[:3])
+
+
+class Machine:
+    """What else the machine did since this was made, by which a reader judges the figures above."""
+
+    def __init__(self):
+        self.load, (self.all, self.stolen) = load(), processors()
+
+    def __str__(self):
+        after, stolen = processors()
+        part = (stolen - self.stolen) / max(after - self.all, 1)
+        return f"load before: {self.load}; after: {load()}; stolen: {part:.0%}; {os.cpu_count()} processors"
 
 
 def link(file, at):

@@ -14,7 +14,7 @@ import subprocess
 import sys
 import tempfile
 
-from scratch import RUNS, build
+from scratch import RUNS, Machine, build
 
 CRATES = ["values", "transaction", "block", "header_hash", "policy", "policy_eval", "text_lines", "channel", "rules",
           "state_db"]
@@ -312,6 +312,7 @@ def least(program, blocks):
 
 
 def main():
+    machine = Machine()
     with tempfile.TemporaryDirectory() as folder:
         program = build(pathlib.Path(folder), "state_bench", PROGRAM, CRATES, ["anyhow"])
         times = {}
@@ -322,6 +323,7 @@ def main():
         one = ran(program, BLOCKS[-1], 2)[1]
         three = ran(program, BLOCKS[-1], 3)[1]
         print(f"{BLOCKS[-1] * 1000} rows: {one:.0f} MB for one state, {three:.0f} MB for three that share")
+    print(machine)
     dear = []
     for kind, most in RATIOS.items():
         ratio = times[1_000][kind] / times[100][kind]

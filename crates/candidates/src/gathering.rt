@@ -11,9 +11,9 @@ ghost use Rattle.candidates.specs.Gathering.{value_write, policy_write, writes_i
 ghost use Rattle.candidates.specs.Written.{IsGathered};
 
 use crate::form::are_lists_in_form;
-use crate::state_key::StateKey;
 use crate::written_key::WrittenKey;
 use policy::{Policy, PolicyFault};
+use state_keys::StateKey;
 use std::alloc::{AllocError, Global};
 use transaction::{NsSet, PolicyWrite, Tx, Write};
 use values::{Shared, Slice};

@@ -5,7 +5,7 @@ ghost use Rattle.rules.specs.State as state;
 ghost use Rattle.rules.specs.State.{key_cmp, is_among};
 ghost use Rattle.candidates.specs.Written.{keys_in_order};
 
-use crate::state_key::StateKey;
+use state_keys::StateKey;
 
 /// The keys in their order, each once. Takes no memory; n log n comparisons, and one pass.
 pub fn keys_in_order<'a>(mut keys: Vec<StateKey<'a>>) -> Vec<StateKey<'a>>

@@ -11,7 +11,6 @@ mod in_order;
 mod labels;
 mod laws;
 mod open_tx;
-mod state_key;
 mod written_key;
 
 pub use candidate::Candidate;
@@ -20,5 +19,5 @@ pub use in_order::keys_in_order;
 pub use labels::{Labelled, is_among};
 pub use laws::keys_have_one_order;
 pub use open_tx::OpenTx;
-pub use state_key::StateKey;
+pub use state_keys::StateKey;
 pub use written_key::WrittenKey;

@@ -2,8 +2,8 @@ ghost use Rattle.std.specs.Prelude.{◌≡◌, IsTrue, false};
 ghost use Rattle.rules.specs.State.{is_same_key};
 ghost use Rattle.candidates.specs.Gathering.{both_writes};
 
-use crate::state_key::StateKey;
 use policy::Policy;
+use state_keys::StateKey;
 use values::{Shared, Slice};
 
 /// What a transaction writes at a key: its value, its policy, or both.

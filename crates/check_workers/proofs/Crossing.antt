@@ -24,8 +24,8 @@ use Rattle.policy.specs.contracts.definitions.Definitions as definitions
 use Rattle.policy.specs.contracts.policy.Policy as policy
 use Rattle.policy_eval.proofs.signer_list.Signers.TheSendSync as signers
 use Rattle.rules.proofs.flag.Flag.TheSendSync as flag
+use Rattle.state_keys.proofs.state_key.StateKey.TheSendSync as state_key
 use Rattle.state_db.specs.contracts.state_db.StateDb as state
-use Rattle.candidates.proofs.state_key.StateKey.TheSendSync as state_key
 use Rattle.candidates.specs.contracts.candidate.Candidate as candidate
 use Rattle.key_chains.proofs.chains.Chains.TheSendSync as chains
 use Rattle.key_chains.specs.contracts.job.Job as job

@@ -25,7 +25,7 @@ use Rattle.policy.specs.contracts.policy.Policy as policy
 use Rattle.policy_eval.proofs.signer_list.Signers.TheSendSync as signers
 use Rattle.channel.specs.contracts.configuration.Channel as channel
 use Rattle.rules.proofs.flag.Flag.TheSendSync as flag
-use Rattle.candidates.proofs.state_key.StateKey.TheSendSync as state_key
+use Rattle.state_keys.proofs.state_key.StateKey.TheSendSync as state_key
 use Rattle.candidates.specs.contracts.candidate.Candidate as candidate
 use Rattle.intake.specs.contracts.taking.Taken as taken
 

@@ -124,7 +124,7 @@ impl<'a> Job<'a> {
     pub fn row(&self, key: &StateKey<'_>) -> Option<&'a Row>
         ensures { option_copied result ≡ get self.now.state key.now }
     {
-        self.state.get(&key.namespace(), &key.key())
+        self.state.row(key)
     }
 
     /// The rows of a namespace before the block, from a start to before an end, an empty end being no bound.

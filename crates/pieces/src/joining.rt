@@ -108,6 +108,17 @@ fn taken_or_made<P: Copy, X: Drop, W: Work<P, X>>(
     }
 }
 
+// How much was made, for room alone.
+fn count_made<X: Drop>(slots: &[Option<Vec<X>>]) -> usize {
+    let mut count = 0usize;
+    for slot in slots {
+        if let Some(made) = slot {
+            count = count.saturating_add(made.len());
+        }
+    }
+    count
+}
+
 fn join<P: Copy, X: Drop, W: Work<P, X>>(
     alloc: Global,
     pieces: &[P],
@@ -118,7 +129,7 @@ fn join<P: Copy, X: Drop, W: Work<P, X>>(
     requires fits { Fits (λ place slot. IfSome slot (λ made. IsMade (W.gives work.now) pieces.now place made.items)) slots.old }
     ensures { IfOk result (λ all. Joined (W.gives work.now) pieces.now all.items) }
 {
-    let mut all = Vec::new(alloc);
+    let mut all = Vec::with_capacity(alloc, count_made(slots))?;
     for place in 0..pieces.len() {
         let slot = take(pieces, slots, place, work);
         let mut made = taken_or_made(alloc, pieces, place, slot, work)?;

@@ -2,7 +2,6 @@ mod Batches
 mod Begun
 mod Counts
 mod FromKey
-mod Heads
 mod Leading
 mod Maps
 mod Needs
@@ -13,5 +12,4 @@ mod Passed
 mod Puts
 mod Removes
 mod Tests
-mod Words
 mod Worked

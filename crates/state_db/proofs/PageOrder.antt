@@ -6,7 +6,7 @@ use Rattle.std.proofs.lemmas.List.Sums.{sum_by-cons}
 use Rattle.std.specs.FinMap.{find}
 use Rattle.rules.specs.State.{StateKey, key_cmp}
 use Rattle.rules.specs.declared.row.Row.{Row}
-use Rattle.state_db.specs.Head.{head_of, padded}
+use Rattle.state_keys.specs.Head.{head_of, padded}
 use Rattle.state_db.specs.Search.{Keyed, IsSorted, is_below, leading, Falls}
 use Rattle.state_db.specs.Need.{AreBounded, AreOpen}
 use Rattle.state_db.specs.Pages.{ArePages, RowList, joined, AreFilled, AreSized, AreInOrder, is_page_below, home, last_head}

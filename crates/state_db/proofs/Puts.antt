@@ -9,7 +9,8 @@ use Rattle.rules.specs.State.{StateKey, key_cmp}
 use Rattle.rules.proofs.Booleans.{both_true}
 use Rattle.rules.proofs.Keys.{key_cmp_total, key_cmp-IsAntisymmetric}
 use Rattle.state_db.specs.Search.{Keyed, is_below, ties_at, leading}
-use Rattle.state_db.proofs.Tests.{is_Less, is_Equal, is_Greater}
+use Rattle.state_db.proofs.Tests.{is_Less, is_Greater}
+use Rattle.state_keys.proofs.Answers.{is_Equal}
 
 module _ {X : Type 0} where
   -- ---- what has the key

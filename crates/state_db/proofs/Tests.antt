@@ -17,11 +17,6 @@ is_Less Less e = refl
 is_Less Equal e = absurd cc
 is_Less Greater e = absurd cc
 
-pub is_Equal : (o : Ordering) → is_eq o ≡ true → o ≡ Equal
-is_Equal Less e = absurd cc
-is_Equal Equal e = refl
-is_Equal Greater e = absurd cc
-
 pub is_Greater : (o : Ordering) → is_lt o ≡ false → is_eq o ≡ false → o ≡ Greater
 is_Greater Less e f = absurd cc
 is_Greater Equal e f = absurd cc

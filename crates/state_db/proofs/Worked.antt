@@ -1,8 +1,7 @@
--- Worked rows: heads, homes of keys, and splits.
+-- Worked rows: homes of keys, and splits.
 use Rattle.std.proofs.Common.{◌≡◌, ℕ, List, [], ◌∷◌, Some, None, refl}
 use Rattle.rules.specs.declared.row.Row.{Row}
 use Rattle.rules.specs.State.{StateKey}
-use Rattle.state_db.specs.Head.{head_of}
 use Rattle.state_db.specs.Pages.{RowList, joined, home}
 use Rattle.state_db.specs.Ranges.{in_front, from_key}
 use Rattle.state_db.specs.Edits.{edited}
@@ -11,11 +10,6 @@ use Rattle.state_db.specs.Need.{splits, need}
 -- keys `a` to `f` of the namespace `n`
 key : ℕ → StateKey
 key letter = (110 ∷ [], letter ∷ [])
-
--- `n`, a zero, `a`, and zeros, behind which it says that there are three bytes
-head_of_a : head_of (110 ∷ [], 97 ∷ []) ≡ 110 ∷ 0 ∷ 97 ∷ 0 ∷ 0 ∷ 0 ∷ 0 ∷ 0 ∷ 0 ∷ 0 ∷ 0 ∷ 0 ∷ 0 ∷ 0 ∷ 0 ∷ 0 ∷ 0 ∷ 0 ∷ 0 ∷ 0 ∷ 0 ∷ 0 ∷ 0 ∷ 3 ∷ []
-unfolding head_of
-head_of_a = refl
 
 module _ (v w : Row) where
   -- a page of `a` and `c`, and one of `e`

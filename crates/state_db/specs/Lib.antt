@@ -1,5 +1,4 @@
 pub mod Code
-pub mod Head
 pub mod Pages
 pub mod Search
 pub mod Batch

@@ -3,7 +3,7 @@ use Rattle.std.specs.Prelude.{◌<◌, ◌≤◌, ℕ, suc, Bool, true, List, []
 use Rattle.std.specs.FinMap.{from_sorted}
 use Rattle.rules.specs.declared.row.Row.{Row}
 use Rattle.rules.specs.State.{StateKey, State}
-use Rattle.state_db.specs.Head.{padded, head_of}
+use Rattle.state_keys.specs.Head.{padded, head_of}
 use Rattle.state_db.specs.Search.{Keyed, IsSorted, is_below}
 
 -- a state, beside it how many rows each of its pages has

@@ -13,8 +13,8 @@ use crate::page::{MAX_ROWS, Page};
 use crate::search::Ordered;
 use crate::slot::Slot;
 use crate::spare::{pages_needed, spare_pages};
-use crate::wanted::Wanted;
 use rules::Change;
+use state_keys::Wanted;
 use std::alloc::{AllocError, Global};
 
 /// Whether the page is full, and all its rows stand before the key.

@@ -8,8 +8,8 @@ ghost use Rattle.state_db.specs.Search.{IsSorted, is_below, ties_at, leading};
 
 use crate::edit::Edit;
 use crate::search::{Ordered, count_below};
-use crate::wanted::Wanted;
 use rules::{Change, KeyedRow, Row};
+use state_keys::Wanted;
 use std::alloc::{AllocError, Global};
 use std::marker::Model;
 use values::{Key, Name, Shared};

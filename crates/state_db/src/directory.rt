@@ -7,8 +7,8 @@ ghost use Rattle.state_db.specs.Pages.{joined, home, AreInOrder, ArePages};
 
 use crate::page::Page;
 use crate::search::{count_below, count_few_below};
-use crate::wanted::Wanted;
 use rules::Row;
+use state_keys::Wanted;
 
 /// The place of the page where a key belongs: the first whose last row isn't before the key, or else the last page.
 /// Logarithmic.

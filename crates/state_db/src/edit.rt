@@ -2,14 +2,13 @@ ghost use Rattle.std.specs.Prelude.{◌≡◌, IsTrue, IfOk};
 ghost use Rattle.values.specs.Name.{is_name};
 ghost use Rattle.rules.specs.State.{key_cmp};
 ghost use Rattle.rules.specs.Delta.{change_of};
-ghost use Rattle.state_db.specs.Head.{head_of};
+ghost use Rattle.state_keys.specs.Head.{head_of};
 ghost use Rattle.state_db.specs.Need.{added};
 ghost use Rattle.state_db.specs.Search.{is_below};
 
-use crate::head::{Head, head_of};
 use crate::search::Ordered;
-use crate::wanted::Wanted;
 use rules::Change;
+use state_keys::{Head, Wanted, head_of};
 use std::alloc::{AllocError, Global};
 use std::cmp::Ordering;
 use std::marker::Model;
@@ -34,7 +33,7 @@ impl Model for Edit {
     ghost use Rattle.rules.specs.Delta.{change_of};
     ghost use Rattle.std.specs.Prelude.{◌≡◌, IsTrue};
     ghost use Rattle.values.specs.Name.{is_name};
-    ghost use Rattle.state_db.specs.Head.{head_of};
+    ghost use Rattle.state_keys.specs.Head.{head_of};
 
     ghost view = { λ e. change_of e.change };
 

@@ -7,7 +7,6 @@ mod apply;
 mod batch;
 mod directory;
 mod edit;
-mod head;
 mod page;
 mod rows;
 mod search;
@@ -15,7 +14,6 @@ mod slot;
 mod slots;
 mod spare;
 mod state_db;
-mod wanted;
 
 pub use batch::Batch;
 pub use rows::Rows;

@@ -8,12 +8,11 @@ ghost use Rattle.state_db.specs.Edits.{without};
 ghost use Rattle.state_db.specs.Pages.{is_page_below};
 ghost use Rattle.state_db.specs.Search.{IsSorted};
 
-use crate::head::{HEAD_BYTES, Head};
 use crate::search::Ordered;
 use crate::slot::Slot;
 use crate::slots;
-use crate::wanted::Wanted;
 use rules::Row;
+use state_keys::{HEAD_BYTES, Head, Wanted};
 use std::alloc::{AllocError, Global};
 use std::marker::Model;
 

@@ -7,8 +7,8 @@ use crate::directory::home_of;
 use crate::page::Page;
 use crate::search::count_below;
 use crate::slot::Slot;
-use crate::wanted::Wanted;
 use rules::KeyedRow;
+use state_keys::Wanted;
 use std::marker::Model;
 
 /// Rows of a namespace in the order of their keys, up to before an end, lent one by one. A contract sees the list of

@@ -2,7 +2,7 @@ ghost use Rattle.std.specs.Prelude.{◌≡◌, ◌≤◌, Bool, length};
 ghost use Rattle.rules.specs.State.{StateKey};
 ghost use Rattle.state_db.specs.Search.{leading, Falls};
 
-use crate::wanted::Wanted;
+use state_keys::Wanted;
 
 /// What stands in an order by keys.
 pub(crate) trait Ordered {

@@ -2,13 +2,12 @@ ghost use Rattle.std.specs.Prelude.{◌≡◌, IsTrue};
 ghost use Rattle.std.specs.Option.{option_copied};
 ghost use Rattle.values.specs.Name.{is_name};
 ghost use Rattle.rules.specs.State.{key_cmp};
-ghost use Rattle.state_db.specs.Head.{head_of};
+ghost use Rattle.state_keys.specs.Head.{head_of};
 ghost use Rattle.state_db.specs.Search.{is_below, if_it};
 
-use crate::head::Head;
 use crate::search::Ordered;
-use crate::wanted::Wanted;
 use rules::{KeyedRow, Row};
+use state_keys::{Head, Wanted};
 use std::cmp::Ordering;
 use std::marker::Model;
 use values::Shared;
@@ -32,7 +31,7 @@ impl Model for Slot {
 
     ghost use Rattle.std.specs.Prelude.{◌≡◌, IsTrue};
     ghost use Rattle.values.specs.Name.{is_name};
-    ghost use Rattle.state_db.specs.Head.{head_of};
+    ghost use Rattle.state_keys.specs.Head.{head_of};
 
     ghost view = { λ s. s.row };
 

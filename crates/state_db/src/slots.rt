@@ -9,11 +9,10 @@ ghost use Rattle.state_db.specs.Edits.{without};
 ghost use Rattle.state_db.specs.Pages.{last_head};
 ghost use Rattle.state_db.specs.Search.{IsSorted, ties_at};
 
-use crate::head::{HEAD_BYTES, Head};
 use crate::search::count_below;
 use crate::slot::Slot;
-use crate::wanted::Wanted;
 use rules::Row;
+use state_keys::{HEAD_BYTES, Head, Wanted};
 
 /// The head of the last row.
 pub(crate) fn last_head(rows: &[Slot]) -> Head

@@ -12,8 +12,8 @@ use crate::directory::row_of;
 use crate::edit::Edit;
 use crate::page::Page;
 use crate::rows::{Rows, rows_from};
-use crate::wanted::Wanted;
 use rules::Row;
+use state_keys::{StateKey, Wanted};
 use std::alloc::{AllocError, Global};
 use std::marker::Model;
 use values::{BoundRef, KeyRef, NameRef};
@@ -59,6 +59,13 @@ impl StateDb {
     {
         let wanted = Wanted::new(namespace, key.as_slice());
         row_of(self.pages.as_slice(), &wanted)
+    }
+
+    /// The same, of a key whose head is known.
+    pub fn row(&self, key: &StateKey<'_>) -> Option<&Row>
+        ensures { option_copied result ≡ get self.now.state key.now }
+    {
+        row_of(self.pages.as_slice(), &key.wanted())
     }
 
     /// The rows of a namespace from a start to before an end, an empty end being no bound, in the order of their keys.

@@ -12,6 +12,8 @@ mod histories;
 #[cfg(test)]
 mod ids;
 #[cfg(test)]
+mod key_order;
+#[cfg(test)]
 mod noted;
 #[cfg(test)]
 mod pages;

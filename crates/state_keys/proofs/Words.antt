@@ -6,7 +6,7 @@ use Rattle.std.specs.Ordering.{nat_cmp, ordering_then, is_ne, MatchOrdering}
 use Rattle.std.specs.Cmp.{nat_cmp_is, ranks}
 use Rattle.std.proofs.lemmas.List.{get_or-drop}
 use Rattle.values.specs.Order.{bytes_cmp}
-use Rattle.state_db.specs.Head.{big_endian, word_at}
+use Rattle.state_keys.specs.Head.{big_endian, word_at}
 
 abbrev pub AreBytes : List ℕ → Type 0
 AreBytes bytes = (i : ℕ) → get_or bytes i 0 < 256

@@ -1,4 +1,4 @@
--- The head of a key: its first bytes, by which most keys are told apart. No public contract cites this.
+-- The head of a key: its first bytes, by which most keys are told apart.
 use Rattle.std.specs.Prelude.{ℕ, zero, suc, ◌+◌, ◌*◌, Bool, List, [], ◌∷◌, ◌++◌, length, get_or, take, drop, min, nat_le}
 use Rattle.rules.specs.State.{StateKey}
 

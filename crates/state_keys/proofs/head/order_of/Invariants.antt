@@ -1,6 +1,6 @@
 use Rattle.std.proofs.Common.{◌≡◌, ◌-◌, ◌≤◌, ◌%◌, drop}
 use Rattle.values.specs.Order.{bytes_cmp}
-use Rattle.state_db.proofs.head.order_of.Given as goal
+use Rattle.state_keys.proofs.head.order_of.Given as goal
 
 abbrev pub invariant-loop-place : goal.invariant-loop-place
 invariant-loop-place l = record {

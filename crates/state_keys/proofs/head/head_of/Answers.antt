@@ -1,8 +1,8 @@
 use Rattle.std.proofs.Common.{◌≡◌, ◌+◌, ℕ, [], length, ap, ◌∙◌, arith}
 use Rattle.std.specs.Prelude.{slice_set, min}
-use Rattle.state_db.specs.Head.{spelled, padded, head_of}
-use Rattle.state_db.proofs.Heads.{by_bytes, by_parts, zeros_at}
-use Rattle.state_db.proofs.head.head_of.Goals as goal
+use Rattle.state_keys.specs.Head.{spelled, padded, head_of}
+use Rattle.state_keys.proofs.Heads.{by_bytes, by_parts, zeros_at}
+use Rattle.state_keys.proofs.head.head_of.Goals as goal
 
 pub returns : goal.returns
 unfolding head_of

@@ -6,6 +6,8 @@ ghost use Rattle.std.specs.Ordering.{as_partial_cmp};
 ghost use Rattle.rules.specs.State.{is_same_key, key_cmp};
 ghost use Rattle.rules.proofs.Keys.{key_cmp_total, key_ties};
 
+use crate::head::{Head, head_of, order_by_heads};
+use crate::wanted::Wanted;
 use std::cmp::Ordering;
 use std::marker::Model;
 use values::{KeyRef, NameRef};
@@ -13,6 +15,7 @@ use values::{KeyRef, NameRef};
 /// A namespace, and a key in it, lent. A contract sees the pair of both.
 #[derive(Drop)]
 pub struct StateKey<'a> {
+    head: Head,
     namespace: NameRef<'a>,
     key: KeyRef<'a>,
 }
@@ -25,7 +28,13 @@ impl<'a> Model for StateKey<'a> {
 
     ghost coded = { key_code };
 
+    ghost use Rattle.std.specs.Prelude.{◌≡◌, IsTrue};
+    ghost use Rattle.values.specs.Name.{is_name};
+    ghost use Rattle.state_keys.specs.Head.{head_of};
+
     ghost view = { λ k. (k.namespace, k.key) };
+
+    ghost invariant = { λ k. (k.head ≡ head_of (k.namespace, k.key)) × IsTrue (is_name k.namespace) };
 }
 
 impl<'a> StateKey<'a> {
@@ -33,6 +42,7 @@ impl<'a> StateKey<'a> {
         ensures { result ≡ (namespace.now, key.now) }
     {
         StateKey {
+            head: head_of(namespace.as_slice(), key.as_slice()),
             namespace: namespace.again(),
             key: key.again(),
         }
@@ -55,25 +65,35 @@ impl<'a> StateKey<'a> {
         ensures { result ≡ self.now }
     {
         StateKey {
+            head: self.head,
             namespace: self.namespace.again(),
             key: self.key.again(),
         }
     }
 
-    /// Whether both are the same key. Linear in their bytes.
+    /// The key, to be looked for.
+    pub fn wanted(&self) -> Wanted<'_>
+        ensures { result ≡ self.now }
+    {
+        Wanted::with_head(self.head, &self.namespace, self.key.as_slice())
+    }
+
+    /// Whether both are the same key. Linear in their bytes where their heads are the same, and lack some.
     pub fn is_same(&self, other: &StateKey<'_>) -> bool
         ensures { result ≡ is_same_key self.now other.now }
     {
-        self.key.is_same(&other.key) && self.namespace.is_same(&other.namespace)
+        self.order(other).is_eq()
     }
 
-    /// By the namespace's bytes, then by the key's.
+    /// By the namespace's bytes, then by the key's. Looks at them only where the heads don't tell.
     pub fn order(&self, other: &StateKey<'_>) -> Ordering
         ensures { result ≡ key_cmp self.now other.now }
     {
-        match self.namespace.as_slice().cmp(&other.namespace.as_slice()) {
-            Ordering::Equal => self.key.as_slice().cmp(&other.key.as_slice()),
-            other => other,
+        match order_by_heads(&self.head, &other.head) {
+            Some(order) => order,
+            None => other
+                .wanted()
+                .order_of(self.namespace.as_slice(), self.key.as_slice()),
         }
     }
 }

@@ -16,7 +16,7 @@ use Rattle.rules.specs.State.{StateKey, key_cmp}
 use Rattle.rules.proofs.Booleans.{both_true}
 use Rattle.rules.proofs.Keys.{key_cmp_total}
 use Rattle.std.specs.FinMap.{slice_cmp-IsAntisymmetric, nat_cmp-IsAntisymmetric}
-use Rattle.state_db.specs.Head.{spelled, padded, head_of, is_whole}
+use Rattle.state_keys.specs.Head.{spelled, padded, head_of, is_whole}
 
 -- ---- a head by its bytes
 

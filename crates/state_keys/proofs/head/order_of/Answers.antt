@@ -2,9 +2,9 @@ use Rattle.std.proofs.Common.{◌≡◌, ◌+◌, drop, sym, ap, ◌∙◌, arit
 use Rattle.std.specs.declared.cmp.Ordering.{Ordering}
 use Rattle.std.specs.Ordering.{nat_cmp, ordering_then}
 use Rattle.values.specs.Order.{bytes_cmp}
-use Rattle.state_db.specs.Head.{word_at}
-use Rattle.state_db.proofs.Words.{at_word, decides, passes}
-use Rattle.state_db.proofs.head.order_of.Goals as goal
+use Rattle.state_keys.specs.Head.{word_at}
+use Rattle.state_keys.proofs.Words.{at_word, decides, passes}
+use Rattle.state_keys.proofs.head.order_of.Goals as goal
 
 pub returns-then-is_ne : goal.returns-then-is_ne
 returns-then-is_ne c =

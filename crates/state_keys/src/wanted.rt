@@ -1,16 +1,16 @@
 ghost use Rattle.std.specs.Prelude.{◌≡◌, false, IsTrue, IfSome, IfNone};
 ghost use Rattle.values.specs.Name.{is_name};
 ghost use Rattle.rules.specs.State.{StateKey, key_cmp};
-ghost use Rattle.state_db.specs.Head.{head_of, is_whole};
+ghost use Rattle.state_keys.specs.Head.{head_of, is_whole};
 
-use crate::head::{Head, head_of, is_whole, order_of};
+use crate::head::{Head, head_of, order_by_heads};
 use std::cmp::Ordering;
 use std::marker::Model;
 use values::NameRef;
 
-/// A key that is looked for, lent, with its head. A contract sees the key.
+/// A key that is looked for, or a bound, lent, with its head. A contract sees the namespace with the bytes.
 #[derive(Drop)]
-pub(crate) struct Wanted<'a> {
+pub struct Wanted<'a> {
     head: Head,
     namespace: &'a [u8],
     key: &'a [u8],
@@ -23,7 +23,7 @@ impl<'a> Model for Wanted<'a> {
 
     ghost use Rattle.std.specs.Prelude.{◌≡◌, IsTrue};
     ghost use Rattle.values.specs.Name.{is_name};
-    ghost use Rattle.state_db.specs.Head.{head_of};
+    ghost use Rattle.state_keys.specs.Head.{head_of};
 
     ghost view = { λ w. (w.namespace.now, w.key.now) };
 
@@ -56,11 +56,7 @@ impl<'a> Wanted<'a> {
         ensures told { (k : StateKey) → IsTrue (is_name k.0) → head.now ≡ head_of k → IfSome result (λ order. order ≡ key_cmp k self.now) }
         ensures same { IfNone result ((head.now ≡ head_of self.now) × (is_whole head.now ≡ false)) }
     {
-        let order = order_of(head, &self.head);
-        if order.is_eq() && !is_whole(head) {
-            return None;
-        }
-        Some(order)
+        order_by_heads(head, &self.head)
     }
 
     /// How a key stands to this one.

@@ -1,17 +1,19 @@
 //! The first bytes of a key, which mostly tell its order among others without a look at the key.
-ghost use Rattle.std.specs.Prelude.{◌≡◌, ◌<◌, ◌≤◌, ◌+◌, ℕ, get_or, length, min};
+ghost use Rattle.std.specs.Prelude.{◌≡◌, ◌<◌, ◌≤◌, ◌+◌, ℕ, false, IsTrue, IfSome, IfNone, get_or, length, min};
 ghost use Rattle.values.specs.Order.{bytes_cmp};
-ghost use Rattle.state_db.specs.Head.{spelled, head_of, word_at, is_whole};
+ghost use Rattle.values.specs.Name.{is_name};
+ghost use Rattle.rules.specs.State.{StateKey, key_cmp};
+ghost use Rattle.state_keys.specs.Head.{spelled, head_of, word_at, is_whole};
 
 use std::cmp::Ordering;
 
-/// How many bytes of a key stand beside its row.
+/// How many bytes of a key stand in its head.
 const KEY_BYTES: usize = 23;
 
 /// One byte more tells how many the key has, up to this number.
-pub(crate) const HEAD_BYTES: usize = KEY_BYTES + 1;
+pub const HEAD_BYTES: usize = KEY_BYTES + 1;
 
-pub(crate) type Head = [u8; HEAD_BYTES];
+pub type Head = [u8; HEAD_BYTES];
 
 /// The head with these bytes from a place on, as far as they fit before the count.
 fn with_bytes(mut head: Head, from: usize, bytes: &[u8]) -> Head
@@ -36,7 +38,8 @@ fn count_of(namespace: &[u8], key: &[u8]) -> u8
     most.min(HEAD_BYTES) as u8
 }
 
-pub(crate) fn head_of(namespace: &[u8], key: &[u8]) -> Head
+/// The head of a key: the first 23 bytes of its namespace, a zero and the key, and how many there are.
+pub fn head_of(namespace: &[u8], key: &[u8]) -> Head
     ensures { result ≡ head_of (namespace.now, key.now) }
 {
     // behind the namespace a zero
@@ -48,7 +51,7 @@ pub(crate) fn head_of(namespace: &[u8], key: &[u8]) -> Head
 }
 
 /// Whether the head has all bytes of its key, and so tells the key.
-pub(crate) fn is_whole(head: &Head) -> bool
+fn is_whole(head: &Head) -> bool
     ensures { result ≡ is_whole head.now }
 {
     head[KEY_BYTES] as usize <= KEY_BYTES
@@ -72,7 +75,7 @@ fn word_at(head: &Head, place: usize) -> u64
 }
 
 /// How a head stands to another, by words of them.
-pub(crate) fn order_of(head: &Head, other: &Head) -> Ordering
+fn order_of(head: &Head, other: &Head) -> Ordering
     ensures { result ≡ bytes_cmp head.now other.now }
 {
     let mut place = 0;
@@ -84,4 +87,16 @@ pub(crate) fn order_of(head: &Head, other: &Head) -> Ordering
         place += 8;
     }
     Ordering::Equal
+}
+
+/// How keys with these heads stand to one another, or `None` where the heads don't tell.
+pub(crate) fn order_by_heads(head: &Head, other: &Head) -> Option<Ordering>
+    ensures told { (a b : StateKey) → IsTrue (is_name a.0) → IsTrue (is_name b.0) → head.now ≡ head_of a → other.now ≡ head_of b → IfSome result (λ order. order ≡ key_cmp a b) }
+    ensures same { IfNone result ((head.now ≡ other.now) × (is_whole head.now ≡ false)) }
+{
+    let order = order_of(head, other);
+    if order.is_eq() && !is_whole(head) {
+        return None;
+    }
+    Some(order)
 }

@@ -1,0 +1,4 @@
+pub mod Answers
+mod Heads
+mod Words
+mod Worked
