@@ -11,6 +11,10 @@ policy asks for; signatures are verified before anything is timed.
 
 Times are the least of five runs, in each of which everything is done ten times. It fails where one worker takes more than
 1.3 times the loop, or four are less than 2.5 times faster than one where transactions are independent.
+
+Behind them stands the limit of the machine: how many times the loops of one process are done in its time by four that
+share nothing. Where that is less than 2.5, four workers can't reach it either. Last comes the load that the machine had before
+and after, and what part of its time was stolen from it.
 """
 
 import pathlib
@@ -18,7 +22,7 @@ import subprocess
 import sys
 import tempfile
 
-from scratch import RUNS, build
+from scratch import RUNS, Machine, build
 from encoding import Namespace, Tx, data_hash, header_hash, identity, spelled_block, spelled_tx, tx_id
 from signing import Keys
 
@@ -29,8 +33,8 @@ CHANNEL = "channel ch\nchaincode cc AND('Org1.peer','Org2.peer')\n"
 CREATOR, PEERS = "Org1:client:c0", ["Org1:peer:p0", "Org2:peer:q0"]
 KEYS = "".join(f"{who} {number:02x}{'5a' * 31}\n" for number, who in enumerate([CREATOR] + PEERS))
 
-# Takes the first block, and times the checks of the second one: a line of nanoseconds for each time, and last the number
-# of valid transactions and how many verdicts no worker found.
+# Takes the first block, and times the checks of each other one. Behind `all` that is a line of nanoseconds for each time, and
+# last the number of valid transactions and how many verdicts no worker found; behind `loops` the nanoseconds of many loops.
 PROGRAM = r"""
 #![tactic(auto)]
 
@@ -54,6 +58,7 @@ use std::time::{Clock, Instant};
 use std::{env, fs, thread};
 
 const TIMES: u32 = 10;
+const LOOPS: u32 = 1000;
 
 fn start_and_join<R: Threads + Wait + Sync>(rt: &R) {
     thread::scope(
@@ -129,9 +134,20 @@ fn time_all<R: Clock + Print + Threads + Wait + Sync>(rt: &R, alloc: Global, job
     Ok(())
 }
 
+fn time_loops<R: Clock + Print>(rt: &R, alloc: Global, job: &Job<'_>) -> anyhow::Result<()> {
+    let start = Instant::now(rt)?;
+    for _ in 0..LOOPS {
+        let _flags = serial_checks::flags(alloc, job)?;
+    }
+    let nanos = start.elapsed(rt)?.as_nanos();
+    println!(rt; "{nanos}")?;
+    Ok(())
+}
+
 fn time_block<R: Clock + Print + Threads + Wait + Sync>(
     rt: &R,
     alloc: Global,
+    are_loops: bool,
     channel: &Channel,
     ledger: &Ledger,
     keys: &KeyBook,
@@ -147,7 +163,11 @@ fn time_block<R: Clock + Print + Threads + Wait + Sync>(
         bail!("too many");
     }
     let job = Job::build(alloc, 1, ledger.view().state(), channel.definitions(), candidates)?;
-    time_all(rt, alloc, &job)
+    if are_loops {
+        time_loops(rt, alloc, &job)
+    } else {
+        time_all(rt, alloc, &job)
+    }
 }
 
 fn text(bytes: &[u8]) -> anyhow::Result<&str> {
@@ -182,9 +202,14 @@ fn main(rt: HostRuntime) -> anyhow::Result<()> {
         bail!("refused");
     }
     let channel = channel(alloc, &channel_bytes)?;
-    for path in env::args(&rt)?.skip(1) {
+    let mut words = env::args(&rt)?.skip(1);
+    let Some(way) = words.next() else {
+        bail!("no way");
+    };
+    let are_loops = way.as_str() == "loops";
+    for path in words {
         let bytes = fs::read(&rt, path.as_str())?;
-        time_block(&rt, alloc, &channel, &ledger, &keys, &bytes)?;
+        time_block(&rt, alloc, are_loops, &channel, &ledger, &keys, &bytes)?;
     }
     Ok(())
 }
@@ -230,7 +255,7 @@ def times(program, folder, name):
     """The least nanoseconds of each thing that is timed."""
     lines = []
     for _ in range(RUNS):
-        done = subprocess.run([program, f"{name}.blk"], cwd=folder, capture_output=True, text=True, check=False)
+        done = subprocess.run([program, "all", f"{name}.blk"], cwd=folder, capture_output=True, text=True, check=False)
         run = [tuple(map(int, line.split())) for line in done.stdout.splitlines()]
         if done.returncode != 0 or not run:
             sys.exit(f"the run failed: {done.stdout[-300:]}{done.stderr[-300:]}")
@@ -239,7 +264,21 @@ def times(program, folder, name):
     return dict(zip(TIMED, map(min, zip(*lines)))), valid, gathered
 
 
+def loops(program, folder, count):
+    """The least mean of the nanoseconds in which each of so many processes at once does its loops."""
+    means = []
+    for _ in range(RUNS):
+        all_of_them = [
+            subprocess.Popen([program, "loops", "independent.blk"], cwd=folder, stdout=subprocess.PIPE, text=True)
+            for _ in range(count)
+        ]
+        took = [int(process.communicate()[0]) for process in all_of_them]
+        means.append(sum(took) / count)
+    return min(means)
+
+
 def main():
+    machine = Machine()
     with tempfile.TemporaryDirectory() as name:
         folder = pathlib.Path(name)
         program = build(folder / "program", "checks", PROGRAM, own=CRATES, kit=["anyhow"])
@@ -248,10 +287,13 @@ def main():
             found[name], valid, gathered = times(program, folder, name)
             told = ", ".join(f"{what} {nanos / 1000:,.0f}" for what, nanos in found[name].items())
             print(f"{name:>12} {count:>5,} (µs): {told}; valid {valid:,}, gathered {gathered}", flush=True)
+        limit = 4 * loops(program, folder, 1) / loops(program, folder, 4)
     independent, chain = found["independent"], found["chain"]
     beside_loop = max(case["1"] / case["loop"] for case in (independent, chain))
     faster = independent["1"] / independent["4"]
     print(f"one worker takes {beside_loop:.2f} times the loop, four are {faster:.2f} times faster than one")
+    print(f"four loops by processes of their own are done {limit:.2f} times as fast as one after the other")
+    print(machine)
     if beside_loop > ONE_WORKER or faster < FOUR_WORKERS:
         sys.exit("more than is promised")
 

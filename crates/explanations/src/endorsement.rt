@@ -1,11 +1,12 @@
 //! Why signers may not write what a transaction writes.
-ghost use Rattle.std.specs.Prelude.{◌≡◌, ◌≤◌, None, Some, IfOk, IfSome, not, find, length};
+ghost use Rattle.std.specs.Prelude.{◌≡◌, ◌≤◌, None, Some, IfOk, IfSome, MatchOption, true, false, not, find, length};
 ghost use Rattle.transaction.specs.declared.transaction.Tx as tx_of;
 ghost use Rattle.rules.specs.Fold.{running};
 ghost use Rattle.rules.specs.Endorsement as rule;
 ghost use Rattle.reasons.specs.declared.endorsement_fault.EndorsementFault as fault_of;
 ghost use Rattle.reasons.specs.declared.endorsement_fault.EndorsementFault.TheVariants.{Touched, Unsatisfied};
-ghost use Rattle.reasons.specs.Endorsement.{first_barred, IsEndorsementFault};
+ghost use Rattle.reasons.specs.First.{first_below};
+ghost use Rattle.reasons.specs.Endorsement.{touches, first_barred, IsEndorsementFault};
 ghost use Rattle.serial_checks.specs.Shown.{Shows};
 
 use crate::touchers::first_toucher;
@@ -40,23 +41,36 @@ fn copied(alloc: Global, signers: &Signers<'_>) -> Result<Items<OwnedIdentity>, 
     Ok(Items::from_vec(copied))
 }
 
-/// Whether the signers may write the key, as candidate i.
-fn may_write(
+/// A key that signers may not write, and who touched it first.
+#[derive(Drop)]
+struct BarredKey<'a> {
+    key: StateKey<'a>,
+    toucher: Option<u32>,
+}
+
+/// A key, if the signers may not write it as candidate i.
+fn barred<'a>(
     job: &Job<'_>,
     i: u32,
     signers: &Signers<'_>,
-    key: &StateKey<'_>,
+    key: &StateKey<'a>,
     board: &PlainBoard,
-) -> bool
+) -> Option<BarredKey<'a>>
     requires place { i ≤ length job.now.candidates }
     requires shown { Shows job.now board.now }
-    ensures { result ≡ rule.may_write job.now.definitions job.now.state (running job.now i).touched signers.now key.now }
+    ensures { MatchOption result (rule.may_write job.now.definitions job.now.state (running job.now i).touched signers.now key.now ≡ true) (λ b.
+        (rule.may_write job.now.definitions job.now.state (running job.now i).touched signers.now key.now ≡ false)
+        × (b.key ≡ key.now) × (b.toucher ≡ first_below (touches job.now key.now) i)) }
 {
     touched_keys_have_a_toucher();
-    match first_toucher(job, i, key, board) {
-        Some(_) => false,
-        None => meets(signers, governing(job, key)),
+    let toucher = first_toucher(job, i, key, board);
+    if toucher.is_none() && meets(signers, governing(job, key)) {
+        return None;
     }
+    Some(BarredKey {
+        key: key.again(),
+        toucher,
+    })
 }
 
 /// The first of these keys that the signers may not write.
@@ -66,14 +80,16 @@ fn first_barred<'a>(
     signers: &Signers<'_>,
     keys: &[StateKey<'a>],
     board: &PlainBoard,
-) -> Option<StateKey<'a>>
+) -> Option<BarredKey<'a>>
     requires place { i ≤ length job.now.candidates }
     requires shown { Shows job.now board.now }
-    ensures { result ≡ find (λ k. not (rule.may_write job.now.definitions job.now.state (running job.now i).touched signers.now k)) keys.now }
+    ensures { MatchOption result (find (λ k. not (rule.may_write job.now.definitions job.now.state (running job.now i).touched signers.now k)) keys.now ≡ None) (λ b.
+        (find (λ k. not (rule.may_write job.now.definitions job.now.state (running job.now i).touched signers.now k)) keys.now ≡ Some b.key)
+        × (b.toucher ≡ first_below (touches job.now b.key) i)) }
 {
     for key in keys {
-        if !may_write(job, i, signers, key, board) {
-            return Some(key.again());
+        if let Some(found) = barred(job, i, signers, key, board) {
+            return Some(found);
         }
     }
     None
@@ -117,15 +133,14 @@ fn key_fault(
     job: &Job<'_>,
     i: u32,
     signers: &Signers<'_>,
-    key: &StateKey<'_>,
-    board: &PlainBoard,
+    barred: &BarredKey<'_>,
 ) -> Result<Option<EndorsementFault>, AllocError>
-    requires place { i ≤ length job.now.candidates }
-    requires shown { Shows job.now board.now }
-    ensures found { IfOk result (λ x. (tx : tx_of.Tx) → first_barred job.now i tx signers.now ≡ Some key.now → IfSome x (λ f. IsEndorsementFault job.now i tx signers.now f)) }
-    ensures none { IfOk result (λ x. x ≡ None → (tx : tx_of.Tx) (f : fault_of.EndorsementFault) → first_barred job.now i tx signers.now ≡ Some key.now → IsEndorsementFault job.now i tx signers.now f → ⊥) }
+    requires { barred.now.toucher ≡ first_below (touches job.now barred.now.key) i }
+    ensures found { IfOk result (λ x. (tx : tx_of.Tx) → first_barred job.now i tx signers.now ≡ Some barred.now.key → IfSome x (λ f. IsEndorsementFault job.now i tx signers.now f)) }
+    ensures none { IfOk result (λ x. x ≡ None → (tx : tx_of.Tx) (f : fault_of.EndorsementFault) → first_barred job.now i tx signers.now ≡ Some barred.now.key → IsEndorsementFault job.now i tx signers.now f → ⊥) }
 {
-    if let Some(place) = first_toucher(job, i, key, board) {
+    let key = &barred.key;
+    if let Some(place) = barred.toucher {
         return touched(alloc, key, place);
     }
     if let Some(policy) = own_policy(job, key) {
@@ -173,7 +188,7 @@ pub(crate) fn endorsement_fault(
 {
     let keys = written_keys(alloc, tx)?;
     match first_barred(job, i, signers, keys.as_slice(), board) {
-        Some(key) => key_fault(alloc, job, i, signers, &key, board),
+        Some(barred) => key_fault(alloc, job, i, signers, &barred),
         None => chaincode_fault(alloc, job, &tx.chaincode, signers),
     }
 }
