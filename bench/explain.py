@@ -32,6 +32,7 @@ class Mixed(Blocks):
     def fill(self):
         plain, own = [key(n) for n in range(STATE - OWN)], [key(n) for n in range(STATE - OWN, STATE)]
         self.add([self.tx(writes=plain), self.tx(writes=own, policies=own)])
+        self.add([self.tx(writes=[key(STATE)])])
         self.version = lambda n: (0, 0) if n < STATE - OWN else (0, 1)
 
     def drawn(self):
