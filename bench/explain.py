@@ -34,6 +34,7 @@ class Mixed(Blocks):
         self.add([self.tx(writes=plain), self.tx(writes=own, policies=own)])
         self.add([self.tx(writes=[key(STATE)])])
         self.version = lambda n: (0, 0) if n < STATE - OWN else (0, 1)
+        self.setup = self.number
 
     def drawn(self):
         """Of the first part, to be read; those behind it are written."""
@@ -131,7 +132,8 @@ WORKLOADS = {
 
 
 def told(program, name, blocks):
-    submit, explain = (for_one(timed(program, way, blocks, TIMES)[0], blocks) for way in ("ledger", "explain"))
+    found = timed(program, [("ledger", blocks), ("explain", blocks)], TIMES)
+    submit, explain = (for_one(runs, blocks) for runs, _ in found)
     print(f"{name:>15} {submit:>12,.1f} {explain:>14,.1f} {explain / submit:>7.2f}", flush=True)
 
 

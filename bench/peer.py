@@ -2,9 +2,9 @@
 """Times a peer by its workers: transactions a second, memory, and how far that is from hashing alone.
 
 Run as `bench/peer.py [WORKLOAD ..]` from anywhere, on a quiet machine with four cores that has the kit; it needs 4 GB under
-TMPDIR. It builds a program over the repository's crates in a scratch folder, which hands the blocks of a workload in: the
-first two by themselves, and all others at once, to `run` of a `commit::Committer` of 1, 2 and 4 workers; or one by one to the
-`commit::Ledger`, which has one thread and none to start.
+TMPDIR. It builds a program over the repository's crates in a scratch folder, which hands the blocks of a workload in: those
+that make its state by themselves, and all others at once, to `run` of a `commit::Committer` of 1, 2 and 4 workers; or one by
+one to the `commit::Ledger`, which has one thread and none to start. A state is made by blocks of at most 50,000 keys.
 
 Each transaction has two endorsements, which its policy asks for; values are of 100 bytes, keys of 16. The seed is fixed.
 
@@ -31,8 +31,9 @@ A second table has the time for one transaction with one worker, to whom blocks 
 block, the length of the chain and the keys of the state; the slope is that of its logarithm by theirs: 0 where it doesn't
 grow.
 
-Times are the least of five runs; `memory` is the most of a run with four workers, in MB. Behind both tables it says what
-load the machine had before and after, and what part of its time was stolen from it.
+Times are the least of five runs, or of as many as RUNS says in the environment; what stands in one line takes turns in them.
+`memory` is the most of a run with four workers, in MB. Behind both tables it says what load the machine had before and after,
+and what part of its time was stolen from it.
 """
 
 import math
@@ -49,17 +50,17 @@ from signing import Keys
 
 CRATES = ["block", "transaction", "values", "header_hash", "key_book", "gates", "commit"]
 WORKERS = [1, 2, 4]
-# The blocks that make the state, handed in by themselves: the program has the same number.
-SETUP = 2
+# How many keys a transaction writes that makes the state, and how many of them a block has.
+STEP, STEPS = 2500, 20
 CHANNEL = "channel ch\nchaincode cc AND('Org1.peer','Org2.peer')\n"
 CREATOR, PEERS = "Org1:client:c0", ["Org1:peer:p0", "Org2:peer:q0"]
 KEYS = "".join(f"{who} {number:02x}{'5a' * 31}\n" for number, who in enumerate([CREATOR] + PEERS))
 VALUE = b"v" * 100
 POLICY = b"AND('Org1.peer','Org2.peer')"
 
-# Its words are `hash`, `ledger`, `explain`, `submit`, or for `run` the number of workers, and files of blocks. For each it prints the
-# nanoseconds that it took, or that its hashing took, and how many of its transactions are valid; for `run` that of the first two,
-# and that of all others together.
+# Its words are `hash`, `ledger`, `explain`, `submit`, or for `run` the number of workers; how many blocks make the state; and files
+# of blocks. For each it prints the nanoseconds that it took, or that its hashing took, and how many of its transactions are valid;
+# for `run` that of each that makes the state, and that of all others together.
 PROGRAM = r"""
 #![tactic(auto)]
 
@@ -78,9 +79,6 @@ use std::time::{Clock, Instant};
 use std::{env, fs};
 use transaction::{SpelledTx, append_identity, decode_tx, encode_body};
 use values::{Bytes, Slice};
-
-// The blocks that make the state.
-const SETUP: usize = 2;
 
 fn copied(alloc: Global, parts: &[&[u8]]) -> anyhow::Result<Vec<u8>> {
     let mut bytes = Vec::new(alloc);
@@ -252,17 +250,31 @@ fn submit_to_ledger<R: AllocGlobal + Files + Clock + Print>(rt: &R, is_explained
     Ok(())
 }
 
-fn run_all<R: AllocGlobal + Files + Clock + Print + Threads + Wait + Sync>(
+fn submit_to<R: AllocGlobal + Files + Clock + Print + Threads + Wait + Sync>(
     rt: &R,
     committer: &mut Committer,
     paths: &[String],
 ) -> anyhow::Result<()> {
     let keys = key_book(rt)?;
-    let (setup, others) = paths.split_at(SETUP.min(paths.len()));
-    for path in setup {
+    for path in paths {
         let bytes = fs::read(rt, path.as_str())?;
         by_committer(rt, committer, &keys, &bytes)?;
     }
+    Ok(())
+}
+
+fn run_all<R: AllocGlobal + Files + Clock + Print + Threads + Wait + Sync>(
+    rt: &R,
+    committer: &mut Committer,
+    setup: usize,
+    paths: &[String],
+) -> anyhow::Result<()> {
+    let (first, others) = paths.split_at(setup.min(paths.len()));
+    submit_to(rt, committer, first)?;
+    if others.is_empty() {
+        return Ok(());
+    }
+    let keys = key_book(rt)?;
     let mut blocks = Vec::new(rt.alloc());
     for path in others {
         blocks.push(Bytes::from_vec(fs::read(rt, path.as_str())?))?;
@@ -281,41 +293,27 @@ fn run_all<R: AllocGlobal + Files + Clock + Print + Threads + Wait + Sync>(
     Ok(())
 }
 
-fn submit_to<R: AllocGlobal + Files + Clock + Print + Threads + Wait + Sync>(
-    rt: &R,
-    committer: &mut Committer,
-    paths: &[String],
-) -> anyhow::Result<()> {
-    let keys = key_book(rt)?;
-    for path in paths {
-        let bytes = fs::read(rt, path.as_str())?;
-        by_committer(rt, committer, &keys, &bytes)?;
-    }
-    Ok(())
-}
-
 fn submit_to_committer<R: AllocGlobal + Files + Clock + Print + Threads + Wait + Sync>(
     rt: &R,
     workers: usize,
-    is_run: bool,
+    setup: usize,
     paths: &[String],
 ) -> anyhow::Result<()> {
     let Ok((mut committer, _handles)) = Committer::open(rt.alloc(), rt, channel(rt)?, workers, 0) else {
         bail!("no committer");
     };
-    let ended = if is_run {
-        run_all(rt, &mut committer, paths)
-    } else {
-        submit_to(rt, &mut committer, paths)
-    };
+    let ended = run_all(rt, &mut committer, setup, paths);
     committer.close(rt);
     ended
 }
 
 fn main(rt: HostRuntime) -> anyhow::Result<()> {
     let mut words = env::args(&rt)?.skip(1);
-    let Some(way) = words.next() else {
+    let (Some(way), Some(setup)) = (words.next(), words.next()) else {
         bail!("no way");
+    };
+    let Ok(setup) = setup.as_str().parse::<usize>() else {
+        bail!("no number");
     };
     let mut paths = Vec::new(rt.alloc());
     for path in words {
@@ -325,10 +323,10 @@ fn main(rt: HostRuntime) -> anyhow::Result<()> {
         "hash" => hash_blocks(&rt, &paths),
         "ledger" => submit_to_ledger(&rt, false, &paths),
         "explain" => submit_to_ledger(&rt, true, &paths),
-        "submit" => submit_to_committer(&rt, 1, false, &paths),
-        "1" => submit_to_committer(&rt, 1, true, &paths),
-        "2" => submit_to_committer(&rt, 2, true, &paths),
-        "4" => submit_to_committer(&rt, 4, true, &paths),
+        "submit" => submit_to_committer(&rt, 1, paths.len(), &paths),
+        "1" => submit_to_committer(&rt, 1, setup, &paths),
+        "2" => submit_to_committer(&rt, 2, setup, &paths),
+        "4" => submit_to_committer(&rt, 4, setup, &paths),
         _ => bail!("no way"),
     }
 }
@@ -340,11 +338,11 @@ def key(number):
 
 
 class Blocks:
-    """Linked blocks as files of a folder, the first two of which make the state that the others find."""
+    """Linked blocks as files of a folder, of which the first ones, `setup`, make the state that the others find."""
 
     def __init__(self, folder, state):
         self.folder, self.keys, self.previous, self.paths, self.nonce = folder, Keys(KEYS), b"", [], 0
-        self.random, self.state, self.sizes = random.Random(1), state, []
+        self.random, self.state, self.sizes, self.setup = random.Random(1), state, [], 0
         folder.mkdir()
         (folder / "channel.txt").write_text(CHANNEL)
         (folder / "keys.txt").write_text(KEYS)
@@ -376,13 +374,14 @@ class Blocks:
         self.sizes.append(len(txs))
 
     def fill(self, with_policies=False):
-        """Block 0 writes all keys, 2,500 a transaction; their versions. Block 1, in which the committer's other world catches
-        up with it, writes one more."""
-        step = 2500
-        parts = [[key(n) for n in range(start, min(start + step, self.state))] for start in range(0, self.state, step)]
-        self.add([self.tx(writes=part, policies=part if with_policies else ()) for part in parts])
-        self.version = lambda n: (0, n // step)
+        """Writes all keys; their versions. The last block, in which the committer's other world catches up, writes one more."""
+        for block in range(0, self.state, STEP * STEPS):
+            parts = [[key(n) for n in range(first, min(first + STEP, self.state))]
+                     for first in range(block, min(block + STEP * STEPS, self.state), STEP)]
+            self.add([self.tx(writes=part, policies=part if with_policies else ()) for part in parts])
+        self.version = lambda n: divmod(n // STEP, STEPS)
         self.add([self.tx(writes=[key(self.state)])])
+        self.setup = self.number
 
     def read(self, n):
         return key(n), self.version(n)
@@ -479,36 +478,44 @@ WORKLOADS = {
 }
 
 
-def timed(program, way, blocks, times=RUNS):
-    """For each line the least nanoseconds of so many runs, and the most memory of one, in KB."""
-    runs, memory = [], 0
-    for _ in range(times):
-        process = subprocess.Popen([program, way, *blocks.paths], cwd=blocks.folder, stdout=subprocess.PIPE, text=True)
-        lines = [int(line.split()[0]) for line in process.stdout]
-        _, status, usage = os.wait4(process.pid, 0)
-        if status != 0 or not lines:
-            sys.exit(f"the run of {way} failed: {status}")
-        runs.append(lines)
-        memory = max(memory, usage.ru_maxrss)
-    return [min(each) for each in zip(*runs)], memory
+def run(program, way, blocks):
+    """The nanoseconds of each line, and the memory in KB."""
+    words = [program, way, str(blocks.setup), *blocks.paths]
+    process = subprocess.Popen(words, cwd=blocks.folder, stdout=subprocess.PIPE, text=True)
+    lines = [int(line.split()[0]) for line in process.stdout]
+    _, status, usage = os.wait4(process.pid, 0)
+    if status != 0 or not lines:
+        sys.exit(f"the run of {way} failed: {status}")
+    return lines, usage.ru_maxrss
 
 
-def for_one(nanos, blocks, first=SETUP):
-    """The microseconds for a transaction, over all blocks from the first one on."""
-    return sum(nanos[first:]) / sum(blocks.sizes[first:]) / 1000
+def timed(program, asked, times=RUNS):
+    """For each way and its blocks the nanoseconds of the lines of so many runs, and the most memory of one, in KB.
+
+    They take turns, so that a machine whose speed changes changes it for all of them.
+    """
+    rounds = [[run(program, way, blocks) for way, blocks in asked] for _ in range(times)]
+    return [([lines for lines, _ in runs], max(memory for _, memory in runs)) for runs in zip(*rounds)]
+
+
+def least(runs, part, count):
+    """The microseconds for one of so many transactions, which a part of the lines is of: the least of the runs."""
+    return min(sum(lines[part]) for lines in runs) / count / 1000
+
+
+def for_one(runs, blocks):
+    """The microseconds for a transaction, over all blocks behind those that make the state."""
+    behind = slice(blocks.setup, None)
+    return least(runs, behind, sum(blocks.sizes[behind]))
 
 
 def told(program, name, blocks):
-    hashing = for_one(timed(program, "hash", blocks)[0], blocks)
-    ledger = for_one(timed(program, "ledger", blocks)[0], blocks)
-    explain = for_one(timed(program, "explain", blocks)[0], blocks)
-    each = []
-    for workers in WORKERS:
-        nanos, memory = timed(program, str(workers), blocks)
-        each.append(for_one(nanos, blocks))
+    found = timed(program, [(way, blocks) for way in ("hash", "ledger", "explain", *map(str, WORKERS))])
+    hashing, ledger, explain, *each = [for_one(runs, blocks) for runs, _ in found]
     rates = " ".join(f"{1_000_000 / time:>8,.0f}" for time in each)
     faster = " ".join(f"{each[0] / time:.2f}" for time in each[1:])
-    print(f"{name:>10} {hashing:>8.1f} {ledger:>7.1f} {explain:>7.1f} {each[0]:>7.1f} {each[0] / hashing:>6.2f} {rates} {faster:>10} {memory // 1000:>7,}", flush=True)
+    memory = found[-1][1] // 1000
+    print(f"{name:>10} {hashing:>8.1f} {ledger:>7.1f} {explain:>7.1f} {each[0]:>7.1f} {each[0] / hashing:>6.2f} {rates} {faster:>10} {memory:>7,}", flush=True)
 
 
 def slope(found):
@@ -525,15 +532,16 @@ def grows(title, found, least=0):
 
 def by_size(program, folder, state):
     """All sizes over one state, so that the dear one is made once."""
-    blocks, found, first = Blocks(folder / f"size{state}", state), {}, SETUP
+    blocks, found = Blocks(folder / f"size{state}", state), {}
     sizes = {1: 40, 10: 40, 100: 20, 1000: 8, 4096: 4}
     mixed(blocks, 0, 0)
+    first = blocks.setup
     for size, count in sizes.items():
         for _ in range(count):
             blocks.mixed(size)
-    nanos = timed(program, "submit", blocks)[0]
+    [(runs, _)] = timed(program, [("submit", blocks)])
     for size, count in sizes.items():
-        found[size] = sum(nanos[first:first + count]) / (size * count) / 1000
+        found[size] = least(runs, slice(first, first + count), size * count)
         first += count
     grows(f"by transactions of a block, over {state:,} keys, slope from 100 on", found, 100)
 
@@ -541,39 +549,39 @@ def by_size(program, folder, state):
 def by_length(program, folder):
     blocks = Blocks(folder / "length", 2000)
     mixed(blocks, 10_000, 10)
-    nanos, found = timed(program, "submit", blocks)[0], {}
+    [(runs, _)], found = timed(program, [("submit", blocks)]), {}
     for length in (100, 1000, 10_000):
-        found[length] = sum(nanos[length - 90:length]) / 900 / 1000
+        found[length] = least(runs, slice(length - 90, length), 900)
     grows("by blocks before", found)
 
 
 def by_state(program, folder):
-    found = {}
+    asked = []
     for state in (1000, 10_000, 100_000, 1_000_000):
         blocks = Blocks(folder / f"state{state}", state)
         mixed(blocks, 10, 500)
-        found[state] = for_one(timed(program, "submit", blocks)[0], blocks)
-    grows("by keys of the state", found)
+        asked.append(("submit", blocks))
+    found = timed(program, asked)
+    grows("by keys of the state", {blocks.state: for_one(runs, blocks) for (_, blocks), (runs, _) in zip(asked, found)})
 
 
 def at_once(program, blocks, count):
     """The microseconds for a transaction in which so many processes, each for itself, hash the blocks at once."""
-    least = math.inf
-    for _ in range(RUNS):
-        all_of_them = [subprocess.Popen([program, "hash", *blocks.paths], cwd=blocks.folder, stdout=subprocess.PIPE, text=True) for _ in range(count)]
-        took = [sum(int(line.split()[0]) for line in process.stdout) for process in all_of_them]
-        for process in all_of_them:
-            if process.wait() != 0:
-                sys.exit("a run of hash failed")
-        least = min(least, sum(took) / count / count / sum(blocks.sizes) / 1000)
-    return least
+    words = [program, "hash", str(blocks.setup), *blocks.paths]
+    all_of_them = [subprocess.Popen(words, cwd=blocks.folder, stdout=subprocess.PIPE, text=True) for _ in range(count)]
+    took = [sum(int(line.split()[0]) for line in process.stdout) for process in all_of_them]
+    for process in all_of_them:
+        if process.wait() != 0:
+            sys.exit("a run of hash failed")
+    return sum(took) / count / count / sum(blocks.sizes) / 1000
 
 
 def limit(program, folder):
     """How much faster this machine hashes by processes that share nothing: no workers can do better."""
     blocks = Blocks(folder / "limit", 2000)
     mixed(blocks, 40, 500)
-    one, *more = [at_once(program, blocks, count) for count in WORKERS]
+    rounds = [[at_once(program, blocks, count) for count in WORKERS] for _ in range(RUNS)]
+    one, *more = [min(times) for times in zip(*rounds)]
     faster = ", ".join(f"{count}: {one / time:.2f}" for count, time in zip(WORKERS[1:], more))
     print(f"how much faster processes of their own hash: {faster}", flush=True)
 

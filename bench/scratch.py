@@ -1,4 +1,4 @@
-"""What the benchmarks share: programs that are built outside the repository, the least of five runs, the machine's load.
+"""What the benchmarks share: programs that are built outside the repository, the least of five runs or RUNS, the machine's load.
 
 Who imports it finds the modules of `vectors/` too.
 """
@@ -10,7 +10,7 @@ import subprocess
 import sys
 
 TOP = pathlib.Path(__file__).resolve().parent.parent
-RUNS = 5
+RUNS = int(os.environ.get("RUNS", 5))
 # As the launcher does for the program.
 os.environ.setdefault("GLIBC_TUNABLES", "glibc.malloc.hugetlb=1")
 sys.path.append(str(TOP / "vectors"))

@@ -299,15 +299,18 @@ def ran(program, blocks, states):
     return printed, usage.ru_maxrss / 1024
 
 
-def least(program, blocks):
-    """The least microseconds of each kind, over the runs and, of batches, over those of a run."""
-    best = {}
-    for _ in range(RUNS):
+def least(program):
+    """For each size the least microseconds of each kind, over the runs and, of batches, over those of a run.
+
+    The sizes take turns, so that a machine whose speed changes changes it for all of them.
+    """
+    best = {blocks: {} for blocks in BLOCKS}
+    for blocks in BLOCKS * RUNS:
         for line in ran(program, blocks, 1)[0].splitlines():
             kind, number = line.split()
             if kind in COUNTS:
                 micros = int(number) / COUNTS[kind]
-                best[kind] = min(micros, best.get(kind, micros))
+                best[blocks][kind] = min(micros, best[blocks].get(kind, micros))
     return best
 
 
@@ -315,9 +318,8 @@ def main():
     machine = Machine()
     with tempfile.TemporaryDirectory() as folder:
         program = build(pathlib.Path(folder), "state_bench", PROGRAM, CRATES, ["anyhow"])
-        times = {}
+        times = least(program)
         for blocks in BLOCKS:
-            times[blocks] = least(program, blocks)
             told = ", ".join(f"{kind} {micros:.2f} us" for kind, micros in times[blocks].items())
             print(f"{blocks * 1000:>9} rows: {told}")
         one = ran(program, BLOCKS[-1], 2)[1]

@@ -265,16 +265,16 @@ def times(program, folder, name):
 
 
 def loops(program, folder, count):
-    """The least mean of the nanoseconds in which each of so many processes at once does its loops."""
-    means = []
-    for _ in range(RUNS):
-        all_of_them = [
-            subprocess.Popen([program, "loops", "independent.blk"], cwd=folder, stdout=subprocess.PIPE, text=True)
-            for _ in range(count)
-        ]
-        took = [int(process.communicate()[0]) for process in all_of_them]
-        means.append(sum(took) / count)
-    return min(means)
+    """The mean of the nanoseconds in which each of so many processes at once does its loops."""
+    words = [program, "loops", "independent.blk"]
+    all_of_them = [subprocess.Popen(words, cwd=folder, stdout=subprocess.PIPE, text=True) for _ in range(count)]
+    return sum(int(process.communicate()[0]) for process in all_of_them) / count
+
+
+def limit(program, folder):
+    """How many times as fast four processes do their loops as one does them one after the other."""
+    one, four = map(min, zip(*[(loops(program, folder, 1), loops(program, folder, 4)) for _ in range(RUNS)]))
+    return 4 * one / four
 
 
 def main():
@@ -287,15 +287,16 @@ def main():
             found[name], valid, gathered = times(program, folder, name)
             told = ", ".join(f"{what} {nanos / 1000:,.0f}" for what, nanos in found[name].items())
             print(f"{name:>12} {count:>5,} (µs): {told}; valid {valid:,}, gathered {gathered}", flush=True)
-        limit = 4 * loops(program, folder, 1) / loops(program, folder, 4)
+        processes = limit(program, folder)
     independent, chain = found["independent"], found["chain"]
     beside_loop = max(case["1"] / case["loop"] for case in (independent, chain))
     faster = independent["1"] / independent["4"]
     print(f"one worker takes {beside_loop:.2f} times the loop, four are {faster:.2f} times faster than one")
-    print(f"four loops by processes of their own are done {limit:.2f} times as fast as one after the other")
+    print(f"four loops by processes of their own are done {processes:.2f} times as fast as one after the other")
     print(machine)
     if beside_loop > ONE_WORKER or faster < FOUR_WORKERS:
         sys.exit("more than is promised")
 
 
-main()
+if __name__ == "__main__":
+    main()
