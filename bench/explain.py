@@ -10,8 +10,9 @@ Run as `bench/explain.py [WORKLOAD ..]` from anywhere, on a quiet machine that h
 - `touched`: a block of 4,096, each of which writes the policy of one key.
 - `repeats 1,024` and so on: a transaction whose reads are so many keys that fall, the last of them twice.
 
-A line has the microseconds for one transaction, and how many times a submit's is an explanation's: the least of two runs.
-Behind all it says what load the machine had before and after, and what part of the processors was stolen meanwhile.
+A line has the microseconds for one transaction, and how many times a submit's is an explanation's: the least of five runs,
+or of as many as RUNS says in the environment, in which both take turns. Behind all it says what load the machine had before
+and after, and what part of its time was stolen from it.
 """
 
 import pathlib
@@ -22,8 +23,7 @@ from peer import CRATES, CREATOR, PEERS, POLICY, PROGRAM, VALUE, Blocks, for_one
 from scratch import Machine, build
 from encoding import Namespace, Tx, identity, spelled_tx, tx_id
 
-STATE, STEP, OWN = 2000, 500, 100
-TIMES = 2
+STATE, OWN = 2000, 100
 
 
 class Mixed(Blocks):
@@ -132,7 +132,7 @@ WORKLOADS = {
 
 
 def told(program, name, blocks):
-    found = timed(program, [("ledger", blocks), ("explain", blocks)], TIMES)
+    found = timed(program, [("ledger", blocks), ("explain", blocks)])
     submit, explain = (for_one(runs, blocks) for runs, _ in found)
     print(f"{name:>15} {submit:>12,.1f} {explain:>14,.1f} {explain / submit:>7.2f}", flush=True)
 

@@ -489,12 +489,12 @@ def run(program, way, blocks):
     return lines, usage.ru_maxrss
 
 
-def timed(program, asked, times=RUNS):
+def timed(program, asked):
     """For each way and its blocks the nanoseconds of the lines of so many runs, and the most memory of one, in KB.
 
     They take turns, so that a machine whose speed changes changes it for all of them.
     """
-    rounds = [[run(program, way, blocks) for way, blocks in asked] for _ in range(times)]
+    rounds = [[run(program, way, blocks) for way, blocks in asked] for _ in range(RUNS)]
     return [([lines for lines, _ in runs], max(memory for _, memory in runs)) for runs in zip(*rounds)]
 
 
