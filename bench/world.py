@@ -5,7 +5,8 @@ Run as `bench/world.py` from anywhere, on a machine that has the kit: it builds 
 in a scratch folder. Each transaction puts a row of 100 bytes at one of 10,000 keys of 32 bytes. It prints the least of
 five runs of three blocks at each height (of which one may meet a list or map that grows): once with blocks of no
 transactions between the two heights, and once with blocks of 10 between them, which leave a history of 100,000 entries
-and as many ids behind. It fails where the later ones take half as much again. The machine is to be quiet.
+and as many ids behind. It fails where the later ones take half as much again. The machine is to be quiet; last comes what
+load it had before and after, and what part of its time was stolen from it.
 
 So that the blocks between are all that differs, both heights have the same number of rows, put in an order that has
 nothing to do with their keys; the timed blocks are made before the world is, and looked at before they are applied.
@@ -16,7 +17,7 @@ import subprocess
 import sys
 import tempfile
 
-from scratch import RUNS, build
+from scratch import RUNS, Machine, build
 
 CRATES = ["values", "transaction", "block", "header_hash", "policy", "policy_eval", "text_lines", "channel", "rules",
           "history_index", "state_db", "txid_index", "world"]
@@ -239,6 +240,7 @@ fn main(rt: HostRuntime) -> anyhow::Result<()> {
 
 
 def main():
+    machine = Machine()
     with tempfile.TemporaryDirectory() as name:
         folder = pathlib.Path(name)
         source = PROGRAM.replace("FIRST", str(HEIGHTS[0])).replace("LAST", str(HEIGHTS[1]))
@@ -256,6 +258,7 @@ def main():
                   f"{last / 1000:.2f} ms at height {HEIGHTS[1]:,}, {last / first:.2f} times as long")
             if last > RATIO * first:
                 dear.append(between)
+        print(machine)
         if dear:
             sys.exit(f"too dear at the later height, with blocks between of: {', '.join(dear)}")
 
