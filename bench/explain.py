@@ -10,9 +10,9 @@ Run as `bench/explain.py [WORKLOAD ..]` from anywhere, on a quiet machine that h
 - `touched`: a block of 4,096, each of which writes the policy of one key.
 - `repeats 1,024` and so on: a transaction whose reads are so many keys that fall, the last of them twice.
 
-A line has the microseconds for one transaction, and how many times a submit's is an explanation's: the least of five runs,
-or of as many as RUNS says in the environment, in which both take turns. Behind all it says what load the machine had before
-and after, and what part of its time was stolen from it.
+A line has the microseconds for one transaction, the least of five runs or of as many as RUNS says in the environment, and how
+many times as long as a submit an explanation takes: the median over the runs, in which both take turns. Behind all it says
+what load the machine had before and after, and what part of its time was stolen from it.
 """
 
 import pathlib
@@ -20,7 +20,7 @@ import sys
 import tempfile
 
 from peer import CRATES, CREATOR, PEERS, POLICY, PROGRAM, VALUE, Blocks, for_one, key, timed
-from scratch import Machine, build
+from scratch import Machine, build, times_as_long
 from encoding import Namespace, Tx, identity, spelled_tx, tx_id
 
 STATE, OWN = 2000, 100
@@ -134,7 +134,7 @@ WORKLOADS = {
 def told(program, name, blocks):
     found = timed(program, [("ledger", blocks), ("explain", blocks)])
     submit, explain = (for_one(runs, blocks) for runs, _ in found)
-    print(f"{name:>15} {submit:>12,.1f} {explain:>14,.1f} {explain / submit:>7.2f}", flush=True)
+    print(f"{name:>15} {min(submit):>12,.1f} {min(explain):>14,.1f} {times_as_long(explain, submit):>7.2f}", flush=True)
 
 
 def main():

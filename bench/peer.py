@@ -31,7 +31,8 @@ A second table has the time for one transaction with one worker, to whom blocks 
 block, the length of the chain and the keys of the state; the slope is that of its logarithm by theirs: 0 where it doesn't
 grow.
 
-Times are the least of five runs, or of as many as RUNS says in the environment; what stands in one line takes turns in them.
+Times are the least of five runs, or of as many as RUNS says in the environment. What stands in one line takes turns in them,
+and how many times as long one takes as another is the median over the turns: the machine's speed may change between them.
 `memory` is the most of a run with four workers, in MB. Behind both tables it says what load the machine had before and after,
 and what part of its time was stolen from it.
 """
@@ -44,7 +45,7 @@ import subprocess
 import sys
 import tempfile
 
-from scratch import RUNS, Machine, build
+from scratch import RUNS, Machine, build, times_as_long
 from encoding import Namespace, Tx, data_hash, header_hash, identity, spelled_block, spelled_tx, tx_id
 from signing import Keys
 
@@ -498,24 +499,25 @@ def timed(program, asked):
     return [([lines for lines, _ in runs], max(memory for _, memory in runs)) for runs in zip(*rounds)]
 
 
-def least(runs, part, count):
-    """The microseconds for one of so many transactions, which a part of the lines is of: the least of the runs."""
-    return min(sum(lines[part]) for lines in runs) / count / 1000
+def each(runs, part, count):
+    """The microseconds for one of so many transactions, which a part of the lines is of, in each run."""
+    return [sum(lines[part]) / count / 1000 for lines in runs]
 
 
 def for_one(runs, blocks):
-    """The microseconds for a transaction, over all blocks behind those that make the state."""
+    """The microseconds for a transaction, over all blocks behind those that make the state, in each run."""
     behind = slice(blocks.setup, None)
-    return least(runs, behind, sum(blocks.sizes[behind]))
+    return each(runs, behind, sum(blocks.sizes[behind]))
 
 
 def told(program, name, blocks):
     found = timed(program, [(way, blocks) for way in ("hash", "ledger", "explain", *map(str, WORKERS))])
-    hashing, ledger, explain, *each = [for_one(runs, blocks) for runs, _ in found]
-    rates = " ".join(f"{1_000_000 / time:>8,.0f}" for time in each)
-    faster = " ".join(f"{each[0] / time:.2f}" for time in each[1:])
-    memory = found[-1][1] // 1000
-    print(f"{name:>10} {hashing:>8.1f} {ledger:>7.1f} {explain:>7.1f} {each[0]:>7.1f} {each[0] / hashing:>6.2f} {rates} {faster:>10} {memory:>7,}", flush=True)
+    hashing, ledger, explain, *workers = [for_one(runs, blocks) for runs, _ in found]
+    least = " ".join(f"{min(times):>7.1f}" for times in (ledger, explain, workers[0]))
+    rates = " ".join(f"{1_000_000 / min(times):>8,.0f}" for times in workers)
+    faster = " ".join(f"{times_as_long(workers[0], times):.2f}" for times in workers[1:])
+    ratio, memory = times_as_long(workers[0], hashing), found[-1][1] // 1000
+    print(f"{name:>10} {min(hashing):>8.1f} {least} {ratio:>6.2f} {rates} {faster:>10} {memory:>7,}", flush=True)
 
 
 def slope(found):
@@ -541,7 +543,7 @@ def by_size(program, folder, state):
             blocks.mixed(size)
     [(runs, _)] = timed(program, [("submit", blocks)])
     for size, count in sizes.items():
-        found[size] = least(runs, slice(first, first + count), size * count)
+        found[size] = min(each(runs, slice(first, first + count), size * count))
         first += count
     grows(f"by transactions of a block, over {state:,} keys, slope from 100 on", found, 100)
 
@@ -551,7 +553,7 @@ def by_length(program, folder):
     mixed(blocks, 10_000, 10)
     [(runs, _)], found = timed(program, [("submit", blocks)]), {}
     for length in (100, 1000, 10_000):
-        found[length] = least(runs, slice(length - 90, length), 900)
+        found[length] = min(each(runs, slice(length - 90, length), 900))
     grows("by blocks before", found)
 
 
@@ -562,7 +564,7 @@ def by_state(program, folder):
         mixed(blocks, 10, 500)
         asked.append(("submit", blocks))
     found = timed(program, asked)
-    grows("by keys of the state", {blocks.state: for_one(runs, blocks) for (_, blocks), (runs, _) in zip(asked, found)})
+    grows("by keys of the state", {blocks.state: min(for_one(runs, blocks)) for (_, blocks), (runs, _) in zip(asked, found)})
 
 
 def at_once(program, blocks, count):
@@ -581,8 +583,8 @@ def limit(program, folder):
     blocks = Blocks(folder / "limit", 2000)
     mixed(blocks, 40, 500)
     rounds = [[at_once(program, blocks, count) for count in WORKERS] for _ in range(RUNS)]
-    one, *more = [min(times) for times in zip(*rounds)]
-    faster = ", ".join(f"{count}: {one / time:.2f}" for count, time in zip(WORKERS[1:], more))
+    one, *more = zip(*rounds)
+    faster = ", ".join(f"{count}: {times_as_long(one, times):.2f}" for count, times in zip(WORKERS[1:], more))
     print(f"how much faster processes of their own hash: {faster}", flush=True)
 
 

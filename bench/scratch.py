@@ -6,6 +6,7 @@ Who imports it finds the modules of `vectors/` too.
 import os
 import pathlib
 import shutil
+import statistics
 import subprocess
 import sys
 
@@ -36,6 +37,11 @@ class Machine:
         after, stolen = processors()
         part = (stolen - self.stolen) / max(after - self.all, 1)
         return f"load before: {self.load}; after: {load()}; stolen: {part:.0%}; {os.cpu_count()} processors"
+
+
+def times_as_long(these, those):
+    """How many times as long these took as those beside them: the median, which a machine that changes its speed leaves alone."""
+    return statistics.median(this / that for this, that in zip(these, those))
 
 
 def link(file, at):

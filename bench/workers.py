@@ -9,8 +9,9 @@ policy asks for; signatures are verified before anything is timed.
 - `chain`: 4,096 transactions, each of which reads the key that the one before it writes.
 - `one`: a block of one transaction, with 4 workers, beside the starting and joining of 4 scoped threads that do nothing.
 
-Times are the least of five runs, in each of which everything is done ten times. It fails where one worker takes more than
-1.3 times the loop, or four are less than 2.5 times faster than one where transactions are independent.
+Times are the least of five runs, or of as many as RUNS says in the environment, in each of which everything is done ten times,
+in turns; how many times as long one takes as another is the median. It fails where one worker takes more than 1.3 times the
+loop, or four are less than 2.5 times faster than one where transactions are independent.
 
 Behind them stands the limit of the machine: how many times the loops of one process are done in its time by four that
 share nothing. Where that is less than 2.5, four workers can't reach it either. Last comes the load that the machine had before
@@ -22,7 +23,7 @@ import subprocess
 import sys
 import tempfile
 
-from scratch import RUNS, Machine, build
+from scratch import RUNS, Machine, build, times_as_long
 from encoding import Namespace, Tx, data_hash, header_hash, identity, spelled_block, spelled_tx, tx_id
 from signing import Keys
 
@@ -252,7 +253,7 @@ def write_files(folder):
 
 
 def times(program, folder, name):
-    """The least nanoseconds of each thing that is timed."""
+    """The nanoseconds of each thing that is timed, each time."""
     lines = []
     for _ in range(RUNS):
         done = subprocess.run([program, "all", f"{name}.blk"], cwd=folder, capture_output=True, text=True, check=False)
@@ -261,7 +262,7 @@ def times(program, folder, name):
             sys.exit(f"the run failed: {done.stdout[-300:]}{done.stderr[-300:]}")
         lines += run[:-1]
         valid, gathered = run[-1]
-    return dict(zip(TIMED, map(min, zip(*lines)))), valid, gathered
+    return dict(zip(TIMED, zip(*lines))), valid, gathered
 
 
 def loops(program, folder, count):
@@ -273,8 +274,8 @@ def loops(program, folder, count):
 
 def limit(program, folder):
     """How many times as fast four processes do their loops as one does them one after the other."""
-    one, four = map(min, zip(*[(loops(program, folder, 1), loops(program, folder, 4)) for _ in range(RUNS)]))
-    return 4 * one / four
+    one, four = zip(*[(loops(program, folder, 1), loops(program, folder, 4)) for _ in range(RUNS)])
+    return 4 * times_as_long(one, four)
 
 
 def main():
@@ -285,12 +286,12 @@ def main():
         found = {}
         for name, count in write_files(folder).items():
             found[name], valid, gathered = times(program, folder, name)
-            told = ", ".join(f"{what} {nanos / 1000:,.0f}" for what, nanos in found[name].items())
+            told = ", ".join(f"{what} {min(nanos) / 1000:,.0f}" for what, nanos in found[name].items())
             print(f"{name:>12} {count:>5,} (µs): {told}; valid {valid:,}, gathered {gathered}", flush=True)
         processes = limit(program, folder)
     independent, chain = found["independent"], found["chain"]
-    beside_loop = max(case["1"] / case["loop"] for case in (independent, chain))
-    faster = independent["1"] / independent["4"]
+    beside_loop = max(times_as_long(case["1"], case["loop"]) for case in (independent, chain))
+    faster = times_as_long(independent["1"], independent["4"])
     print(f"one worker takes {beside_loop:.2f} times the loop, four are {faster:.2f} times faster than one")
     print(f"four loops by processes of their own are done {processes:.2f} times as fast as one after the other")
     print(machine)
