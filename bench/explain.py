@@ -10,9 +10,9 @@ Run as `bench/explain.py [WORKLOAD ..]` from anywhere, on a quiet machine that h
 - `touched`: a block of 4,096, each of which writes the policy of one key.
 - `repeats 1,024` and so on: a transaction whose reads are so many keys that fall, the last of them twice.
 
-A line has the microseconds for one transaction, the least of five runs or of as many as RUNS says in the environment, and how
-many times as long as a submit an explanation takes: the median over the runs, in which both take turns. Behind all it says
-what load the machine had before and after, and what part of its time was stolen from it.
+A line has the microseconds for one transaction, the least of five runs or of as many as RUNS says in the environment, how many
+times as long as a submit an explanation takes, and the same by the median over the runs, in which both take turns. Behind all
+it says what load the machine had before and after, and what part of its time was stolen from it.
 """
 
 import pathlib
@@ -134,7 +134,8 @@ WORKLOADS = {
 def told(program, name, blocks):
     found = timed(program, [("ledger", blocks), ("explain", blocks)])
     submit, explain = (for_one(runs, blocks) for runs, _ in found)
-    print(f"{name:>15} {min(submit):>12,.1f} {min(explain):>14,.1f} {times_as_long(explain, submit):>7.2f}", flush=True)
+    ratio, median = times_as_long(explain, submit)
+    print(f"{name:>15} {min(submit):>12,.1f} {min(explain):>14,.1f} {ratio:>7.2f} {median:>7.2f}", flush=True)
 
 
 def main():
@@ -144,7 +145,7 @@ def main():
         folder = pathlib.Path(name)
         program = build(folder / "program", "peer", PROGRAM, own=CRATES, kit=["anyhow"])
         print("                 µs for one transaction")
-        print("                      submit        explain   ratio")
+        print("                      submit        explain   ratio  median")
         for title, make in WORKLOADS.items():
             if title in wanted:
                 blocks = Mixed(folder / title, STATE)

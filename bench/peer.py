@@ -31,8 +31,9 @@ A second table has the time for one transaction with one worker, to whom blocks 
 block, the length of the chain and the keys of the state; the slope is that of its logarithm by theirs: 0 where it doesn't
 grow.
 
-Times are the least of five runs, or of as many as RUNS says in the environment. What stands in one line takes turns in them,
-and how many times as long one takes as another is the median over the turns: the machine's speed may change between them.
+Times are the least of five runs, or of as many as RUNS says in the environment. What stands in one line takes turns in them.
+`ratio` and `faster` are by the least times; `medians` has the same by the median over the turns, which differs where the
+machine changes its speed: then neither says much.
 `memory` is the most of a run with four workers, in MB. Behind both tables it says what load the machine had before and after,
 and what part of its time was stolen from it.
 """
@@ -515,9 +516,10 @@ def told(program, name, blocks):
     hashing, ledger, explain, *workers = [for_one(runs, blocks) for runs, _ in found]
     least = " ".join(f"{min(times):>7.1f}" for times in (ledger, explain, workers[0]))
     rates = " ".join(f"{1_000_000 / min(times):>8,.0f}" for times in workers)
-    faster = " ".join(f"{times_as_long(workers[0], times):.2f}" for times in workers[1:])
-    ratio, memory = times_as_long(workers[0], hashing), found[-1][1] // 1000
-    print(f"{name:>10} {min(hashing):>8.1f} {least} {ratio:>6.2f} {rates} {faster:>10} {memory:>7,}", flush=True)
+    ratios = [times_as_long(workers[0], hashing), *(times_as_long(workers[0], times) for times in workers[1:])]
+    (ratio, *faster), medians = ([f"{number:.2f}" for number in numbers] for numbers in zip(*ratios))
+    memory = found[-1][1] // 1000
+    print(f"{name:>10} {min(hashing):>8.1f} {least} {ratio:>6} {rates} {' '.join(faster):>10} {memory:>7,}  {' '.join(medians)}", flush=True)
 
 
 def slope(found):
@@ -584,7 +586,8 @@ def limit(program, folder):
     mixed(blocks, 40, 500)
     rounds = [[at_once(program, blocks, count) for count in WORKERS] for _ in range(RUNS)]
     one, *more = zip(*rounds)
-    faster = ", ".join(f"{count}: {times_as_long(one, times):.2f}" for count, times in zip(WORKERS[1:], more))
+    ratios = [(count, *times_as_long(one, times)) for count, times in zip(WORKERS[1:], more)]
+    faster = ", ".join(f"{count}: {least:.2f} (median {median:.2f})" for count, least, median in ratios)
     print(f"how much faster processes of their own hash: {faster}", flush=True)
 
 
@@ -598,7 +601,7 @@ def main():
             limit(program, folder)
         if set(wanted) & set(WORKLOADS):
             print("             µs for one transaction                  transactions a second, by 1, 2, 4")
-            print("            hashing  ledger explain  worker  ratio  workers                       faster      memory")
+            print("            hashing  ledger explain  worker  ratio  workers                       faster      memory  medians")
         for title, (state, make, *sizes) in WORKLOADS.items():
             if title in wanted:
                 blocks = Blocks(folder / title, state)

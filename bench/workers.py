@@ -10,8 +10,8 @@ policy asks for; signatures are verified before anything is timed.
 - `one`: a block of one transaction, with 4 workers, beside the starting and joining of 4 scoped threads that do nothing.
 
 Times are the least of five runs, or of as many as RUNS says in the environment, in each of which everything is done ten times,
-in turns; how many times as long one takes as another is the median. It fails where one worker takes more than 1.3 times the
-loop, or four are less than 2.5 times faster than one where transactions are independent.
+in turns. Ratios are by the least times, beside them by the median over the turns. By the least times it fails where one worker
+takes more than 1.3 times the loop, or four are less than 2.5 times faster than one where transactions are independent.
 
 Behind them stands the limit of the machine: how many times the loops of one process are done in its time by four that
 share nothing. Where that is less than 2.5, four workers can't reach it either. Last comes the load that the machine had before
@@ -275,7 +275,8 @@ def loops(program, folder, count):
 def limit(program, folder):
     """How many times as fast four processes do their loops as one does them one after the other."""
     one, four = zip(*[(loops(program, folder, 1), loops(program, folder, 4)) for _ in range(RUNS)])
-    return 4 * times_as_long(one, four)
+    least, median = times_as_long(one, four)
+    return 4 * least, 4 * median
 
 
 def main():
@@ -288,12 +289,13 @@ def main():
             found[name], valid, gathered = times(program, folder, name)
             told = ", ".join(f"{what} {min(nanos) / 1000:,.0f}" for what, nanos in found[name].items())
             print(f"{name:>12} {count:>5,} (µs): {told}; valid {valid:,}, gathered {gathered}", flush=True)
-        processes = limit(program, folder)
+        least, median = limit(program, folder)
     independent, chain = found["independent"], found["chain"]
-    beside_loop = max(times_as_long(case["1"], case["loop"]) for case in (independent, chain))
-    faster = times_as_long(independent["1"], independent["4"])
-    print(f"one worker takes {beside_loop:.2f} times the loop, four are {faster:.2f} times faster than one")
-    print(f"four loops by processes of their own are done {processes:.2f} times as fast as one after the other")
+    beside_loop, loop_median = max(times_as_long(case["1"], case["loop"]) for case in (independent, chain))
+    faster, faster_median = times_as_long(independent["1"], independent["4"])
+    print(f"one worker takes {beside_loop:.2f} times the loop (median {loop_median:.2f}), "
+          f"four are {faster:.2f} times faster than one (median {faster_median:.2f})")
+    print(f"four loops by processes of their own are done {least:.2f} times as fast as one after the other (median {median:.2f})")
     print(machine)
     if beside_loop > ONE_WORKER or faster < FOUR_WORKERS:
         sys.exit("more than is promised")
