@@ -36,7 +36,7 @@ use block::{Block, Header, Previous, encode_block};
 use block_steps::{check_data_hash, check_place, decoded};
 use header_hash::{data_hash, header_hash};
 use query::{Publisher, QueryHandle, open};
-use rules::{Change, CommittedBlock, Delta, FirstUse, Flag, HistoryEntry, KeyedRow, NewEntry, NewUse, Row};
+use rules::{Change, CommittedBlock, Delta, FirstUse, Flag, HistoryEntry, KeptKey, KeyedRow, NewEntry, NewUse, Row};
 use std::alloc::Global;
 use std::env;
 use std::io::Print;
@@ -46,7 +46,7 @@ use std::thread;
 use std::thread::Threads;
 use std::time::{Clock, Instant};
 use transaction::Version;
-use values::{Bytes, Hash, Items, Key, KeyRef, Name, NameRef, Shared, is_key, is_name};
+use values::{Hash, Items, Key, KeyRef, Name, NameRef, Part, Shared, is_key, is_name};
 use world::World;
 
 const BLOCKS: u64 = 1_000;
@@ -100,17 +100,17 @@ fn put(alloc: Global, list: &mut Changes, version: Version, number: u64) -> anyh
     let bytes = key_bytes(number);
     let key = key(&bytes)?;
     let id = id_of(version.block, version.tx);
-    let value = Shared::new(alloc, Bytes::from_slice(alloc, &[7; 100])?)?;
+    let value = Part::copied(alloc, &[7; 100])?;
+    let key = KeptKey::copied(alloc, &namespace, &key)?;
     let row = Row {
         value: value.share()?,
         version,
         policy: None,
     };
-    let keyed = KeyedRow::new(alloc, &namespace, &key, row)?;
+    let keyed = KeyedRow::new(key.share()?, row);
     list.changes.push(Change::Put(Shared::new(alloc, keyed)?))?;
     let entry = NewEntry {
-        namespace: namespace.copy(alloc)?,
-        key: key.copy(alloc)?,
+        key,
         entry: HistoryEntry {
             version,
             id,
@@ -159,7 +159,7 @@ fn block_at(
         bail!("no bytes");
     };
     Ok(CommittedBlock {
-        bytes,
+        bytes: Shared::new(alloc, bytes)?,
         header_hash: header_hash(&header),
         flags: Items::new(alloc),
     })
@@ -206,7 +206,7 @@ fn is_linked(alloc: Global, world: &World, delta: &Delta) -> anyhow::Result<bool
     ensures { IfOk result (λ linked. IsTrue linked → IsLinkedDelta world.now delta.now) }
 {
     let kept = delta.block.get();
-    let Ok(block) = decoded(alloc, kept.bytes.as_slice()) else {
+    let Ok(block) = decoded(alloc, kept.bytes.get().as_slice()) else {
         bail!("no block");
     };
     let data_hash = data_hash(block.txs.as_slice());

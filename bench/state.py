@@ -32,7 +32,7 @@ use std::alloc::{AllocError, Global};
 use std::env;
 use std::time::Instant;
 use transaction::Version;
-use values::{BoundRef, Bytes, Key, Name, NameRef, Shared, is_bound, is_key, is_name};
+use values::{BoundRef, Key, Name, NameRef, Part, is_bound, is_key, is_name};
 
 fn mixed(seed: u64) -> u64 {
     let a = (seed ^ (seed >> 30)).wrapping_mul(0xbf58_476d_1ce4_e5b9);
@@ -63,7 +63,7 @@ fn key(alloc: Global, index: u64) -> Result<Option<Key>, AllocError> {
 
 fn row(alloc: Global, block: u64) -> Result<Row, AllocError> {
     Ok(Row {
-        value: Shared::new(alloc, Bytes::from_slice(alloc, [7u8; 100].as_slice())?)?,
+        value: Part::copied(alloc, [7u8; 100].as_slice())?,
         version: Version { block, tx: 0 },
         policy: None,
     })

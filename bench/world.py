@@ -28,12 +28,12 @@ PROGRAM = r"""
 #![tactic(auto)]
 
 use anyhow::bail;
-use rules::{Change, CommittedBlock, Delta, FirstUse, Flag, HistoryEntry, KeyedRow, NewEntry, NewUse, Row};
+use rules::{Change, CommittedBlock, Delta, FirstUse, Flag, HistoryEntry, KeptKey, KeyedRow, NewEntry, NewUse, Row};
 use std::alloc::Global;
 use std::io::Print;
 use std::time::{Clock, Instant};
 use transaction::Version;
-use values::{Bytes, Items, Key, Name, Shared, is_key, is_name};
+use values::{Bytes, Items, Key, Name, Part, Shared, is_key, is_name};
 use world::World;
 
 fn namespace(alloc: Global) -> anyhow::Result<Name> {
@@ -53,11 +53,11 @@ fn key(alloc: Global, number: u64) -> anyhow::Result<Key> {
     Ok(Key::from_slice(alloc, bytes.as_slice())?)
 }
 
-fn value(alloc: Global) -> anyhow::Result<Shared<Bytes>> {
-    Ok(Shared::new(alloc, Bytes::from_slice(alloc, &[7; 100])?)?)
+fn value(alloc: Global) -> anyhow::Result<Part> {
+    Ok(Part::copied(alloc, &[7; 100])?)
 }
 
-fn change(alloc: Global, number: u64, version: Version, value: Shared<Bytes>) -> anyhow::Result<Change> {
+fn change(alloc: Global, number: u64, version: Version, value: Part) -> anyhow::Result<Change> {
     let namespace = namespace(alloc)?;
     let key = key(alloc, number)?;
     let row = Row {
@@ -65,7 +65,8 @@ fn change(alloc: Global, number: u64, version: Version, value: Shared<Bytes>) ->
         version,
         policy: None,
     };
-    let keyed = KeyedRow::new(alloc, &namespace.lend(), &key.lend(), row)?;
+    let key = KeptKey::copied(alloc, &namespace.lend(), &key.lend())?;
+    let keyed = KeyedRow::new(key, row);
     Ok(Change::Put(Shared::new(alloc, keyed)?))
 }
 
@@ -74,11 +75,10 @@ fn entry(
     number: u64,
     version: Version,
     id: [u8; 64],
-    value: Shared<Bytes>,
+    value: Part,
 ) -> anyhow::Result<Shared<NewEntry>> {
     let entry = NewEntry {
-        namespace: namespace(alloc)?,
-        key: key(alloc, number)?,
+        key: KeptKey::copied(alloc, &namespace(alloc)?.lend(), &key(alloc, number)?.lend())?,
         entry: HistoryEntry {
             version,
             id,
@@ -139,7 +139,7 @@ fn delta_of(alloc: Global, block: u64, count: u32, keys: Keys) -> anyhow::Result
         uses.push(NewUse { id, first_use })?;
     }
     let block = CommittedBlock {
-        bytes: Bytes::from_vec(Vec::new(alloc)),
+        bytes: Shared::new(alloc, Bytes::from_vec(Vec::new(alloc)))?,
         header_hash: [0; 32],
         flags: Items::new(alloc),
     };
@@ -189,7 +189,8 @@ fn looked_at(delta: &Delta) -> u64 {
     for entry in delta.entries.as_slice() {
         let entry = entry.get();
         sum = sum.wrapping_add(entry.entry.version.block);
-        if entry.key.as_slice().contains(&0) && entry.namespace.as_slice().contains(&0) {
+        let (namespace, key) = (entry.key.namespace(), entry.key.key());
+        if key.as_slice().contains(&0) && namespace.as_slice().contains(&0) {
             sum = sum.wrapping_add(1);
         }
     }

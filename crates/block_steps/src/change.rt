@@ -1,24 +1,16 @@
 ghost use Rattle.std.specs.Prelude.{◌≡◌, IfOk};
 ghost use Rattle.rules.specs.Delta.{change_of};
 
-use rules::{Change, KeyedRow, Row};
+use rules::{Change, KeptKey, KeyedRow, Row};
 use std::alloc::{AllocError, Global};
-use values::{KeyRef, NameRef, Shared};
+use values::Shared;
 
-/// The change of a key to a row, or to none. Copies the namespace and the key.
-pub fn change_to(
-    alloc: Global,
-    namespace: &NameRef<'_>,
-    key: &KeyRef<'_>,
-    row: Option<Row>,
-) -> Result<Change, AllocError>
-    ensures { IfOk result (λ c. change_of c ≡ ((namespace.now, key.now), row)) }
+/// The change of a key to a row, or to none, for which both names are copied.
+pub fn change_to(alloc: Global, key: KeptKey, row: Option<Row>) -> Result<Change, AllocError>
+    ensures { IfOk result (λ c. change_of c ≡ (key, row)) }
 {
     match row {
-        None => Ok(Change::Remove(namespace.copy(alloc)?, key.copy(alloc)?)),
-        Some(row) => {
-            let row = KeyedRow::new(alloc, namespace, key, row)?;
-            Ok(Change::Put(Shared::new(alloc, row)?))
-        }
+        None => Ok(Change::Remove(key.namespace().copy(alloc)?, key.key().copy(alloc)?)),
+        Some(row) => Ok(Change::Put(Shared::new(alloc, KeyedRow::new(key, row))?)),
     }
 }

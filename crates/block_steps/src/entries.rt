@@ -3,39 +3,33 @@ ghost use Rattle.std.specs.Prelude.{◌≡◌, ◌++◌, map, IfOk, OnOk};
 ghost use Rattle.rules.specs.Delta.{entries_in};
 ghost use Rattle.rules.specs.History as history;
 
-use rules::{HistoryEntry, NewEntry};
+use rules::{HistoryEntry, KeptKey, NewEntry};
 use std::alloc::{AllocError, Global};
 use transaction::{NsSet, Tx, TxId, Version};
-use values::{Bytes, KeyRef, NameRef, Shared, Slice};
+use values::{Part, Shared, Slice};
 
 /// The value of a write, copied for all who keep it.
-pub fn copy_value(
-    alloc: Global,
-    value: &Option<Slice<'_>>,
-) -> Result<Option<Shared<Bytes>>, AllocError>
+pub fn copy_value(alloc: Global, value: &Option<Slice<'_>>) -> Result<Option<Part>, AllocError>
     ensures { IfOk result (λ copied. copied ≡ value.now) }
 {
     match value {
         None => Ok(None),
-        Some(value) => Ok(Some(Shared::new(alloc, value.copy(alloc)?)?)),
+        Some(value) => Ok(Some(Part::copied(alloc, value.as_slice())?)),
     }
 }
 
-/// The history entry of a write or delete of a key, by the transaction of this place and id. Copies the namespace and the
-/// key.
+/// The history entry of a write or delete of a key, by the transaction of this place and id.
 pub fn new_entry(
     alloc: Global,
     version: Version,
     id: TxId,
-    namespace: &NameRef<'_>,
-    key: &KeyRef<'_>,
-    value: Option<Shared<Bytes>>,
+    key: KeptKey,
+    value: Option<Part>,
 ) -> Result<Shared<NewEntry>, AllocError>
-    ensures { IfOk result (λ e. e ≡ record { namespace = namespace.now; key = key.now; entry = record { version = version; id = id; value = value } }) }
+    ensures { IfOk result (λ e. e ≡ record { key = key; entry = record { version = version; id = id; value = value } }) }
 {
     let entry = NewEntry {
-        namespace: namespace.copy(alloc)?,
-        key: key.copy(alloc)?,
+        key,
         entry: HistoryEntry { version, id, value },
     };
     Shared::new(alloc, entry)
@@ -52,7 +46,8 @@ fn add_entries(
 {
     for write in set.writes.as_slice() {
         let value = copy_value(alloc, &write.value)?;
-        entries.push(new_entry(alloc, version, tx.id, &set.name, &write.key, value)?)?;
+        let key = KeptKey::copied(alloc, &set.name, &write.key)?;
+        entries.push(new_entry(alloc, version, tx.id, key, value)?)?;
     }
     Ok(())
 }

@@ -16,7 +16,7 @@ pub fn kept(
     Shared::new(
         alloc,
         CommittedBlock {
-            bytes: Bytes::from_slice(alloc, bytes)?,
+            bytes: Shared::new(alloc, Bytes::from_slice(alloc, bytes)?)?,
             header_hash,
             flags,
         },

@@ -10,7 +10,7 @@ use rules::{Flag, Row};
 use state_db::{Batch, StateDb};
 use std::alloc::{AllocError, Global};
 use transaction::{Identity, decode_tx};
-use values::{Bytes, Key, Name, Shared, is_key, is_name};
+use values::{Bytes, Key, Name, Part, Shared, is_key, is_name};
 
 // Accepts every signature.
 struct Trusting;
@@ -58,7 +58,7 @@ fn shared_policy(alloc: Global, rule: Option<Rule>) -> Result<Option<Shared<Poli
 
 fn row_of(alloc: Global, row: RowCase) -> Result<Row, Failed> {
     Ok(Row {
-        value: Shared::new(alloc, Bytes::from_slice(alloc, b"before")?)?,
+        value: Part::copied(alloc, b"before")?,
         version: row.version,
         policy: shared_policy(alloc, row.policy)?,
     })

@@ -12,6 +12,7 @@ use values::{Bytes, Slice};
 mod faults;
 mod identities;
 mod limits;
+mod places;
 
 const SIGNATURE: [u8; 32] = [7; 32];
 

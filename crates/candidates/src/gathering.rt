@@ -12,11 +12,12 @@ ghost use Rattle.candidates.specs.Written.{IsGathered};
 
 use crate::form::are_lists_in_form;
 use crate::written_key::WrittenKey;
+use crate::written_value::{Spots, WrittenValue};
 use policy::{Policy, PolicyFault};
 use state_keys::StateKey;
 use std::alloc::{AllocError, Global};
 use transaction::{NsSet, PolicyWrite, Tx, Write};
-use values::{Shared, Slice};
+use values::Shared;
 
 /// The policy that a policy write leaves, or nothing where its text can't be read.
 fn policy_left(
@@ -35,24 +36,40 @@ fn policy_left(
     }
 }
 
-fn new_value<'a>(write: &Write<'a>) -> Option<Slice<'a>>
+/// The value of a write that stands at a place, in a namespace at another.
+fn new_value<'a>(write: &Write<'a>, namespace: usize, place: usize) -> Option<WrittenValue<'a>>
     ensures { result ≡ write.now.value }
 {
     match &write.value {
         None => None,
-        Some(value) => Some(value.again()),
+        Some(value) => {
+            let spots = Spots {
+                namespace,
+                key: place.wrapping_add(write.key_place()),
+                value: place.wrapping_add(write.value_place()),
+            };
+            Some(WrittenValue::new(value, spots))
+        }
     }
 }
 
-fn add_values<'a>(written: &mut Vec<WrittenKey<'a>>, set: &NsSet<'a>) -> Result<(), AllocError>
+/// Adds what a namespace that stands at this place writes.
+fn add_values<'a>(
+    written: &mut Vec<WrittenKey<'a>>,
+    set: &NsSet<'a>,
+    place: usize,
+) -> Result<(), AllocError>
     ensures { OnOk result (written.new.items ≡ written.old.items ++ map (value_write set.now) set.now.writes) }
 {
+    let namespace = place.wrapping_add(set.name_place());
+    let mut place = place.wrapping_add(set.writes_place());
     for write in set.writes.as_slice() {
         written.push(WrittenKey {
             key: StateKey::new(&set.name, &write.key),
-            value: Some(new_value(write)),
+            value: Some(new_value(write, namespace, place)),
             policy: None,
         })?;
+        place = place.wrapping_add(write.spelled_len());
     }
     Ok(())
 }
@@ -98,8 +115,10 @@ fn single_writes<'a>(alloc: Global, tx: &Tx<'a>) -> Result<Option<Vec<WrittenKey
 {
     let sets = tx.namespaces.as_slice();
     let mut written = Vec::with_capacity(alloc, count_writes(sets))?;
+    let mut place = tx.namespaces_place();
     for set in sets {
-        add_values(&mut written, set)?;
+        add_values(&mut written, set, place)?;
+        place = place.wrapping_add(set.spelled_len());
         if !add_policies(alloc, &mut written, set)? {
             return Ok(None);
         }

@@ -12,6 +12,7 @@ mod labels;
 mod laws;
 mod open_tx;
 mod written_key;
+mod written_value;
 
 pub use candidate::Candidate;
 pub use in_form::InForm;
@@ -21,3 +22,4 @@ pub use laws::keys_have_one_order;
 pub use open_tx::OpenTx;
 pub use state_keys::StateKey;
 pub use written_key::WrittenKey;
+pub use written_value::{Spots, WrittenValue};

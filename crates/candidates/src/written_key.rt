@@ -2,16 +2,17 @@ ghost use Rattle.std.specs.Prelude.{◌≡◌, IsTrue, false};
 ghost use Rattle.rules.specs.State.{is_same_key};
 ghost use Rattle.candidates.specs.Gathering.{both_writes};
 
+use crate::written_value::WrittenValue;
 use policy::Policy;
 use state_keys::StateKey;
-use values::{Shared, Slice};
+use values::Shared;
 
 /// What a transaction writes at a key: its value, its policy, or both.
 #[derive(Drop)]
 pub struct WrittenKey<'a> {
     pub key: StateKey<'a>,
     /// The new value, `Some(None)` where the key is deleted; `None` where the value isn't written.
-    pub value: Option<Option<Slice<'a>>>,
+    pub value: Option<Option<WrittenValue<'a>>>,
     /// The new policy, read once, `Some(None)` where it is removed; `None` where the policy isn't written.
     pub policy: Option<Option<Shared<Policy>>>,
 }

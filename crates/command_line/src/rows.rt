@@ -23,7 +23,7 @@ pub(crate) fn write_row<'a, W: Write>(
     row: &Row,
 ) -> Result<(), Fault<'a>> {
     let (block, tx) = (row.version.block, row.version.tx);
-    let (key, value) = (Word(key), Word(row.value.get().as_slice()));
+    let (key, value) = (Word(key), Word(row.value.as_slice()));
     match &row.policy {
         Some(policy) => {
             let policy = policy.get().text(alloc)?;
@@ -39,7 +39,7 @@ pub(crate) fn write_entry<W: Write>(out: &mut W, entry: &HistoryEntry) -> io::Re
     let (block, tx, id) = (entry.version.block, entry.version.tx, Word(&entry.id));
     match &entry.value {
         Some(value) => {
-            let value = ValueWord(value.get().as_slice());
+            let value = ValueWord(value.as_slice());
             writeln!(out, "entry {block} {tx} {id} {value}")
         }
         None => writeln!(out, "entry {block} {tx} {id} deleted"),

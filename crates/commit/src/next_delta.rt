@@ -23,8 +23,11 @@ use key_chains::Job;
 use rules::{CommittedBlock, Delta, Flag};
 use std::alloc::{AllocError, Global};
 use transaction::TxId;
-use values::{Bytes, Hash, Items, Shared};
+use values::{Bytes, Hash, Items, Shared, Slice};
 use world::World;
+
+// how many bytes tell how long a transaction is
+const TX_COUNT: usize = 4;
 
 /// The job of the next block, of what was taken in of its transactions, and the id that each of them uses.
 pub(crate) fn job_of<'a>(
@@ -50,13 +53,31 @@ pub(crate) fn job_of<'a>(
     Ok((job, ids))
 }
 
+/// Where the transactions of a block begin in its bytes, of which there are so many. No clause speaks of it: what is looked for
+/// there is compared.
+fn starts_of(alloc: Global, bytes: usize, txs: &[Slice<'_>]) -> Result<Vec<usize>, AllocError> {
+    let mut starts = Vec::with_capacity(alloc, txs.len())?;
+    let mut spelled = 0usize;
+    for tx in txs {
+        spelled = spelled.wrapping_add(TX_COUNT).wrapping_add(tx.len());
+    }
+    let mut end = bytes.wrapping_sub(spelled);
+    for tx in txs {
+        let start = end.wrapping_add(TX_COUNT);
+        starts.push(start)?;
+        end = start.wrapping_add(tx.len());
+    }
+    Ok(starts)
+}
+
 /// What the candidates of a job change where these are their flags.
 fn changes_of(
     alloc: Global,
     job: &Job<'_>,
     ids: &[Option<TxId>],
     flags: Vec<Flag>,
-    bytes: Bytes,
+    bytes: Shared<Bytes>,
+    starts: &[usize],
     header_hash: Hash,
 ) -> Result<Delta, AllocError>
     requires flags { flags.items ≡ fold.flags job.now }
@@ -64,7 +85,7 @@ fn changes_of(
     requires few { length ids.now ≤ max_txs }
     ensures { IfOk result (λ d. Changes job.now ids.now bytes header_hash d) }
 {
-    let effects = effects_of(alloc, job, flags.as_slice())?;
+    let effects = effects_of(alloc, job, flags.as_slice(), &bytes, starts)?;
     let uses = uses_of(alloc, job.number(), ids, flags.as_slice())?;
     Ok(Delta {
         changes: Items::from_vec(effects.changes),
@@ -84,7 +105,7 @@ fn changes_of(
 /// The delta of a block that is the next one and that these bytes spell, which it keeps; of its job, ids and flags.
 pub(crate) fn delta_of(
     alloc: Global,
-    bytes: Bytes,
+    bytes: Shared<Bytes>,
     block: &Block<'_>,
     job: &Job<'_>,
     ids: &[Option<TxId>],
@@ -95,5 +116,7 @@ pub(crate) fn delta_of(
     requires few { length ids.now ≤ max_txs }
     ensures { IfOk result (λ d. (channel : Configuration) (accepts : Accepts) (w : world.World) → job.now ≡ commit.job_of channel accepts w (txs_of block.now) → ids.now ≡ map (used_id channel accepts) (txs_of block.now) → IsDelta channel accepts w (txs_of block.now) (committed_of bytes block.now (commit.job_of channel accepts w (txs_of block.now))) d) }
 {
-    changes_of(alloc, job, ids, flags, bytes, header_hash(&block.header))
+    let starts = starts_of(alloc, bytes.get().len(), block.txs.as_slice())?;
+    let hash = header_hash(&block.header);
+    changes_of(alloc, job, ids, flags, bytes, starts.as_slice(), hash)
 }

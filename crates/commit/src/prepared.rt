@@ -13,7 +13,7 @@ use policy_eval::Verify;
 use rules::Refused;
 use std::alloc::{AllocError, Global};
 use std::thread::Threads;
-use values::{Bytes, Hash};
+use values::{Bytes, Hash, Shared};
 
 /// A block, what can be said of its transactions without the world, and a copy of its bytes.
 #[derive(Drop)]
@@ -21,7 +21,7 @@ pub(crate) struct Prepared<'b> {
     pub(crate) block: Block<'b>,
     pub(crate) taken: Vec<Taken<'b>>,
     pub(crate) data_hash: Hash,
-    pub(crate) bytes: Bytes,
+    pub(crate) bytes: Shared<Bytes>,
 }
 
 impl<'b> Prepared<'b> {

@@ -38,6 +38,14 @@ impl<'b> Next<'b> {
     {
         core::mem::replace(&mut self.prepared, Err(Refused::Memory))
     }
+
+    /// Who checks it while others take in the block behind it.
+    fn checkers(&self, workers: Workers) -> Workers {
+        match &self.prepared {
+            Ok(prepared) => workers.beside_intake(prepared.taken.len()),
+            Err(_) => workers,
+        }
+    }
 }
 
 /// Commits a block that was taken in.
@@ -77,13 +85,14 @@ fn commit_beside_intake<'b, R: Threads + Wait + Sync, V: Verify + Sync, G: Gate 
     ensures bytes { result.1.bytes.now ≡ bytes.now }
     ensures next { IsAhead channel.now (V.accepts verifier.now) result.1.bytes.now result.1.prepared }
 {
+    let checkers = this.checkers(workers);
     let mut this = this;
     let mut commit = ||
         requires { IsSync R.row × IsSync G.row × IsAhead channel.now (V.accepts verifier.now) this.bytes.now this.prepared }
         ensures { Submits (V.accepts verifier.entry.now) (committing channel.entry.now published.entry.now) this.entry.bytes.now result (committing channel.entry.now published.exit.now) }
     {
         commit_next(
-            rt, alloc, channel, workers, verifier, gate, published, &mut this,
+            rt, alloc, channel, checkers, verifier, gate, published, &mut this,
         )
     };
     let (prepared, answer) = take_in_ahead(

@@ -14,7 +14,7 @@ use policy_eval::Verify;
 use rules::{Delta, Refused};
 use serial_checks::flags;
 use std::alloc::Global;
-use values::Bytes;
+use values::{Bytes, Shared};
 use world::World;
 
 /// The next block of a world, and what can be said of its transactions without the world; or why the bytes are refused.
@@ -48,7 +48,7 @@ pub(crate) fn next_delta<V: Verify>(
     let (block, taken) = take_in_next(alloc, channel, world, bytes, verifier)?;
     let (job, ids) = job_of(alloc, channel, world, taken)?;
     let flags = flags(alloc, &job)?;
-    let kept = Bytes::from_slice(alloc, bytes)?;
+    let kept = Shared::new(alloc, Bytes::from_slice(alloc, bytes)?)?;
     let delta = delta_of(alloc, kept, &block, &job, ids.as_slice(), flags)?;
     Ok(delta)
 }

@@ -3,6 +3,9 @@ ghost use Rattle.std.specs.Prelude.{◌≡◌, ◌≤◌, ◌<◌, ◌↔◌, �
 /// The most workers that a committer has.
 pub const MAX_WORKERS: usize = 64;
 
+// So many transactions are checked in the time that some threads take to start.
+const WORTH_A_CHECKER: usize = 2048;
+
 /// How many workers check a block.
 #[derive(Clone, Copy)]
 pub(crate) struct Workers {
@@ -20,5 +23,13 @@ impl Workers {
             return None;
         }
         Some(Workers { count })
+    }
+
+    /// Those that check a block of so many transactions while the others take in the next one: few, for each one more is a thread
+    /// where there is no processor for it.
+    pub(crate) fn beside_intake(self, txs: usize) -> Workers {
+        Workers {
+            count: self.count.min(1 + txs / WORTH_A_CHECKER),
+        }
     }
 }

@@ -9,12 +9,13 @@ ghost use Rattle.rules.specs.Fold as fold;
 ghost use Rattle.rules.specs.Fold.{final_state, entries_to};
 
 use crate::changes::changes_to_rows;
+use crate::keeping::Keeping;
 use crate::writing::write_block;
 use candidates::keys_have_one_order;
 use key_chains::Job;
 use rules::{Change, Flag, NewEntry};
 use std::alloc::{AllocError, Global};
-use values::Shared;
+use values::{Bytes, Shared};
 
 /// What a block changes, but for the ids that it uses.
 #[derive(Drop)]
@@ -26,18 +27,28 @@ pub struct Effects {
     pub entries: Vec<Shared<NewEntry>>,
 }
 
-/// The effects of a block whose flags these are. Each written value is copied once, and shared by row and history; each
-/// key is copied once for its row and once for each entry.
-pub fn effects_of(alloc: Global, job: &Job<'_>, flags: &[Flag]) -> Result<Effects, AllocError>
+/// The effects of a block whose flags these are.
+///
+/// Rows and entries keep keys and values as parts of these bytes, where the transactions begin at these places: what is found
+/// there isn't copied.
+pub fn effects_of(
+    alloc: Global,
+    job: &Job<'_>,
+    flags: &[Flag],
+    bytes: &Shared<Bytes>,
+    starts: &[usize],
+) -> Result<Effects, AllocError>
     requires { flags.now ≡ fold.flags job.now }
     ensures state { IfOk result (λ e. with_changes job.now.state (changes_in e.changes.items) ≡ final_state job.now) }
     ensures keys { IfOk result (λ e. IsStrictlySortedBy key_cmp (map (λ c. c.0) (changes_in e.changes.items))) }
     ensures history { IfOk result (λ e. (h : history.History) → with_entries h (entries_in e.entries.items) ≡ with_entries h (entries_to job.now (length job.now.candidates))) }
 {
     keys_have_one_order();
-    let written = write_block(alloc, job, flags)?;
+    let keys = job.keys();
+    let mut keeping = Keeping::new(alloc, bytes, starts, keys.len())?;
+    let written = write_block(alloc, &mut keeping, job, flags)?;
     Ok(Effects {
-        changes: changes_to_rows(alloc, job.keys(), written.rows)?,
+        changes: changes_to_rows(alloc, &keeping, keys, written.rows)?,
         entries: written.entries,
     })
 }

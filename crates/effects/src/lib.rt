@@ -3,6 +3,7 @@
 
 mod block_effects;
 mod changes;
+mod keeping;
 mod writing;
 mod written_row;
 

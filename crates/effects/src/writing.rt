@@ -12,14 +12,15 @@ ghost use Rattle.effects.specs.Entries.{entry_at, entry_written, entries_written
 ghost use Rattle.effects.specs.Rows.{ShowRows};
 ghost use Rattle.effects.specs.WrittenRow.{with_write, with_writes};
 
+use crate::keeping::Keeping;
 use crate::written_row::row_after;
-use block_steps::{copy_value, new_entry};
+use block_steps::new_entry;
 use candidates::{OpenTx, StateKey, WrittenKey, keys_have_one_order};
 use key_chains::Job;
 use rules::{Flag, NewEntry, Row};
 use std::alloc::{AllocError, Global};
 use transaction::{TxId, Version};
-use values::{Bytes, Shared};
+use values::{Part, Shared};
 
 /// What the valid transactions so far made of a key's row, `Some(None)` where they removed it; `None` where none of
 /// them wrote the key.
@@ -42,42 +43,37 @@ fn row_now<'r>(written: &'r WrittenRow, before: Option<&'r Row>) -> Option<&'r R
     }
 }
 
-/// What is written at a key's value, copied once for the row and the history.
+/// What is written at the value of the key of this number, kept once for the row and the history.
 fn new_value(
-    alloc: Global,
+    keeping: &Keeping<'_>,
+    number: u32,
     written: &WrittenKey<'_>,
-) -> Result<Option<Option<Shared<Bytes>>>, AllocError>
+) -> Result<Option<Option<Part>>, AllocError>
     ensures { IfOk result (λ value. value ≡ written.now.value) }
 {
     match &written.value {
         None => Ok(None),
-        Some(value) => Ok(Some(copy_value(alloc, value)?)),
+        Some(None) => Ok(Some(None)),
+        Some(Some(value)) => Ok(Some(Some(keeping.value(number, value)?))),
     }
 }
 
-fn share_value(value: &Option<Shared<Bytes>>) -> Result<Option<Shared<Bytes>>, AllocError>
-    ensures { IfOk result (λ shared. shared ≡ value.now) }
-{
-    match value {
-        None => Ok(None),
-        Some(value) => Ok(Some(value.share()?)),
-    }
-}
-
-/// Adds the history entry of a key whose value is written.
+/// Adds the history entry of the key of this number, where its value is written.
 fn add_entry(
     alloc: Global,
+    keeping: &Keeping<'_>,
     entries: &mut Vec<Shared<NewEntry>>,
     version: Version,
     id: TxId,
+    number: u32,
     key: &StateKey<'_>,
-    value: &Option<Option<Shared<Bytes>>>,
+    value: Option<Option<Part>>,
 ) -> Result<(), AllocError>
-    ensures { OnOk result (entries_in entries.new.items ≡ entries_in entries.old.items ++ entry_at version id key.now value.now) }
+    ensures { OnOk result (entries_in entries.new.items ≡ entries_in entries.old.items ++ entry_at version id key.now value) }
 {
     if let Some(value) = value {
-        let value = share_value(value)?;
-        entries.push(new_entry(alloc, version, id, &key.namespace(), &key.key(), value)?)?;
+        let key = keeping.key(number, key)?;
+        entries.push(new_entry(alloc, version, id, key, value)?)?;
     }
     Ok(())
 }
@@ -85,6 +81,7 @@ fn add_entry(
 /// Makes what is written at the key that stands at this place.
 fn write_one(
     alloc: Global,
+    keeping: &mut Keeping<'_>,
     rows: &mut Vec<WrittenRow>,
     entries: &mut Vec<Shared<NewEntry>>,
     job: &Job<'_>,
@@ -100,17 +97,28 @@ fn write_one(
     ensures count { OnOk result (length rows.new.items ≡ length rows.old.items) }
     ensures entries { OnOk result (entries_in entries.new.items ≡ entries_in entries.old.items ++ entry_written version id written.now) }
 {
-    let value = new_value(alloc, written)?;
-    add_entry(alloc, entries, version, id, &written.key, &value)?;
+    keeping.note(version.tx, number, written);
+    let value = new_value(keeping, number, written)?;
     let now = row_now(&rows[number as usize], job.row(&written.key));
     let row = row_after(version, &value, &written.policy, now)?;
     rows[number as usize] = Some(row);
+    add_entry(
+        alloc,
+        keeping,
+        entries,
+        version,
+        id,
+        number,
+        &written.key,
+        value,
+    )?;
     Ok(())
 }
 
 /// Makes all that candidate i writes.
 fn write_all(
     alloc: Global,
+    keeping: &mut Keeping<'_>,
     rows: &mut Vec<WrittenRow>,
     entries: &mut Vec<Shared<NewEntry>>,
     job: &Job<'_>,
@@ -132,6 +140,7 @@ fn write_all(
         let number = job.key_number_of(i, place);
         write_one(
             alloc,
+            keeping,
             rows,
             entries,
             job,
@@ -147,6 +156,7 @@ fn write_all(
 /// Takes candidate i, whose flag this is.
 fn take(
     alloc: Global,
+    keeping: &mut Keeping<'_>,
     rows: &mut Vec<WrittenRow>,
     entries: &mut Vec<Shared<NewEntry>>,
     job: &Job<'_>,
@@ -166,7 +176,7 @@ fn take(
     keys_have_one_order();
     match job.open_tx(i) {
         None => Ok(()),
-        Some(open_tx) => write_all(alloc, rows, entries, job, i, open_tx),
+        Some(open_tx) => write_all(alloc, keeping, rows, entries, job, i, open_tx),
     }
 }
 
@@ -185,6 +195,7 @@ fn unwritten(alloc: Global, count: usize) -> Result<Vec<WrittenRow>, AllocError>
 /// what the valid ones write.
 pub(crate) fn write_block(
     alloc: Global,
+    keeping: &mut Keeping<'_>,
     job: &Job<'_>,
     flags: &[Flag],
 ) -> Result<Written, AllocError>
@@ -196,7 +207,15 @@ pub(crate) fn write_block(
     let mut rows = unwritten(alloc, job.keys().len())?;
     let mut entries = Vec::new(alloc);
     for i in 0..job.len() {
-        take(alloc, &mut rows, &mut entries, job, i, flags[i as usize])?;
+        take(
+            alloc,
+            keeping,
+            &mut rows,
+            &mut entries,
+            job,
+            i,
+            flags[i as usize],
+        )?;
     }
     Ok(Written { rows, entries })
 }

@@ -8,7 +8,7 @@ use policy::Policy;
 use rules::Row;
 use std::alloc::AllocError;
 use transaction::Version;
-use values::{Bytes, Shared};
+use values::{Part, Shared};
 
 /// The policy beside a written value.
 fn policy_beside(
@@ -26,7 +26,7 @@ fn policy_beside(
 /// The row of a written value, which gets one more owner. Takes no memory.
 fn with_value(
     version: Version,
-    value: &Shared<Bytes>,
+    value: &Part,
     policy: &Option<Option<Shared<Policy>>>,
     row: Option<&Row>,
 ) -> Result<Row, AllocError>
@@ -43,7 +43,7 @@ fn with_value(
 /// Takes no memory.
 pub(crate) fn row_after(
     version: Version,
-    value: &Option<Option<Shared<Bytes>>>,
+    value: &Option<Option<Part>>,
     policy: &Option<Option<Shared<Policy>>>,
     row: Option<&Row>,
 ) -> Result<Option<Row>, AllocError>

@@ -11,7 +11,7 @@ use Rattle.history_index.specs.Hash.{key_hash}
 use Rattle.history_index.specs.Places.{last_place}
 
 abbrev pub key_of : Logged → StateKey
-key_of l = (l.entry.namespace, l.entry.key)
+key_of l = l.entry.key
 
 abbrev pub keyed : Logged → StateKey × HistoryEntry
 keyed l = (key_of l, l.entry.entry)

@@ -98,11 +98,11 @@ impl HistoryIndex {
     /// Adds an entry, the newest of its key. Constant time, no memory.
     pub fn add(&mut self, entry: Shared<NewEntry>)
         requires { 0 < self.old.room }
-        ensures history { self.new.history ≡ with_entries self.old.history (((entry.namespace, entry.key), entry.entry) ∷ []) }
+        ensures history { self.new.history ≡ with_entries self.old.history ((entry.key, entry.entry) ∷ []) }
         ensures room { self.new.room + 1 ≡ self.old.room }
     {
         let added = entry.get();
-        let hash = key_hash(&added.namespace.lend(), &added.key.lend());
+        let hash = key_hash(&added.key.namespace(), &added.key.key());
         let older = replace(&mut self.newest, hash, self.log.len() + 1);
         self.log.push_reserved(Logged { entry, older });
         self.room -= 1;

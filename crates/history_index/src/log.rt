@@ -17,7 +17,7 @@ impl Logged {
         ensures { result ≡ is_same_key (namespace.now, key.now) (key_of self.now) }
     {
         let entry = self.entry.get();
-        namespace.is_same(&entry.namespace.lend()) && key.is_same(&entry.key.lend())
+        namespace.is_same(&entry.key.namespace()) && key.is_same(&entry.key.key())
     }
 }
 

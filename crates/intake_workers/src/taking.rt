@@ -14,7 +14,7 @@ use pieces::{Beside, Work, in_pieces_beside};
 use policy_eval::Verify;
 use std::alloc::{AllocError, Global};
 use std::thread::Threads;
-use values::{Bytes, Hash, Slice};
+use values::{Bytes, Hash, Shared, Slice};
 
 /// Takes in the transactions of pieces. Each passes the gate first.
 #[derive(Clone, Copy)]
@@ -59,6 +59,13 @@ fn take_piece<'a, V: Verify, G: Gate>(
     Ok(all)
 }
 
+/// A copy, to be kept.
+fn kept(alloc: Global, bytes: &[u8]) -> Result<Shared<Bytes>, AllocError>
+    ensures { IfOk result (λ kept. kept ≡ bytes.now) }
+{
+    Shared::new(alloc, Bytes::from_slice(alloc, bytes)?)
+}
+
 /// Makes the data hash of a block with these transactions, and a copy of its bytes.
 #[derive(Drop)]
 struct HashAndCopy<'t, 'a> {
@@ -67,14 +74,11 @@ struct HashAndCopy<'t, 'a> {
     bytes: &'t [u8],
 }
 
-impl<'t, 'a> Beside<(Hash, Result<Bytes, AllocError>)> for HashAndCopy<'t, 'a> {
+impl<'t, 'a> Beside<(Hash, Result<Shared<Bytes>, AllocError>)> for HashAndCopy<'t, 'a> {
     ghost gives = { λ s made. (made.0 ≡ data_hash_of s.txs.now) × IfOk made.1 (λ bytes. bytes ≡ s.bytes.now) };
 
-    fn make(&self) -> (Hash, Result<Bytes, AllocError>) {
-        (
-            data_hash(self.txs),
-            Bytes::from_slice(self.alloc, self.bytes),
-        )
+    fn make(&self) -> (Hash, Result<Shared<Bytes>, AllocError>) {
+        (data_hash(self.txs), kept(self.alloc, self.bytes))
     }
 }
 
@@ -85,13 +89,13 @@ pub struct TakenIn<'a> {
     pub taken: Vec<Taken<'a>>,
     pub data_hash: Hash,
     /// Its bytes, to be kept.
-    pub bytes: Bytes,
+    pub bytes: Shared<Bytes>,
 }
 
 fn taken_in<'a>(
     taken: Result<Vec<Taken<'a>>, AllocError>,
     data_hash: Hash,
-    bytes: Result<Bytes, AllocError>,
+    bytes: Result<Shared<Bytes>, AllocError>,
 ) -> Result<TakenIn<'a>, AllocError>
     ensures { IfOk result (λ r. (taken.entry ≡ Ok r.taken) × (r.data_hash ≡ data_hash) × (bytes ≡ Ok r.bytes)) }
 {

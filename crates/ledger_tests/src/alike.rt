@@ -13,7 +13,7 @@ use policy_eval::Verify;
 use rules::{Accepted, CommittedBlock, Flag, HistoryEntry, Refused, Row};
 use std::alloc::Global;
 use transaction::TxId;
-use values::{Bytes, Items, Shared};
+use values::{Items, Part};
 use world::World;
 
 /// Both, with the same blocks.
@@ -54,10 +54,10 @@ fn have_flags(told: &Result<Items<Reason>, Refused>, given: &Result<Accepted, Re
     }
 }
 
-fn is_same_value(one: &Option<Shared<Bytes>>, other: &Option<Shared<Bytes>>) -> bool {
+fn is_same_value(one: &Option<Part>, other: &Option<Part>) -> bool {
     match (one, other) {
         (None, None) => true,
-        (Some(one), Some(other)) => one.get().is_same(other.get()),
+        (Some(one), Some(other)) => one.as_slice() == other.as_slice(),
         _ => false,
     }
 }
@@ -77,7 +77,7 @@ fn is_same_row(alloc: Global, one: Option<&Row>, other: Option<&Row>) -> Result<
         (None, None) => Ok(true),
         (Some(one), Some(other)) => Ok(
             one.version == other.version
-                && one.value.get().is_same(other.value.get())
+                && one.value.as_slice() == other.value.as_slice()
                 && has_same_policy(alloc, one, other)?,
         ),
         _ => Ok(false),
@@ -91,7 +91,7 @@ fn is_same_entry(one: &HistoryEntry, other: &HistoryEntry) -> bool {
 fn is_same_block(one: Option<&CommittedBlock>, other: Option<&CommittedBlock>) -> bool {
     match (one, other) {
         (Some(one), Some(other)) => {
-            one.bytes.is_same(&other.bytes)
+            one.bytes.get().is_same(other.bytes.get())
                 && one.header_hash == other.header_hash
                 && one.flags.as_slice() == other.flags.as_slice()
         }

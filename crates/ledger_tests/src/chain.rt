@@ -67,7 +67,7 @@ fn is_kept(kept: Option<&CommittedBlock>, block: &Committed) -> bool {
         return false;
     };
     let numbers = kept.flags.as_slice().iter().map(|flag| flag.number());
-    kept.bytes.as_slice() == block.bytes
+    kept.bytes.get().as_slice() == block.bytes
         && kept.header_hash == *block.header_hash
         && numbers.eq(block.flags.iter().copied())
 }

@@ -31,7 +31,7 @@ fn large_script(alloc: Global) -> Result<String, AllocError> {
 fn is_large(row: Option<&Row>) -> bool {
     match row {
         None => false,
-        Some(row) => row.value.get().len() == LARGE,
+        Some(row) => row.value.as_slice().len() == LARGE,
     }
 }
 

@@ -24,7 +24,7 @@ fn last_header(alloc: Global, world: &World) -> Result<Option<Header>, Failed> {
         return Ok(None);
     };
     match world.block(last) {
-        Some(block) => Ok(Some(decode_block(alloc, block.bytes.as_slice())?.header)),
+        Some(block) => Ok(Some(decode_block(alloc, block.bytes.get().as_slice())?.header)),
         None => Err(Failed::Missing("the last block")),
     }
 }

@@ -15,7 +15,7 @@ fn show_row(alloc: Global, shown: &mut Vec<u8>, row: Option<&Row>) -> Result<(),
         return Ok(());
     };
     shown.push(1)?;
-    shown.extend_from_slice(row.value.get().as_slice())?;
+    shown.extend_from_slice(row.value.as_slice())?;
     shown.extend_from_slice(&row.version.block.to_be_bytes())?;
     shown.extend_from_slice(&row.version.tx.to_be_bytes())?;
     shown.extend_from_slice(policy_text(alloc, row)?.as_bytes())?;
@@ -60,9 +60,9 @@ fn show_entry(shown: &mut Vec<u8>, entry: &HistoryEntry) -> Result<(), AllocErro
         None => shown.push(b'-')?,
         Some(value) => {
             shown.push(b'=')?;
-            let value = value.get();
+            let value = value.as_slice();
             shown.extend_from_slice(&value.len().to_be_bytes())?;
-            shown.extend_from_slice(value.as_slice())?;
+            shown.extend_from_slice(value)?;
         }
     }
     Ok(())

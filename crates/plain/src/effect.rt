@@ -13,10 +13,10 @@ use crate::state::StateNow;
 use crate::state_key::StateKey;
 use block_steps::{change_to, policy_kept, share_row, with_policy};
 use policy::{Policy, PolicyFault};
-use rules::{Change, Row};
+use rules::{Change, KeptKey, Row};
 use std::alloc::{AllocError, Global};
 use transaction::{NsSet, PolicyWrite, Tx, Version, Write};
-use values::{KeyRef, NameRef, Shared};
+use values::{KeyRef, NameRef, Part, Shared};
 
 fn set_of<'a>(tx: &'a Tx<'a>, namespace: &NameRef<'_>) -> Option<&'a NsSet<'a>>
     ensures { option_copied result ≡ effect.set_of tx.now namespace.now }
@@ -98,7 +98,7 @@ fn value_written(
     match &write.value {
         None => Ok(None),
         Some(value) => Ok(Some(Row {
-            value: Shared::new(alloc, value.copy(alloc)?)?,
+            value: Part::copied(alloc, value.as_slice())?,
             version,
             policy: policy_after(alloc, policy_write, row)?,
         })),
@@ -144,7 +144,8 @@ fn change_at(
     ensures { IfOk result (λ c. change_of c ≡ (key_of key.now, effect.effect_at version tx.now (key_of key.now) (get (state_now state.entry) (key_of key.now)))) }
 {
     let row = effect_at(alloc, version, tx, key, state.row(key))?;
-    change_to(alloc, &key.namespace, &key.key, row)
+    let key = KeptKey::copied(alloc, &key.namespace, &key.key)?;
+    change_to(alloc, key, row)
 }
 
 /// The changes of the state by a valid transaction.

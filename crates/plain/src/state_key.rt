@@ -4,7 +4,7 @@ ghost use Rattle.rules.specs.Delta.{change_of};
 ghost use Rattle.rules.specs.Effect as effect;
 ghost use Rattle.plain.specs.Keys.{key_of, keys_of};
 
-use rules::Change;
+use rules::{Change, KeptKey};
 use std::alloc::{AllocError, Global};
 use transaction::{NsSet, Tx};
 use values::{Key, KeyRef, Name, NameRef};
@@ -47,10 +47,10 @@ impl<'a> StateKey<'a> {
         self.namespace.is_same(&change.namespace()) && self.key.is_same(&change.key())
     }
 
-    pub fn is_owned(&self, namespace: &Name, key: &Key) -> bool
-        ensures { result ≡ is_same_key (key_of self.now) (namespace.now, key.now) }
+    pub fn is_kept(&self, key: &KeptKey) -> bool
+        ensures { result ≡ is_same_key (key_of self.now) key.now }
     {
-        self.namespace.is_same(&namespace.lend()) && self.key.is_same(&key.lend())
+        self.namespace.is_same(&key.namespace()) && self.key.is_same(&key.key())
     }
 }
 

@@ -74,7 +74,7 @@ fn add_entries<'a>(
 {
     for entry in entries {
         let entry = entry.get();
-        if wanted.is_owned(&entry.namespace, &entry.key) {
+        if wanted.is_kept(&entry.key) {
             found.push(&entry.entry)?;
         }
     }

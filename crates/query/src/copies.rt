@@ -1,4 +1,4 @@
-//! Copies for who asked: what is large gets one owner more and isn't copied, but for keys, and for the bytes of a block.
+//! Copies for who asked: what is large gets one owner more and isn't copied.
 ghost use Rattle.std.specs.Prelude.{◌≡◌, map, IfOk};
 ghost use Rattle.std.specs.Option.{option_copied};
 
@@ -6,9 +6,9 @@ use block_steps::share_policy;
 use history_index::Entries;
 use rules::{CommittedBlock, HistoryEntry, KeyedRow, Row};
 use std::alloc::{AllocError, Global};
-use values::{Bytes, Items, Shared};
+use values::{Items, Part};
 
-fn copied_row(alloc: Global, keyed: &KeyedRow) -> Result<KeyedRow, AllocError>
+fn copied_row(keyed: &KeyedRow) -> Result<KeyedRow, AllocError>
     ensures { IfOk result (λ copied. copied ≡ keyed.now) }
 {
     let row = keyed.row();
@@ -17,21 +17,21 @@ fn copied_row(alloc: Global, keyed: &KeyedRow) -> Result<KeyedRow, AllocError>
         version: row.version,
         policy: share_policy(&row.policy)?,
     };
-    KeyedRow::new(alloc, &keyed.namespace(), &keyed.key(), shared)
+    Ok(KeyedRow::new(keyed.kept_key().share()?, shared))
 }
 
-/// Linear in the rows and in the bytes of their keys.
+/// Linear in the rows.
 pub(crate) fn copied_rows(alloc: Global, rows: &[&KeyedRow]) -> Result<Items<KeyedRow>, AllocError>
     ensures { IfOk result (λ copied. copied ≡ map (λ row. row.now) rows.now) }
 {
     let mut copied = Vec::with_capacity(alloc, rows.len())?;
     for row in rows {
-        copied.push(copied_row(alloc, row)?)?;
+        copied.push(copied_row(row)?)?;
     }
     Ok(Items::from_vec(copied))
 }
 
-fn share_value(value: &Option<Shared<Bytes>>) -> Result<Option<Shared<Bytes>>, AllocError>
+fn share_value(value: &Option<Part>) -> Result<Option<Part>, AllocError>
     ensures { IfOk result (λ shared. shared ≡ value.now) }
 {
     match value {
@@ -64,7 +64,7 @@ pub(crate) fn copied_entries(
     Ok(Items::from_vec(copied))
 }
 
-/// Linear in the bytes of the block.
+/// Linear in the transactions of the block.
 pub(crate) fn copied_block(
     alloc: Global,
     block: Option<&CommittedBlock>,
@@ -74,7 +74,7 @@ pub(crate) fn copied_block(
     match block {
         None => Ok(None),
         Some(block) => Ok(Some(CommittedBlock {
-            bytes: block.bytes.copy(alloc)?,
+            bytes: block.bytes.share()?,
             header_hash: block.header_hash,
             flags: block.flags.copy(alloc)?,
         })),

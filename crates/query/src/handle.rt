@@ -145,7 +145,7 @@ impl QueryHandle {
         self.ask(FirstUseOf { id: *id })
     }
 
-    /// The block of a number, if there is one. Its bytes and flags are copied.
+    /// The block of a number, if there is one. Its flags are copied.
     pub fn block(
         &mut self,
         alloc: Global,

@@ -4,7 +4,7 @@ use crate::failed::Failed;
 use query::Reply;
 use rules::{CommittedBlock, HistoryEntry, KeyedRow, Row};
 use std::alloc::{AllocError, Global};
-use values::{Bytes, Shared};
+use values::Part;
 use world::World;
 
 /// Whether a reply is of this world's height.
@@ -12,10 +12,10 @@ pub fn is_of<A>(reply: &Reply<A>, world: &World) -> bool {
     reply.height == world.height() && reply.header_hash == world.header_hash()
 }
 
-fn is_same_value(one: &Option<Shared<Bytes>>, other: &Option<Shared<Bytes>>) -> bool {
+fn is_same_value(one: &Option<Part>, other: &Option<Part>) -> bool {
     match (one, other) {
         (None, None) => true,
-        (Some(one), Some(other)) => one.get().is_same(other.get()),
+        (Some(one), Some(other)) => one.as_slice() == other.as_slice(),
         _ => false,
     }
 }
@@ -33,7 +33,7 @@ fn has_same_policy(alloc: Global, one: &Row, other: &Row) -> Result<bool, AllocE
 pub fn is_same_row(alloc: Global, one: &Row, other: &Row) -> Result<bool, AllocError> {
     Ok(
         one.version == other.version
-            && one.value.get().is_same(other.value.get())
+            && one.value.as_slice() == other.value.as_slice()
             && has_same_policy(alloc, one, other)?,
     )
 }
@@ -55,7 +55,7 @@ pub fn is_same_entry(one: &HistoryEntry, other: &HistoryEntry) -> bool {
 }
 
 pub fn is_same_block(one: &CommittedBlock, other: &CommittedBlock) -> bool {
-    one.bytes.is_same(&other.bytes)
+    one.bytes.get().is_same(other.bytes.get())
         && one.header_hash == other.header_hash
         && one.flags.as_slice() == other.flags.as_slice()
 }

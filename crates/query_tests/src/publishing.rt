@@ -16,7 +16,7 @@ fn is_linked(alloc: Global, world: &World, delta: &Delta) -> Result<bool, Failed
     ensures { IfOk result (λ linked. IsTrue linked → IsLinkedDelta world.now delta.now) }
 {
     let kept = delta.block.get();
-    let block = decoded(alloc, kept.bytes.as_slice())?;
+    let block = decoded(alloc, kept.bytes.get().as_slice())?;
     let data_hash = data_hash(block.txs.as_slice());
     check_place(world.height(), world.header_hash(), &block)?;
     check_data_hash(&block, data_hash)?;

@@ -43,7 +43,7 @@ fn keeps_block(alloc: Global, handle: &mut QueryHandle) -> Result<bool, Failed> 
     };
     Ok(
         is_behind_block(&reply)
-            && kept.bytes.as_slice() == block()
+            && kept.bytes.get().as_slice() == block()
             && kept.header_hash == *header_hash()
             && has_flag(kept.flags.as_slice()),
     )

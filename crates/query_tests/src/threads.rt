@@ -85,7 +85,7 @@ fn has_value(alloc: Global, reply: &Reply<Option<Row>>) -> Result<bool, AllocErr
         None => Ok(reply.height == 0),
         Some(row) => {
             let wanted = format!(in alloc; "{}", reply.height.wrapping_sub(1))?;
-            Ok(row.value.get().as_slice() == wanted.as_bytes())
+            Ok(row.value.as_slice() == wanted.as_bytes())
         }
     }
 }

@@ -26,7 +26,7 @@ abbrev pub changes_in : List Change → List (ChangeOf Row)
 changes_in cs = map change_of cs
 
 abbrev pub entries_in : List NewEntry → List (StateKey × HistoryEntry)
-entries_in es = map (λ e. ((e.namespace, e.key), e.entry)) es
+entries_in es = map (λ e. (e.key, e.entry)) es
 
 abbrev pub uses_in : List NewUse → List (List ℕ × FirstUse)
 uses_in us = map (λ u. (u.id, u.first_use)) us

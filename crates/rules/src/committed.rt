@@ -1,11 +1,11 @@
 use crate::flag::Flag;
-use values::{Bytes, Hash, Items};
+use values::{Bytes, Hash, Items, Shared};
 
 /// An accepted block as a ledger keeps it.
 #[derive(Debug, Drop)]
 pub struct CommittedBlock {
-    /// The bytes that were handed in.
-    pub bytes: Bytes,
+    /// The bytes that were handed in. The keys and values that the block writes are parts of them.
+    pub bytes: Shared<Bytes>,
     /// SHA-256 of the header's DER bytes.
     pub header_hash: Hash,
     /// One for each transaction, in order.

@@ -5,6 +5,7 @@ ghost use Rattle.rules.specs.Delta.{change_of};
 use crate::committed::CommittedBlock;
 use crate::first_use::FirstUse;
 use crate::history::HistoryEntry;
+use crate::kept_key::KeptKey;
 use crate::keyed_row::KeyedRow;
 use crate::row::Row;
 use std::alloc::{AllocError, Global};
@@ -63,8 +64,7 @@ impl Change {
 /// A history entry of a key.
 #[derive(Debug, Drop)]
 pub struct NewEntry {
-    pub namespace: Name,
-    pub key: Key,
+    pub key: KeptKey,
     pub entry: HistoryEntry,
 }
 

@@ -1,5 +1,5 @@
 use transaction::{TxId, Version};
-use values::{Bytes, Shared};
+use values::Part;
 
 /// A value write or a delete of a key, by a valid transaction.
 #[derive(Debug, Drop)]
@@ -9,5 +9,5 @@ pub struct HistoryEntry {
     /// The transaction's id.
     pub id: TxId,
     /// The value, or none where the key was deleted.
-    pub value: Option<Shared<Bytes>>,
+    pub value: Option<Part>,
 }

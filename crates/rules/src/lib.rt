@@ -8,6 +8,7 @@ mod event;
 mod first_use;
 mod flag;
 mod history;
+mod kept_key;
 mod keyed_row;
 mod laws;
 mod read_verdict;
@@ -20,6 +21,7 @@ pub use event::Event;
 pub use first_use::FirstUse;
 pub use flag::Flag;
 pub use history::HistoryEntry;
+pub use kept_key::KeptKey;
 pub use keyed_row::KeyedRow;
 pub use laws::{
     a_block_is_its_delta, checks_decide_what_is_known, checks_in_order_know_everything,

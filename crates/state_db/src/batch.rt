@@ -8,7 +8,7 @@ ghost use Rattle.state_db.specs.Search.{IsSorted, is_below, ties_at, leading};
 
 use crate::edit::Edit;
 use crate::search::{Ordered, count_below};
-use rules::{Change, KeyedRow, Row};
+use rules::{Change, KeptKey, KeyedRow, Row};
 use state_keys::Wanted;
 use std::alloc::{AllocError, Global};
 use std::marker::Model;
@@ -124,8 +124,8 @@ impl Batch {
         ensures err { OnErr result (self.new ≡ self.old) }
         ensures made { OnOk result ((s : State) → changed s self.new ≡ set_at (changed s self.old) (namespace, key) (Some row)) }
     {
-        let keyed = KeyedRow::new(self.alloc, &namespace.lend(), &key.lend(), row)?;
-        let row = Shared::new(self.alloc, keyed)?;
+        let key = KeptKey::copied(self.alloc, &namespace.lend(), &key.lend())?;
+        let row = Shared::new(self.alloc, KeyedRow::new(key, row))?;
         self.set(Change::Put(row))
     }
 

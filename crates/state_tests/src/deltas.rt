@@ -6,10 +6,12 @@ use crate::noted::{IDS, KEYS, NAMESPACE, Noted, id_of, key_of, use_at};
 use crate::pages::{numbered, row};
 use policy::Policy;
 use random_numbers::Random;
-use rules::{Change, CommittedBlock, Delta, HistoryEntry, KeyedRow, NewEntry, NewUse, Row};
+use rules::{
+    Change, CommittedBlock, Delta, HistoryEntry, KeptKey, KeyedRow, NewEntry, NewUse, Row,
+};
 use std::alloc::Global;
 use transaction::Version;
-use values::{Bytes, Items, Shared};
+use values::{Bytes, Items, Part, Shared};
 
 /// What is drawn, the same in each run.
 #[derive(Drop)]
@@ -67,14 +69,15 @@ fn change(alloc: Global, drawing: &mut Drawing, noted: &mut Noted) -> Result<Cha
     let number = drawing.number();
     noted.set(at, Some(number));
     let row = Row {
-        value: Shared::new(alloc, Bytes::from_vec(Vec::new(alloc)))?,
+        value: Part::copied(alloc, &[])?,
         version: Version {
             block: 0,
             tx: number,
         },
         policy: policy(alloc, number)?,
     };
-    let keyed = KeyedRow::new(alloc, &namespace.lend(), &key.lend(), row)?;
+    let key = KeptKey::copied(alloc, &namespace.lend(), &key.lend())?;
+    let keyed = KeyedRow::new(key, row);
     Ok(Change::Put(Shared::new(alloc, keyed)?))
 }
 
@@ -87,8 +90,11 @@ fn entry(
     let number = drawing.number();
     noted.entries.push((at, number))?;
     let entry = NewEntry {
-        namespace: name(alloc, NAMESPACE)?,
-        key: key_of(alloc, at)?,
+        key: KeptKey::copied(
+            alloc,
+            &name(alloc, NAMESPACE)?.lend(),
+            &key_of(alloc, at)?.lend(),
+        )?,
         entry: HistoryEntry {
             version: Version {
                 block: 0,
@@ -103,7 +109,7 @@ fn entry(
 
 fn block_of(alloc: Global, hash: [u8; 32]) -> Result<Shared<CommittedBlock>, Failed> {
     let block = CommittedBlock {
-        bytes: Bytes::from_vec(Vec::new(alloc)),
+        bytes: Shared::new(alloc, Bytes::from_vec(Vec::new(alloc)))?,
         header_hash: hash,
         flags: Items::new(alloc),
     };
@@ -117,7 +123,8 @@ pub fn six_hundred_puts(alloc: Global) -> Result<Delta, Failed> {
     for number in 0..600 {
         let key = key(alloc, &numbered(number))?;
         let row = row(alloc, &numbered(number))?;
-        let keyed = KeyedRow::new(alloc, &namespace.lend(), &key.lend(), row)?;
+        let key = KeptKey::copied(alloc, &namespace.lend(), &key.lend())?;
+        let keyed = KeyedRow::new(key, row);
         changes.push(Change::Put(Shared::new(alloc, keyed)?))?;
     }
     Ok(Delta {

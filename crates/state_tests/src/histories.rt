@@ -1,7 +1,7 @@
 use crate::failed::Failed;
 use crate::fixture::{key, name};
 use history_index::HistoryIndex;
-use rules::{HistoryEntry, NewEntry};
+use rules::{HistoryEntry, KeptKey, NewEntry};
 use std::alloc::Global;
 use transaction::Version;
 use values::Shared;
@@ -9,8 +9,11 @@ use values::Shared;
 // A delete at a place of block 0.
 fn entry(alloc: Global, namespace: &[u8], at: &[u8], tx: u32) -> Result<Shared<NewEntry>, Failed> {
     let entry = NewEntry {
-        namespace: name(alloc, namespace)?,
-        key: key(alloc, at)?,
+        key: KeptKey::copied(
+            alloc,
+            &name(alloc, namespace)?.lend(),
+            &key(alloc, at)?.lend(),
+        )?,
         entry: HistoryEntry {
             version: Version { block: 0, tx },
             id: [0; 64],

@@ -6,11 +6,11 @@ use rules::Row;
 use state_db::{Batch, Rows, StateDb};
 use std::alloc::Global;
 use transaction::Version;
-use values::{Bytes, Shared};
+use values::Part;
 
 pub fn row(alloc: Global, value: &[u8]) -> Result<Row, Failed> {
     Ok(Row {
-        value: Shared::new(alloc, Bytes::from_slice(alloc, value)?)?,
+        value: Part::copied(alloc, value)?,
         version: Version { block: 0, tx: 0 },
         policy: None,
     })
@@ -75,7 +75,7 @@ fn are_keys(rows: Rows<'_>, keys: &[&[u8]]) -> bool {
     for row in rows {
         let key = row.key();
         if wanted.next().copied() != Some(key.as_slice())
-            || row.row().value.get().as_slice() != key.as_slice()
+            || row.row().value.as_slice() != key.as_slice()
         {
             return false;
         }
@@ -125,7 +125,7 @@ fn is_value(
     let at = key(alloc, at)?;
     Ok(match (state.get(&namespace.lend(), &at.lend()), value) {
         (None, None) => true,
-        (Some(row), Some(value)) => row.value.get().as_slice() == value,
+        (Some(row), Some(value)) => row.value.as_slice() == value,
         _ => false,
     })
 }

@@ -7,6 +7,7 @@ mod field;
 mod identity;
 mod laws;
 mod limits;
+mod places;
 mod put;
 mod reader;
 mod spelled;

@@ -10,6 +10,7 @@ mod key;
 mod laws;
 mod lent;
 mod name;
+mod part;
 mod shared;
 
 pub use bytes::Bytes;
@@ -19,4 +20,5 @@ pub use key::{Key, MAX_KEY, is_bound, is_key};
 pub use laws::limits_are_the_definitions;
 pub use lent::{BoundRef, KeyRef, NameRef, Slice};
 pub use name::{MAX_NAME, Name, is_name};
+pub use part::{Part, found_at};
 pub use shared::Shared;

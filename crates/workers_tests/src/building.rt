@@ -11,7 +11,7 @@ use rules::{Flag, Row};
 use state_db::{Batch, StateDb};
 use std::alloc::{AllocError, Global};
 use transaction::{TxFault, Version, decode_tx};
-use values::{Bytes, Key, Name, Shared, is_key, is_name};
+use values::{Bytes, Key, Name, Part, Shared, is_key, is_name};
 
 const KEYS: &str = "Org1:client:c0 11\nOrg1:peer:p0 22\nOrg2:peer:q0 33\n";
 
@@ -56,7 +56,7 @@ fn shared_policy(alloc: Global, text: Option<&[u8]>) -> Result<Option<Shared<Pol
 
 fn row_of(alloc: Global, case: &RowCase<'_>) -> Result<Row, Failed> {
     Ok(Row {
-        value: Shared::new(alloc, Bytes::from_slice(alloc, b"before")?)?,
+        value: Part::copied(alloc, b"before")?,
         version: BEFORE,
         policy: shared_policy(alloc, case.policy)?,
     })

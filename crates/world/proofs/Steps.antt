@@ -40,7 +40,7 @@ room_left true n i before after e h = omega arith
 room_left false n i before after e h = omega arith
 
 pub entry_more : (e : NewEntry) (left rest : List NewEntry) (first old new : History) (all : List NewEntry) → left ≡ e ∷ rest
-    → new ≡ with_entries old (((e.namespace, e.key), e.entry) ∷ []) → with_entries old (entries_in left) ≡ with_entries first (entries_in all)
+    → new ≡ with_entries old ((e.key, e.entry) ∷ []) → with_entries old (entries_in left) ≡ with_entries first (entries_in all)
     → with_entries new (entries_in rest) ≡ with_entries first (entries_in all)
 entry_more e left rest first old new all is made so_far =
     ap (λ h. with_entries h (entries_in rest)) made

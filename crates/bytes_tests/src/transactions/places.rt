@@ -1,0 +1,51 @@
+//! Where what a transaction writes stands in its bytes, which no clause says.
+
+use super::{everything, example};
+use std::process::Abort;
+use std::test::Fail;
+use transaction::{NsSet, SpelledTx, decode_tx};
+use values::found_at;
+
+// Whether the keys and values that a namespace writes stand where it says, where it stands at this place itself.
+fn are_writes_found(bytes: &[u8], place: usize, set: &NsSet<'_>) -> bool {
+    let mut place = place.wrapping_add(set.writes_place());
+    for write in set.writes.as_slice() {
+        let key = place.wrapping_add(write.key_place());
+        if found_at(bytes, key, write.key.as_slice()).is_none() {
+            return false;
+        }
+        if let Some(value) = &write.value {
+            let place = place.wrapping_add(write.value_place());
+            if found_at(bytes, place, value.as_slice()).is_none() {
+                return false;
+            }
+        }
+        place = place.wrapping_add(write.spelled_len());
+    }
+    true
+}
+
+// The same of all namespaces, of which the last one ends the body.
+fn is_all_found(bytes: &[u8], spelled: &SpelledTx<'_>) -> bool {
+    let mut place = spelled.tx().namespaces_place();
+    for set in spelled.tx().namespaces.as_slice() {
+        let name = place.wrapping_add(set.name_place());
+        if found_at(bytes, name, set.name.as_slice()).is_none() {
+            return false;
+        }
+        if !are_writes_found(bytes, place, set) {
+            return false;
+        }
+        place = place.wrapping_add(set.spelled_len());
+    }
+    place == spelled.body().len()
+}
+
+#[test]
+fn all_that_is_written_is_found(rt: HostRuntime) -> Result<(), Fail> {
+    let bytes = example(rt.alloc())?;
+    assert!(rt; is_all_found(&bytes, &decode_tx(rt.alloc(), &bytes)?));
+    let bytes = everything(rt.alloc())?;
+    assert!(rt; is_all_found(&bytes, &decode_tx(rt.alloc(), &bytes)?));
+    Ok(())
+}

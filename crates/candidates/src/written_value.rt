@@ -1,0 +1,54 @@
+ghost use Rattle.std.specs.Prelude.{◌≡◌};
+
+use std::marker::Model;
+use values::Slice;
+
+/// Where a namespace, a key in it and the key's value may stand in other bytes. No clause speaks of these places: who goes to one
+/// compares the bytes that it finds there.
+#[derive(Clone, Copy, Debug)]
+pub struct Spots {
+    pub namespace: usize,
+    pub key: usize,
+    pub value: usize,
+}
+
+/// A value that is written, lent, and where it may stand in its transaction's bytes. A contract sees the value's bytes.
+#[derive(Drop)]
+pub struct WrittenValue<'a> {
+    bytes: Slice<'a>,
+    spots: Spots,
+}
+
+impl<'a> Model for WrittenValue<'a> {
+    ghost use Rattle.std.specs.Prelude.{ℕ, List};
+
+    ghost Value = { List ℕ };
+
+    ghost view = { λ v. v.bytes };
+}
+
+impl<'a> WrittenValue<'a> {
+    pub(crate) fn new(bytes: &Slice<'a>, spots: Spots) -> WrittenValue<'a>
+        ensures { result ≡ bytes.now }
+    {
+        WrittenValue {
+            bytes: bytes.again(),
+            spots,
+        }
+    }
+
+    pub fn as_slice(&self) -> &'a [u8]
+        ensures { result.now ≡ self.now }
+    {
+        self.bytes.as_slice()
+    }
+
+    /// Where it may stand in the bytes of a block in which its transaction begins at this place.
+    pub fn spots_in_block(&self, tx: usize) -> Spots {
+        Spots {
+            namespace: tx.wrapping_add(self.spots.namespace),
+            key: tx.wrapping_add(self.spots.key),
+            value: tx.wrapping_add(self.spots.value),
+        }
+    }
+}

@@ -1,0 +1,91 @@
+//! What a block writes is kept as parts of the block's own bytes, where it is found there.
+ghost use Rattle.std.specs.Prelude.{◌≡◌, IfOk};
+
+use candidates::{Spots, StateKey, WrittenKey, WrittenValue};
+use rules::KeptKey;
+use std::alloc::{AllocError, Global};
+use values::{Bytes, Part, Shared};
+
+/// The bytes of a block, where its transactions may begin there, and where each of its keys may stand, as it was written last.
+#[derive(Drop)]
+pub(crate) struct Keeping<'k> {
+    alloc: Global,
+    bytes: &'k Shared<Bytes>,
+    starts: &'k [usize],
+    spots: Vec<Spots>,
+}
+
+impl<'k> Keeping<'k> {
+    /// Of a block that writes so many keys.
+    pub fn new(
+        alloc: Global,
+        bytes: &'k Shared<Bytes>,
+        starts: &'k [usize],
+        keys: usize,
+    ) -> Result<Keeping<'k>, AllocError> {
+        let nowhere = Spots {
+            namespace: 0,
+            key: 0,
+            value: 0,
+        };
+        Ok(Keeping {
+            alloc,
+            bytes,
+            starts,
+            spots: vec![in alloc; nowhere; keys]?,
+        })
+    }
+
+    fn start_of(&self, i: u32) -> usize {
+        match self.starts.get(i as usize) {
+            None => 0,
+            Some(start) => *start,
+        }
+    }
+
+    /// Notes where candidate i writes a key, which has this number: where it writes a value, for else there is no row, or one with
+    /// the value that it had.
+    pub fn note(&mut self, i: u32, number: u32, written: &WrittenKey<'_>) {
+        let start = self.start_of(i);
+        if let Some(Some(value)) = &written.value {
+            if let Some(spots) = self.spots.get_mut(number as usize) {
+                *spots = value.spots_in_block(start);
+            }
+        }
+    }
+
+    /// Where the key of this number was written last.
+    fn spots_of(&self, number: u32) -> Spots {
+        match self.spots.get(number as usize) {
+            None => Spots {
+                namespace: 0,
+                key: 0,
+                value: 0,
+            },
+            Some(spots) => *spots,
+        }
+    }
+
+    /// The key of this number, to be kept. Takes memory where it isn't found.
+    pub fn key(&self, number: u32, key: &StateKey<'_>) -> Result<KeptKey, AllocError>
+        ensures { IfOk result (λ kept. kept ≡ key.now) }
+    {
+        let spots = self.spots_of(number);
+        let (namespace, key) = (key.namespace(), key.key());
+        match KeptKey::found(self.bytes, spots.namespace, spots.key, &namespace, &key)? {
+            Some(kept) => Ok(kept),
+            None => KeptKey::copied(self.alloc, &namespace, &key),
+        }
+    }
+
+    /// The value that was written last at the key of this number, to be kept. Takes memory where it isn't found.
+    pub fn value(&self, number: u32, value: &WrittenValue<'_>) -> Result<Part, AllocError>
+        ensures { IfOk result (λ part. part ≡ value.now) }
+    {
+        let spots = self.spots_of(number);
+        match Part::found(self.bytes, spots.value, value.as_slice())? {
+            Some(part) => Ok(part),
+            None => Part::copied(self.alloc, value.as_slice()),
+        }
+    }
+}
