@@ -31,6 +31,6 @@ returns g c =
       block = b;
       spelled = next.is_taken.spelled;
       linked = next.linked;
-      delta = subst (λ (bytes : List ℕ). IsDelta channel accepts w (txs_of b) (committed_of bytes b (job_of channel accepts w (txs_of b))) c.in_ok-delta.delta) c.in_ok-kept.ensures
+      delta = subst (λ (bytes : List ℕ). IsDelta channel accepts w (txs_of b) (committed_of bytes b (job_of channel accepts w (txs_of b))) c.in_ok-delta.delta) (c.in_ok-kept.ensures ∙ c.in_ok-from_slice.ensures)
           (c.in_ok-delta.ensures channel accepts w (c.in_ok-job.ensures.job accepts (txs_of b) taken) (c.as_slice.ensures.value ∙ c.in_ok-job.ensures.ids accepts (txs_of b) taken));
     }
