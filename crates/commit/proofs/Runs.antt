@@ -1,5 +1,5 @@
 -- A run goes on by one string of bytes.
-use Rattle.std.proofs.Common.{◌≡◌, ℕ, ◌+◌, ◌<◌, List, [], ◌∷◌, ◌++◌, length, get_or, take, suc, Result, refl, sym, ap, subst, ◌∙◌, arith}
+use Rattle.std.proofs.Common.{◌≡◌, ℕ, ◌+◌, ◌<◌, List, [], ◌∷◌, ◌++◌, length, get_or, take, Result, refl, sym, ap, subst, ◌∙◌, append_assoc}
 use Rattle.std.proofs.lemmas.List.{take_more}
 use Rattle.policy_eval.specs.Accepts.{Accepts}
 use Rattle.query.specs.declared.receipt.Receipt.{Receipt}
@@ -14,17 +14,13 @@ module _ (accepts : Accepts) where
   Runs-push old mid new [] (a ∷ answers) bytes answer runs submits = absurd runs
   Runs-push old mid new (first ∷ blocks) [] bytes answer runs submits = absurd runs
 
-  pub Runs-more : (old mid new : Committing) (blocks : List (List ℕ)) (i : ℕ) (bytes item : List ℕ) (answers answers' : List (Result Receipt NotCommitted)) (answer : Result Receipt NotCommitted)
-      → i < length blocks → item ≡ get_or blocks i item → bytes ≡ item
-      → Runs accepts old (take i blocks) answers mid → Submits accepts mid bytes answer new → answers' ≡ answers ++ answer ∷ []
-      → Runs accepts old (take (i + 1) blocks) answers' new
-  Runs-more old mid new blocks i bytes item answers answers' answer lt at same runs submits e =
+  -- behind strings that were answered earlier, one more of these
+  pub Runs-more : (old mid new : Committing) (earlier blocks : List (List ℕ)) (i : ℕ) (item : List ℕ) (answers answers' : List (Result Receipt NotCommitted)) (answer : Result Receipt NotCommitted)
+      → i < length blocks → item ≡ get_or blocks i item
+      → Runs accepts old (earlier ++ take i blocks) answers mid → Submits accepts mid item answer new → answers' ≡ answers ++ answer ∷ []
+      → Runs accepts old (earlier ++ take (i + 1) blocks) answers' new
+  Runs-more old mid new earlier blocks i item answers answers' answer lt at runs submits e =
       let more : take (i + 1) blocks ≡ take i blocks ++ item ∷ [] = take_more blocks i item lt ∙ ap (λ (b : List ℕ). take i blocks ++ b ∷ []) (sym at) in
-      let pushed : Runs accepts old (take i blocks ++ item ∷ []) (answers ++ answer ∷ []) new = Runs-push old mid new (take i blocks) answers item answer runs (subst (λ (b : List ℕ). Submits accepts mid b answer new) same submits) in
-      subst (λ (all : List (Result Receipt NotCommitted)). Runs accepts old (take (i + 1) blocks) all new) (sym e) (subst (λ (bs : List (List ℕ)). Runs accepts old bs (answers ++ answer ∷ []) new) (sym more) pushed)
-
--- behind the first of a list, the places are those of the rest
-pub next_at : (first : List ℕ) (rest : List (List ℕ)) (i : ℕ) (bytes item : List ℕ) → bytes ≡ item → item ≡ get_or rest i item → bytes ≡ get_or (first ∷ rest) (i + 1) bytes
-next_at first rest i bytes item is at =
-    let behind : suc i ≡ i + 1 = omega arith in
-    subst (λ (x : List ℕ). x ≡ get_or (first ∷ rest) (i + 1) x) (sym is) (subst (λ (n : ℕ). item ≡ get_or (first ∷ rest) n item) behind at)
+      let all : (earlier ++ take i blocks) ++ item ∷ [] ≡ earlier ++ take (i + 1) blocks = append_assoc earlier (take i blocks) (item ∷ []) ∙ ap (λ (l : List (List ℕ)). earlier ++ l) (sym more) in
+      let pushed : Runs accepts old ((earlier ++ take i blocks) ++ item ∷ []) (answers ++ answer ∷ []) new = Runs-push old mid new (earlier ++ take i blocks) answers item answer runs submits in
+      subst (λ (l : List (Result Receipt NotCommitted)). Runs accepts old (earlier ++ take (i + 1) blocks) l new) (sym e) (subst (λ (bs : List (List ℕ)). Runs accepts old bs (answers ++ answer ∷ []) new) all pushed)

@@ -1,23 +1,41 @@
 //! The delta of the next block, by workers.
-ghost use Rattle.std.specs.Prelude.{MatchResult};
+ghost use Rattle.std.specs.Prelude.{◌∷◌, [], MatchResult, IfOk};
+ghost use Rattle.block.specs.Grammar.{Spells};
 ghost use Rattle.rules.specs.Linked.{IsRefused};
 ghost use Rattle.commit.specs.NextDelta.{IsNextDelta};
-ghost use Rattle.commit.specs.Prepared.{IsPrepared, IsTakenIn};
+ghost use Rattle.commit.specs.Prepared.{IsPrepared, IsTakenIn, AreHanded};
 
 use crate::next_delta::{delta_of, job_of};
-use crate::prepared::Prepared;
+use crate::prepared::{Prepared, take_in};
 use crate::workers::Workers;
+use block::Block;
 use block_steps::{check_data_hash, check_place, decoded};
 use channel::Channel;
 use check_workers::check_all;
 use gates::Gate;
-use intake_workers::take_in_beside_hashing;
+use intake_workers::Handed;
 use policy_eval::Verify;
 use rules::{Delta, Refused};
-use std::alloc::Global;
+use std::alloc::{AllocError, Global};
 use std::sync::Wait;
 use std::thread::Threads;
 use world::World;
+
+fn one_handed<'b>(
+    alloc: Global,
+    bytes: &'b [u8],
+    block: Block<'b>,
+) -> Result<Vec<Handed<'b>>, AllocError>
+    requires { Spells bytes.now block }
+    ensures { IfOk result (λ handed. AreHanded (bytes.now ∷ []) handed.items) }
+{
+    let mut all = Vec::with_capacity(alloc, 1)?;
+    all.push(Handed {
+        bytes,
+        block: Ok(block),
+    })?;
+    Ok(all)
+}
 
 /// Takes the next block of a world in by workers, unless its place tells already that it is another one.
 pub(crate) fn take_in_next<'b, R: Threads + Sync, V: Verify + Sync, G: Gate + Sync>(
@@ -34,18 +52,18 @@ pub(crate) fn take_in_next<'b, R: Threads + Sync, V: Verify + Sync, G: Gate + Sy
 {
     let block = decoded(alloc, bytes)?;
     check_place(world.height(), world.header_hash(), &block)?;
-    let txs = block.txs.as_slice();
-    let taken_in = take_in_beside_hashing(
+    let handed = one_handed(alloc, bytes, block)?;
+    let (mut ahead, ()) = take_in(
         rt,
         alloc,
         channel,
+        workers,
+        handed,
         verifier,
         gate,
-        bytes,
-        txs,
-        workers.count,
-    )?;
-    Ok(Prepared::of(block, taken_in))
+        &mut || (),
+    );
+    ahead.next(alloc)
 }
 
 /// What the block that was taken in would change, or why it would be refused; and how many verdicts no worker had found.

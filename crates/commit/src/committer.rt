@@ -114,8 +114,9 @@ impl Committer {
     /// Takes the bytes of blocks one after the other, and answers to all as `submit` would. An `Err` means that no block
     /// was handed in.
     ///
-    /// While the calling thread commits a block, the other workers take in the one behind it, so that many blocks are done
-    /// sooner than by as many calls of `submit`. What was taken in of a block that isn't the next one goes for nothing.
+    /// While the calling thread commits blocks, the other workers take in those behind them, so that many blocks are done
+    /// sooner than by as many calls of `submit`. What was taken in of a block that isn't the next one goes for nothing. Beside
+    /// the answers it takes memory for what waits: some 8 MiB of blocks, and what was taken in of them.
     pub fn run<R: Threads + Wait + Sync, V: Verify + Sync, G: Gate + Sync>(
         &mut self,
         rt: &R,
@@ -127,9 +128,6 @@ impl Committer {
         ensures err { OnErr result (self.new ≡ self.old) }
     {
         let answers = Vec::with_capacity(self.alloc, blocks.len())?;
-        let Some((first, rest)) = blocks.split_first() else {
-            return Ok(answers);
-        };
         Ok(run_all(
             rt,
             self.alloc,
@@ -138,8 +136,7 @@ impl Committer {
             verifier,
             gate,
             &mut self.published,
-            first,
-            rest,
+            blocks,
             answers,
         ))
     }

@@ -1,6 +1,11 @@
-//! A block that was taken in, whatever the world before it.
-ghost use Rattle.std.specs.Prelude.{◌≡◌, map, MatchResult, IfOk};
-ghost use Rattle.commit.specs.Prepared.{IsPrepared, IsAhead};
+//! Blocks that were taken in, whatever the world before them.
+ghost use Rattle.std.specs.Prelude.{◌≡◌, ◌∷◌, [], ℕ, List, take, drop, Err, IfOk, IfSome, OnSome};
+ghost use Rattle.rules.specs.declared.answer.Refused.TheVariants.{Memory};
+ghost use Rattle.std.specs.Vec.Iter.{into_iter_items};
+ghost use Rattle.channel.specs.Configuration.{Configuration};
+ghost use Rattle.policy_eval.specs.Accepts.{Accepts};
+ghost use Rattle.rules.specs.World.{World};
+ghost use Rattle.commit.specs.Prepared.{IsTakenIn, IsDecoded, AreHanded, IsAhead};
 
 use crate::workers::Workers;
 use block::Block;
@@ -8,11 +13,12 @@ use block_steps::decoded;
 use channel::Channel;
 use gates::Gate;
 use intake::Taken;
-use intake_workers::{TakenIn, take_in_beside};
+use intake_workers::{Handed, Hashed, TakenIn, take_in_beside};
 use policy_eval::Verify;
 use rules::Refused;
 use std::alloc::{AllocError, Global};
 use std::thread::Threads;
+use std::vec;
 use values::{Bytes, Hash, Shared};
 
 /// A block, what can be said of its transactions without the world, and a copy of its bytes.
@@ -24,28 +30,144 @@ pub(crate) struct Prepared<'b> {
     pub(crate) bytes: Shared<Bytes>,
 }
 
-impl<'b> Prepared<'b> {
-    pub(crate) fn of(block: Block<'b>, taken_in: TakenIn<'b>) -> Prepared<'b>
-        ensures block { result.block ≡ block.entry }
-        ensures taken { result.taken.items ≡ taken_in.entry.taken.items }
-        ensures hash { result.data_hash ≡ taken_in.entry.data_hash }
-        ensures bytes { result.bytes ≡ taken_in.entry.bytes }
+/// Blocks that were taken in, to be committed one after the other.
+#[derive(Drop)]
+pub(crate) struct Ahead<'b> {
+    handed: vec::IntoIter<Handed<'b>>,
+    hashed: vec::IntoIter<Hashed>,
+    taken: vec::IntoIter<Taken<'b>>,
+}
+
+/// The next ones, if there are so many, and memory for them.
+fn next_taken<'b>(
+    alloc: Global,
+    taken: &mut vec::IntoIter<Taken<'b>>,
+    count: usize,
+) -> Option<Vec<Taken<'b>>>
+    ensures taken { IfSome result (λ r. r.items ≡ take count (into_iter_items taken.old)) }
+    ensures left { OnSome result (into_iter_items taken.new ≡ drop count (into_iter_items taken.old)) }
+{
+    let Ok(mut all) = Vec::with_capacity(alloc, count) else {
+        return None;
+    };
+    for _ in 0..count {
+        all.push_reserved(taken.next()?);
+    }
+    Some(all)
+}
+
+impl<'b> Ahead<'b> {
+    fn of(handed: Vec<Handed<'b>>, taken_in: TakenIn<'b>) -> Ahead<'b>
+        ensures handed { into_iter_items result.handed ≡ handed.entry.items }
+        ensures hashed { into_iter_items result.hashed ≡ taken_in.entry.hashed.items }
+        ensures taken { into_iter_items result.taken ≡ taken_in.entry.taken.items }
     {
-        let TakenIn {
-            taken,
-            data_hash,
-            bytes,
-        } = taken_in;
-        Prepared {
+        let TakenIn { hashed, taken } = taken_in;
+        Ahead {
+            handed: handed.into_iter(),
+            hashed: hashed.into_iter(),
+            taken: taken.into_iter(),
+        }
+    }
+
+    /// No memory was left for them.
+    fn none(alloc: Global) -> Ahead<'b>
+        ensures { into_iter_items result.handed ≡ [] }
+    {
+        Ahead {
+            handed: Vec::new(alloc).into_iter(),
+            hashed: Vec::new(alloc).into_iter(),
+            taken: Vec::new(alloc).into_iter(),
+        }
+    }
+
+    /// Drops what waits.
+    fn stop(&mut self, alloc: Global) -> Result<Prepared<'b>, Refused>
+        ensures none { into_iter_items self.new.handed ≡ [] }
+        ensures memory { result ≡ Err Memory }
+    {
+        *self = Ahead::none(alloc);
+        Err(Refused::Memory)
+    }
+
+    /// The next one. Where memory was refused, neither it nor those behind it were taken in.
+    pub(crate) fn next(&mut self, alloc: Global) -> Result<Prepared<'b>, Refused>
+        ensures next { (channel : Configuration) (accepts : Accepts) (bytes : List ℕ) (blocks : List (List ℕ)) → IsAhead channel accepts (bytes ∷ blocks) self.old → (w : World) → IsTakenIn channel accepts w bytes result }
+        ensures behind { (channel : Configuration) (accepts : Accepts) (bytes : List ℕ) (blocks : List (List ℕ)) → IsAhead channel accepts (bytes ∷ blocks) self.old → IsAhead channel accepts blocks self.new }
+    {
+        let Some(handed) = self.handed.next() else {
+            return self.stop(alloc);
+        };
+        let Some(hashed) = self.hashed.next() else {
+            return self.stop(alloc);
+        };
+        let block = handed.block?;
+        let Some(taken) = next_taken(alloc, &mut self.taken, block.txs.len()) else {
+            return self.stop(alloc);
+        };
+        let Hashed { data_hash, bytes } = hashed;
+        Ok(Prepared {
             block,
             taken,
             data_hash,
             bytes,
-        }
+        })
     }
 }
 
-/// Takes the block of these bytes in by so many workers, the calling thread behind work of its own.
+fn handed<'b>(alloc: Global, bytes: &'b [u8]) -> Handed<'b>
+    ensures bytes { result.bytes.now ≡ bytes.now }
+    ensures decoded { IsDecoded bytes.now result.block }
+{
+    Handed {
+        bytes,
+        block: decoded(alloc, bytes),
+    }
+}
+
+/// What these bytes spell, one string after the other.
+fn decoded_all<'b>(alloc: Global, blocks: &'b [Bytes]) -> Result<Vec<Handed<'b>>, AllocError>
+    ensures { IfOk result (λ handed. AreHanded blocks.now handed.items) }
+{
+    let mut all = Vec::with_capacity(alloc, blocks.len())?;
+    for bytes in blocks {
+        all.push(handed(alloc, bytes.as_slice()))?;
+    }
+    Ok(all)
+}
+
+/// Takes blocks in by so many workers, the calling thread behind work of its own.
+pub(crate) fn take_in<'b, R: Threads + Sync, V: Verify + Sync, G: Gate + Sync, Z, F: FnMut() -> Z>(
+    rt: &R,
+    alloc: Global,
+    channel: &Channel,
+    workers: Workers,
+    handed: Vec<Handed<'b>>,
+    verifier: &V,
+    gate: &G,
+    own: &mut F,
+) -> (Ahead<'b>, Z)
+    requires { F.pre own.old }
+    ensures ahead { (blocks : List (List ℕ)) → AreHanded blocks handed.entry.items → IsAhead channel.now (V.accepts verifier.now) blocks result.0 }
+    ensures own { F.step own.old result.1 own.new }
+{
+    let (taken_in, done) = take_in_beside(
+        rt,
+        alloc,
+        channel,
+        verifier,
+        gate,
+        handed.as_slice(),
+        workers.count,
+        own,
+    );
+    match taken_in {
+        Ok(taken_in) => (Ahead::of(handed, taken_in), done),
+        Err(AllocError) => (Ahead::none(alloc), done),
+    }
+}
+
+/// Takes the blocks of these bytes in by so many workers, the calling thread behind work of its own.
 pub(crate) fn take_in_ahead<
     'b,
     R: Threads + Sync,
@@ -58,32 +180,17 @@ pub(crate) fn take_in_ahead<
     alloc: Global,
     channel: &Channel,
     workers: Workers,
-    bytes: &'b [u8],
+    blocks: &'b [Bytes],
     verifier: &V,
     gate: &G,
     own: &mut F,
-) -> (Result<Prepared<'b>, Refused>, Z)
+) -> (Ahead<'b>, Z)
     requires { F.pre own.old }
-    ensures ahead { IsAhead channel.now (V.accepts verifier.now) bytes.now result.0 }
+    ensures ahead { IsAhead channel.now (V.accepts verifier.now) blocks.now result.0 }
     ensures own { F.step own.old result.1 own.new }
 {
-    let block = match decoded(alloc, bytes) {
-        Ok(block) => block,
-        Err(refused) => return (Err(refused), own()),
-    };
-    let (taken_in, done) = take_in_beside(
-        rt,
-        alloc,
-        channel,
-        verifier,
-        gate,
-        bytes,
-        block.txs.as_slice(),
-        workers.count,
-        own,
-    );
-    match taken_in {
-        Ok(taken_in) => (Ok(Prepared::of(block, taken_in)), done),
-        Err(AllocError) => (Err(Refused::Memory), done),
+    match decoded_all(alloc, blocks) {
+        Ok(handed) => take_in(rt, alloc, channel, workers, handed, verifier, gate, own),
+        Err(AllocError) => (Ahead::none(alloc), own()),
     }
 }

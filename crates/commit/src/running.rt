@@ -1,20 +1,19 @@
-//! Blocks one after the other, each committed while workers take in the next one.
-ghost use Rattle.std.specs.Prelude.{◌≡◌, ◌∷◌, ◌+◌, ◌≤◌, [], length, Some};
+//! Blocks one after the other, some of which are committed while workers take in those behind them.
+ghost use Rattle.std.specs.Prelude.{◌≡◌, ◌++◌, ◌+◌, ◌≤◌, ◌<◌, ℕ, List, [], length};
 ghost use Rattle.std.specs.Thread.{IsSync};
-ghost use Rattle.std.specs.Vec.{vec_capacity};
-ghost use Rattle.commit.specs.Committing.{Submits, Runs};
+ghost use Rattle.std.specs.Vec.{vec_len, vec_capacity};
+ghost use Rattle.commit.specs.Committing.{Committing, Runs};
 ghost use Rattle.commit.specs.Prepared.{IsAhead};
 ghost use Rattle.commit.specs.Running.{committing};
 
 use crate::not_committed::NotCommitted;
-use crate::prepared::{Prepared, take_in_ahead};
+use crate::prepared::{Ahead, take_in_ahead};
 use crate::published::Published;
 use crate::workers::Workers;
 use channel::Channel;
 use gates::Gate;
 use policy_eval::Verify;
 use query::Receipt;
-use rules::Refused;
 use std::alloc::Global;
 use std::sync::Wait;
 use std::thread::Threads;
@@ -23,52 +22,70 @@ use values::Bytes;
 /// What a committer answers to a block.
 pub(crate) type Answer = Result<Receipt, NotCommitted>;
 
-/// A block that was taken in, to be committed next.
-#[derive(Drop)]
-struct Next<'b> {
-    bytes: &'b [u8],
-    prepared: Result<Prepared<'b>, Refused>,
-}
+// What workers take in at once has at most so many bytes, but at least one block: enough for them to be done with it at nearly
+// the same time.
+const MOST_BYTES: usize = 4 << 20;
 
-impl<'b> Next<'b> {
-    /// Takes it out.
-    fn take(&mut self) -> Result<Prepared<'b>, Refused>
-        ensures prepared { result ≡ self.old.prepared }
-        ensures bytes { self.new.bytes.now ≡ self.old.bytes.now }
-    {
-        core::mem::replace(&mut self.prepared, Err(Refused::Memory))
+/// How many of the next blocks are taken in at once. They are at most half of what is left, so that little is committed at
+/// last while no other block is taken in.
+fn next_count(blocks: &[Bytes], workers: Workers) -> usize
+    ensures some { 0 < length blocks.now → 0 < result }
+    ensures fits { result ≤ length blocks.now }
+{
+    if workers.count == 1 {
+        return blocks.len().min(1);
     }
-
-    /// Who checks it while others take in the block behind it.
-    fn checkers(&self, workers: Workers) -> Workers {
-        match &self.prepared {
-            Ok(prepared) => workers.beside_intake(prepared.taken.len()),
-            Err(_) => workers,
+    let half = blocks.len().div_ceil(2);
+    let mut bytes = 0usize;
+    for (count, block) in blocks.iter().enumerate() {
+        bytes = bytes.saturating_add(block.as_slice().len());
+        if count > 0 && (count >= half || bytes > MOST_BYTES) {
+            return count;
         }
     }
+    blocks.len()
 }
 
-/// Commits a block that was taken in.
-fn commit_next<R: Threads + Wait + Sync, V: Verify, G: Gate + Sync>(
+/// Commits blocks that were taken in. Few workers check them where the others take in those behind them.
+fn commit_all<R: Threads + Wait + Sync, V: Verify, G: Gate + Sync>(
     rt: &R,
     alloc: Global,
     channel: &Channel,
     workers: Workers,
+    is_beside: bool,
     verifier: &V,
     gate: &G,
     published: &mut Published,
-    next: &mut Next<'_>,
-) -> Answer
-    requires { IsAhead channel.now (V.accepts verifier.now) next.old.bytes.now next.old.prepared }
-    ensures { Submits (V.accepts verifier.now) (committing channel.now published.old) next.old.bytes.now result (committing channel.now published.new) }
+    blocks: &[Bytes],
+    ahead: &mut Ahead<'_>,
+    answers: &mut Vec<Answer>,
+)
+    requires ahead { IsAhead channel.now (V.accepts verifier.now) blocks.now ahead.old }
+    requires room { vec_len answers.old + length blocks.now ≤ vec_capacity answers.old }
+    ensures runs { (before : Committing) (earlier : List (List ℕ)) → Runs (V.accepts verifier.now) before earlier answers.old.items (committing channel.now published.old) → Runs (V.accepts verifier.now) before (earlier ++ blocks.now) answers.new.items (committing channel.now published.new) }
+    ensures count { vec_len answers.new ≡ vec_len answers.old + length blocks.now }
+    ensures room { vec_capacity answers.old ≤ vec_capacity answers.new }
 {
-    let prepared = next.take();
-    published.commit(
-        rt, alloc, channel, workers, next.bytes, prepared, verifier, gate,
-    )
+    for bytes in blocks {
+        let prepared = ahead.next(alloc);
+        let checkers = match &prepared {
+            Ok(prepared) if is_beside => workers.beside_intake(prepared.taken.len()),
+            _ => workers,
+        };
+        answers.push_reserved(published.commit(
+            rt,
+            alloc,
+            channel,
+            checkers,
+            bytes.as_slice(),
+            prepared,
+            verifier,
+            gate,
+        ));
+    }
 }
 
-/// Commits a block while workers take in the one behind it.
+/// Commits blocks while workers take in those behind them.
 fn commit_beside_intake<'b, R: Threads + Wait + Sync, V: Verify + Sync, G: Gate + Sync>(
     rt: &R,
     alloc: Global,
@@ -77,35 +94,41 @@ fn commit_beside_intake<'b, R: Threads + Wait + Sync, V: Verify + Sync, G: Gate 
     verifier: &V,
     gate: &G,
     published: &mut Published,
-    this: Next<'b>,
-    bytes: &'b [u8],
-) -> (Answer, Next<'b>)
-    requires { IsAhead channel.now (V.accepts verifier.now) this.bytes.now this.prepared }
-    ensures answer { Submits (V.accepts verifier.now) (committing channel.now published.old) this.entry.bytes.now result.0 (committing channel.now published.new) }
-    ensures bytes { result.1.bytes.now ≡ bytes.now }
-    ensures next { IsAhead channel.now (V.accepts verifier.now) result.1.bytes.now result.1.prepared }
+    blocks: &[Bytes],
+    ahead: Ahead<'b>,
+    behind: &'b [Bytes],
+    answers: &mut Vec<Answer>,
+) -> Ahead<'b>
+    requires ahead { IsAhead channel.now (V.accepts verifier.now) blocks.now ahead }
+    requires room { vec_len answers.old + length blocks.now ≤ vec_capacity answers.old }
+    ensures runs { (before : Committing) (earlier : List (List ℕ)) → Runs (V.accepts verifier.now) before earlier answers.old.items (committing channel.now published.old) → Runs (V.accepts verifier.now) before (earlier ++ blocks.now) answers.new.items (committing channel.now published.new) }
+    ensures count { vec_len answers.new ≡ vec_len answers.old + length blocks.now }
+    ensures room { vec_capacity answers.old ≤ vec_capacity answers.new }
+    ensures ahead { IsAhead channel.now (V.accepts verifier.now) behind.now result }
 {
-    let checkers = this.checkers(workers);
-    let mut this = this;
+    let mut ahead = ahead;
     let mut commit = ||
-        requires { IsSync R.row × IsSync G.row × IsAhead channel.now (V.accepts verifier.now) this.bytes.now this.prepared }
-        ensures { Submits (V.accepts verifier.entry.now) (committing channel.entry.now published.entry.now) this.entry.bytes.now result (committing channel.entry.now published.exit.now) }
+        requires { IsSync R.row × IsSync G.row × IsAhead channel.now (V.accepts verifier.now) blocks.now ahead × (vec_len answers.now + length blocks.now ≤ vec_capacity answers.now) }
+        ensures runs { (before : Committing) (earlier : List (List ℕ)) → Runs (V.accepts verifier.entry.now) before earlier answers.entry.now.items (committing channel.entry.now published.entry.now) → Runs (V.accepts verifier.entry.now) before (earlier ++ blocks.entry.now) answers.exit.now.items (committing channel.entry.now published.exit.now) }
+        ensures count { vec_len answers.exit.now ≡ vec_len answers.entry.now + length blocks.entry.now }
+        ensures room { vec_capacity answers.entry.now ≤ vec_capacity answers.exit.now }
     {
-        commit_next(
-            rt, alloc, channel, checkers, verifier, gate, published, &mut this,
+        commit_all(
+            rt, alloc, channel, workers, true, verifier, gate, published, blocks, &mut ahead,
+            answers,
         )
     };
-    let (prepared, answer) = take_in_ahead(
+    let (next, ()) = take_in_ahead(
         rt,
         alloc,
         channel,
         workers,
-        bytes,
+        behind,
         verifier,
         gate,
         &mut commit,
     );
-    (answer, Next { bytes, prepared })
+    next
 }
 
 /// Commits blocks one after the other, of which there are some.
@@ -117,29 +140,29 @@ pub(crate) fn run_all<R: Threads + Wait + Sync, V: Verify + Sync, G: Gate + Sync
     verifier: &V,
     gate: &G,
     published: &mut Published,
-    first: &Bytes,
-    rest: &[Bytes],
+    blocks: &[Bytes],
     answers: Vec<Answer>,
 ) -> Vec<Answer>
     requires empty { answers.items ≡ [] }
-    requires room { length rest.now + 1 ≤ vec_capacity answers }
-    ensures { Runs (V.accepts verifier.now) (committing channel.now published.old) (first.now ∷ rest.now) result.items (committing channel.now published.new) }
+    requires room { length blocks.now ≤ vec_capacity answers }
+    ensures { Runs (V.accepts verifier.now) (committing channel.now published.old) blocks.now result.items (committing channel.now published.new) }
 {
     let mut answers = answers;
-    let bytes = first.as_slice();
-    let (prepared, ()) = take_in_ahead(
+    let mut start = 0;
+    let mut end = next_count(blocks, workers);
+    let (mut ahead, ()) = take_in_ahead(
         rt,
         alloc,
         channel,
         workers,
-        bytes,
+        &blocks[..end],
         verifier,
         gate,
         &mut || (),
     );
-    let mut next = Next { bytes, prepared };
-    for bytes in rest {
-        let (answer, behind) = commit_beside_intake(
+    while end < blocks.len() {
+        let count = next_count(&blocks[end..], workers);
+        ahead = commit_beside_intake(
             rt,
             alloc,
             channel,
@@ -147,14 +170,26 @@ pub(crate) fn run_all<R: Threads + Wait + Sync, V: Verify + Sync, G: Gate + Sync
             verifier,
             gate,
             published,
-            next,
-            bytes.as_slice(),
+            &blocks[start..end],
+            ahead,
+            &blocks[end..end + count],
+            &mut answers,
         );
-        answers.push_reserved(answer);
-        next = behind;
+        start = end;
+        end += count;
     }
-    answers.push_reserved(commit_next(
-        rt, alloc, channel, workers, verifier, gate, published, &mut next,
-    ));
+    commit_all(
+        rt,
+        alloc,
+        channel,
+        workers,
+        false,
+        verifier,
+        gate,
+        published,
+        &blocks[start..end],
+        &mut ahead,
+        &mut answers,
+    );
     answers
 }

@@ -1,6 +1,19 @@
--- The pieces of a block. No public contract cites this.
-use Rattle.std.specs.Prelude.{◌++◌, ◌∷◌, ℕ, List, []}
+-- What blocks that are handed in have, and the pieces of them.
+use Rattle.std.specs.Prelude.{◌++◌, ◌∷◌, ℕ, List, [], Result, Ok, Err}
+use Rattle.block.specs.declared.block.Block.{Block}
+use Rattle.rules.specs.declared.answer.Refused.{Refused}
+use Rattle.intake_workers.specs.declared.handed.Handed.{Handed}
 use Rattle.intake_workers.specs.declared.piece.Piece.{Piece}
+
+-- the bytes of its transactions, none where it is no block
+abbrev pub txs_in : Result Block Refused → List (List ℕ)
+txs_in (Ok b) = b.txs
+txs_in (Err refused) = []
+
+-- those of all blocks, one after the other
+abbrev pub txs_of_all : List Handed → List (List ℕ)
+txs_of_all [] = []
+txs_of_all (handed ∷ all) = txs_in handed.block ++ txs_of_all all
 
 abbrev pub transactions_of : List Piece → List (List ℕ)
 transactions_of [] = []

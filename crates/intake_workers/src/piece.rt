@@ -1,6 +1,7 @@
-ghost use Rattle.std.specs.Prelude.{◌≡◌, ◌<◌, ◌≤◌, length, IfOk};
-ghost use Rattle.intake_workers.specs.Pieces.{transactions_of};
+ghost use Rattle.std.specs.Prelude.{◌≡◌, ◌<◌, ◌≤◌, ◌++◌, length, IfOk, OnOk};
+ghost use Rattle.intake_workers.specs.Pieces.{transactions_of, txs_of_all};
 
+use crate::handed::Handed;
 use std::alloc::{AllocError, Global};
 use values::Slice;
 
@@ -11,7 +12,7 @@ pub struct Piece<'t, 'a> {
     pub txs: &'t [Slice<'a>],
 }
 
-const MOST_TXS: usize = 64;
+const MOST_TXS: usize = 32;
 
 // So that few large transactions are spread over workers too.
 const MOST_BYTES: usize = 1 << 20;
@@ -32,14 +33,10 @@ fn next_len(txs: &[Slice<'_>]) -> usize
     txs.len()
 }
 
-/// The pieces of a block: each has at most 64 transactions and, where it has more than one, at most 1 MiB of them.
-pub(crate) fn cut<'t, 'a>(
-    alloc: Global,
-    txs: &'t [Slice<'a>],
-) -> Result<Vec<Piece<'t, 'a>>, AllocError>
-    ensures { IfOk result (λ pieces. transactions_of pieces.items ≡ txs.now) }
+// Adds the pieces of one block.
+fn cut_one<'t, 'a>(pieces: &mut Vec<Piece<'t, 'a>>, txs: &'t [Slice<'a>]) -> Result<(), AllocError>
+    ensures { OnOk result (transactions_of pieces.new.items ≡ transactions_of pieces.old.items ++ txs.now) }
 {
-    let mut pieces = Vec::new(alloc);
     let mut start = 0;
     while start < txs.len() {
         let rest = &txs[start..];
@@ -49,6 +46,20 @@ pub(crate) fn cut<'t, 'a>(
             txs: &rest[..count],
         })?;
         start += count;
+    }
+    Ok(())
+}
+
+/// The pieces of blocks: each has at most 32 transactions of one block and, where it has more than one, at most 1 MiB of them.
+pub(crate) fn cut<'t, 'a>(
+    alloc: Global,
+    blocks: &'t [Handed<'a>],
+) -> Result<Vec<Piece<'t, 'a>>, AllocError>
+    ensures { IfOk result (λ pieces. transactions_of pieces.items ≡ txs_of_all blocks.now) }
+{
+    let mut pieces = Vec::new(alloc);
+    for handed in blocks {
+        cut_one(&mut pieces, handed.txs())?;
     }
     Ok(pieces)
 }

@@ -2,149 +2,172 @@ ghost use Rattle.std.specs.Prelude.{◌≡◌, IfOk};
 ghost use Rattle.std.specs.List.{All};
 ghost use Rattle.pieces.specs.Pieces.{IsMade, Joined};
 
-use crate::drawing::{Drawn, draw, draw_all};
+use crate::drawing::{Drawn, DrawnBoth, draw_all, draw_both};
 use crate::joining::joined;
-use crate::work::{Beside, Work};
+use crate::work::Work;
 use std::alloc::{AllocError, Global};
 use std::sync::atomic::AtomicUsize;
 use std::thread;
 use std::thread::Threads;
 
-// One worker, who does other work first.
-fn draw_behind<P: Copy, X: Drop, W: Work<P, X>, Y, B: Beside<Y>>(
-    alloc: Global,
-    pieces: &[P],
-    next: &AtomicUsize,
-    work: &W,
-    other: &B,
-) -> (Drawn<X>, Y)
-    ensures drawn { IfOk result.0 (λ all. All (λ made. IsMade (W.gives work.now) pieces.now made.place made.items.items) all.items) }
-    ensures other { B.gives other.now result.1 }
-{
-    let done = other.make();
-    (draw(alloc, pieces, next, work), done)
-}
+/// What was made of all pieces of one kind and of the other, each in their order.
+pub type MadeOfBoth<X, Y> = Result<(Vec<X>, Vec<Y>), AllocError>;
 
-// The same, where that work changes something.
-fn draw_behind_call<P: Copy, X: Drop, W: Work<P, X>, Z, F: FnMut() -> Z>(
+// One worker, who does work of its own first.
+fn draw_behind_call<P, X: Drop, W: Work<P, X>, Q, Y: Drop, V: Work<Q, Y>, Z, F: FnMut() -> Z>(
     alloc: Global,
     pieces: &[P],
     next: &AtomicUsize,
     work: &W,
+    others: &[Q],
+    next_other: &AtomicUsize,
+    other_work: &V,
     own: &mut F,
-) -> (Drawn<X>, Z)
+) -> (DrawnBoth<X, Y>, Z)
     requires { F.pre own.old }
-    ensures drawn { IfOk result.0 (λ all. All (λ made. IsMade (W.gives work.now) pieces.now made.place made.items.items) all.items) }
+    ensures pieces { IfOk result.0.first (λ all. All (λ made. IsMade (W.gives work.now) pieces.now made.place made.items.items) all.items) }
+    ensures others { IfOk result.0.second (λ all. All (λ made. IsMade (V.gives other_work.now) others.now made.place made.items.items) all.items) }
     ensures own { F.step own.old result.1 own.new }
 {
     let made = own();
-    (draw(alloc, pieces, next, work), made)
+    (
+        draw_both(alloc, pieces, next, work, others, next_other, other_work),
+        made,
+    )
 }
 
-// `pieces` and `work` are for the clauses alone.
-fn with_own<P: Copy, X: Drop, W: Work<P, X>>(
-    pieces: &[P],
-    drawn: Result<Vec<Drawn<X>>, AllocError>,
-    own: Drawn<X>,
-    work: &W,
-) -> Result<Vec<Drawn<X>>, AllocError>
-    requires drawn { IfOk drawn (λ drawn. All (λ one. IfOk one (λ all. All (λ made. IsMade (W.gives work.now) pieces.now made.place made.items.items) all.items)) drawn.items) }
-    requires own { IfOk own (λ all. All (λ made. IsMade (W.gives work.now) pieces.now made.place made.items.items) all.items) }
-    ensures { IfOk result (λ drawn. All (λ one. IfOk one (λ all. All (λ made. IsMade (W.gives work.now) pieces.now made.place made.items.items) all.items)) drawn.items) }
-{
-    let (_pieces, _work) = (pieces, work);
-    let mut all = drawn?;
-    all.push(own)?;
-    Ok(all)
-}
-
-// So many workers, of whom the calling thread does other work first.
-fn draw_all_behind<
-    R: Threads + Sync,
-    P: Copy + Sync,
-    X: Send + Drop,
-    W: Work<P, X> + Sync,
-    Y,
-    B: Beside<Y>,
->(
-    rt: &R,
+// What was drawn of each kind. `work` and what goes with it are for the clauses alone.
+fn apart<P, X: Drop, W: Work<P, X>, Q, Y: Drop, V: Work<Q, Y>>(
     alloc: Global,
     pieces: &[P],
-    next: &AtomicUsize,
-    workers: usize,
     work: &W,
-    other: &B,
-) -> (Result<Vec<Drawn<X>>, AllocError>, Y)
-    ensures drawn { IfOk result.0 (λ drawn. All (λ one. IfOk one (λ all. All (λ made. IsMade (W.gives work.now) pieces.now made.place made.items.items) all.items)) drawn.items) }
-    ensures other { B.gives other.now result.1 }
+    others: &[Q],
+    other_work: &V,
+    drawn: Vec<DrawnBoth<X, Y>>,
+) -> Result<(Vec<Drawn<X>>, Vec<Drawn<Y>>), AllocError>
+    requires pieces { All (λ both. IfOk both.first (λ all. All (λ made. IsMade (W.gives work.now) pieces.now made.place made.items.items) all.items)) drawn.items }
+    requires others { All (λ both. IfOk both.second (λ all. All (λ made. IsMade (V.gives other_work.now) others.now made.place made.items.items) all.items)) drawn.items }
+    ensures pieces { IfOk result (λ r. All (λ one. IfOk one (λ all. All (λ made. IsMade (W.gives work.now) pieces.now made.place made.items.items) all.items)) r.0.items) }
+    ensures others { IfOk result (λ r. All (λ one. IfOk one (λ all. All (λ made. IsMade (V.gives other_work.now) others.now made.place made.items.items) all.items)) r.1.items) }
 {
-    let others = workers.saturating_sub(1);
-    if others == 0 {
-        let (own, done) = draw_behind(alloc, pieces, next, work, other);
-        return (with_own(pieces, Ok(Vec::new(alloc)), own, work), done);
+    let (_pieces, _work, _others, _other_work) = (pieces, work, others, other_work);
+    let mut firsts = Vec::new(alloc);
+    let mut seconds = Vec::new(alloc);
+    for both in drawn {
+        let DrawnBoth { first, second } = both;
+        firsts.push(first)?;
+        seconds.push(second)?;
     }
-    let (drawn, (own, done)) = thread::join(
-        rt,
-        || draw_all(rt, alloc, pieces, next, others, work),
-        || draw_behind(alloc, pieces, next, work, other),
-    );
-    (with_own(pieces, drawn, own, work), done)
+    Ok((firsts, seconds))
 }
 
-fn joined_of<P: Copy, X: Drop, W: Work<P, X>>(
+// What all workers drew, and what the calling thread did, joined.
+fn joined_of<P, X: Drop, W: Work<P, X>, Q, Y: Drop, V: Work<Q, Y>>(
     alloc: Global,
     pieces: &[P],
-    drawn: Result<Vec<Drawn<X>>, AllocError>,
     work: &W,
-) -> Result<Vec<X>, AllocError>
-    requires { IfOk drawn (λ drawn. All (λ one. IfOk one (λ all. All (λ made. IsMade (W.gives work.now) pieces.now made.place made.items.items) all.items)) drawn.items) }
-    ensures { IfOk result (λ all. Joined (W.gives work.now) pieces.now all.items) }
+    others: &[Q],
+    other_work: &V,
+    drawn: Result<Vec<DrawnBoth<X, Y>>, AllocError>,
+    own: DrawnBoth<X, Y>,
+) -> MadeOfBoth<X, Y>
+    requires pieces { IfOk drawn (λ drawn. All (λ both. IfOk both.first (λ all. All (λ made. IsMade (W.gives work.now) pieces.now made.place made.items.items) all.items)) drawn.items) }
+    requires others { IfOk drawn (λ drawn. All (λ both. IfOk both.second (λ all. All (λ made. IsMade (V.gives other_work.now) others.now made.place made.items.items) all.items)) drawn.items) }
+    requires own_pieces { IfOk own.first (λ all. All (λ made. IsMade (W.gives work.now) pieces.now made.place made.items.items) all.items) }
+    requires own_others { IfOk own.second (λ all. All (λ made. IsMade (V.gives other_work.now) others.now made.place made.items.items) all.items) }
+    ensures pieces { IfOk result (λ r. Joined (W.gives work.now) pieces.now r.0.items) }
+    ensures others { IfOk result (λ r. Joined (V.gives other_work.now) others.now r.1.items) }
 {
-    joined(alloc, pieces, drawn?, work)
+    let (mut firsts, mut seconds) = apart(alloc, pieces, work, others, other_work, drawn?)?;
+    let DrawnBoth { first, second } = own;
+    firsts.push(first)?;
+    seconds.push(second)?;
+    Ok((
+        joined(alloc, pieces, firsts, work)?,
+        joined(alloc, others, seconds, other_work)?,
+    ))
 }
 
-/// What is made of all pieces, in their order, by so many workers, of whom the calling thread is one.
+/// What is made of all pieces of two kinds, in their order, by so many workers, of whom the calling thread is one.
 ///
-/// Before they draw pieces, the calling thread makes `own`, whose result is the third, and another worker, if there is
-/// one, `other`, whose result is the second. Pieces are drawn one by one, so workers that are late or can't be started are
-/// done without. An `Err` is want of memory alone. One worker starts no thread; more cost their starting, some 15
-/// microseconds each.
+/// It makes `own` first, whose result is the second, and takes then part in what is left. Pieces are drawn one by one, and
+/// those of the first kind before those of the second, so workers that are late or can't be started are done without. An
+/// `Err` is want of memory alone. One worker starts no thread; more cost their starting, some 15 microseconds each.
 pub fn in_pieces_beside<
     R: Threads + Sync,
-    P: Copy + Sync,
+    P: Sync,
     X: Send + Drop,
     W: Work<P, X> + Sync,
-    Y: Send,
-    B: Beside<Y> + Sync,
+    Q: Sync,
+    Y: Send + Drop,
+    V: Work<Q, Y> + Sync,
     Z,
     F: FnMut() -> Z,
 >(
     rt: &R,
     alloc: Global,
     pieces: &[P],
-    workers: usize,
     work: &W,
-    other: &B,
+    others: &[Q],
+    other_work: &V,
+    workers: usize,
     own: &mut F,
-) -> (Result<Vec<X>, AllocError>, Y, Z)
+) -> (MadeOfBoth<X, Y>, Z)
     requires { F.pre own.old }
-    ensures pieces { IfOk result.0 (λ all. Joined (W.gives work.now) pieces.now all.items) }
-    ensures other { B.gives other.now result.1 }
-    ensures own { F.step own.old result.2 own.new }
+    ensures pieces { IfOk result.0 (λ r. Joined (W.gives work.now) pieces.now r.0.items) }
+    ensures others { IfOk result.0 (λ r. Joined (V.gives other_work.now) others.now r.1.items) }
+    ensures own { F.step own.old result.1 own.new }
 {
-    let next = AtomicUsize::new(0);
-    let shared = &next;
-    let others = workers.saturating_sub(1);
-    if others == 0 {
-        let made = own();
-        let (drawn, done) = draw_all_behind(rt, alloc, pieces, shared, 1, work, other);
-        return (joined_of(alloc, pieces, drawn, work), done, made);
+    let (next, next_other) = (AtomicUsize::new(0), AtomicUsize::new(0));
+    let (shared, shared_other) = (&next, &next_other);
+    let started = workers.saturating_sub(1);
+    if started == 0 {
+        let (last, done) = draw_behind_call(
+            alloc,
+            pieces,
+            shared,
+            work,
+            others,
+            shared_other,
+            other_work,
+            own,
+        );
+        let drawn = Ok(Vec::new(alloc));
+        return (
+            joined_of(alloc, pieces, work, others, other_work, drawn, last),
+            done,
+        );
     }
-    let ((drawn, done), (last, made)) = thread::join_mut(
+    let (drawn, (last, done)) = thread::join_mut(
         rt,
-        &mut || draw_all_behind(rt, alloc, pieces, shared, others, work, other),
-        &mut || draw_behind_call(alloc, pieces, shared, work, own),
+        &mut || {
+            draw_all(
+                rt,
+                alloc,
+                pieces,
+                shared,
+                work,
+                others,
+                shared_other,
+                other_work,
+                started,
+            )
+        },
+        &mut || {
+            draw_behind_call(
+                alloc,
+                pieces,
+                shared,
+                work,
+                others,
+                shared_other,
+                other_work,
+                own,
+            )
+        },
     );
-    let drawn = with_own(pieces, drawn, last, work);
-    (joined_of(alloc, pieces, drawn, work), done, made)
+    (
+        joined_of(alloc, pieces, work, others, other_work, drawn, last),
+        done,
+    )
 }

@@ -19,7 +19,7 @@ pub(crate) struct Made<X> {
 /// What one worker made, or that it was refused memory.
 pub(crate) type Drawn<X> = Result<Vec<Made<X>>, AllocError>;
 
-fn make_one<P: Copy, X: Drop, W: Work<P, X>>(
+fn make_one<P, X: Drop, W: Work<P, X>>(
     alloc: Global,
     pieces: &[P],
     place: usize,
@@ -28,12 +28,12 @@ fn make_one<P: Copy, X: Drop, W: Work<P, X>>(
     requires { place < length pieces.now }
     ensures { IfOk result (λ made. IsMade (W.gives work.now) pieces.now made.place made.items.items) }
 {
-    let items = work.make(alloc, pieces[place])?;
+    let items = work.make(alloc, &pieces[place])?;
     Ok(Made { place, items })
 }
 
 /// Makes what is to be made of pieces for as long as there are places to draw.
-pub(crate) fn draw<P: Copy, X: Drop, W: Work<P, X>>(
+pub(crate) fn draw<P, X: Drop, W: Work<P, X>>(
     alloc: Global,
     pieces: &[P],
     next: &AtomicUsize,
@@ -52,16 +52,61 @@ pub(crate) fn draw<P: Copy, X: Drop, W: Work<P, X>>(
     Ok(all)
 }
 
+/// What one worker made of pieces of two kinds.
+#[derive(Drop)]
+pub(crate) struct DrawnBoth<X, Y> {
+    pub(crate) first: Drawn<X>,
+    pub(crate) second: Drawn<Y>,
+}
+
+/// Makes what is to be made of the first kind for as long as there are places to draw, and then of the second.
+pub(crate) fn draw_both<P, X: Drop, W: Work<P, X>, Q, Y: Drop, V: Work<Q, Y>>(
+    alloc: Global,
+    pieces: &[P],
+    next: &AtomicUsize,
+    work: &W,
+    others: &[Q],
+    next_other: &AtomicUsize,
+    other_work: &V,
+) -> DrawnBoth<X, Y>
+    ensures pieces { IfOk result.first (λ all. All (λ made. IsMade (W.gives work.now) pieces.now made.place made.items.items) all.items) }
+    ensures others { IfOk result.second (λ all. All (λ made. IsMade (V.gives other_work.now) others.now made.place made.items.items) all.items) }
+{
+    let first = draw(alloc, pieces, next, work);
+    let second = draw(alloc, others, next_other, other_work);
+    DrawnBoth { first, second }
+}
+
 /// What each of so many workers draws.
-pub(crate) fn draw_all<R: Threads + Sync, P: Copy + Sync, X: Send + Drop, W: Work<P, X> + Sync>(
+pub(crate) fn draw_all<
+    R: Threads + Sync,
+    P: Sync,
+    X: Send + Drop,
+    W: Work<P, X> + Sync,
+    Q: Sync,
+    Y: Send + Drop,
+    V: Work<Q, Y> + Sync,
+>(
     rt: &R,
     alloc: Global,
     pieces: &[P],
     next: &AtomicUsize,
-    workers: usize,
     work: &W,
-) -> Result<Vec<Drawn<X>>, AllocError>
-    ensures { IfOk result (λ drawn. All (λ one. IfOk one (λ all. All (λ made. IsMade (W.gives work.now) pieces.now made.place made.items.items) all.items)) drawn.items) }
+    others: &[Q],
+    next_other: &AtomicUsize,
+    other_work: &V,
+    workers: usize,
+) -> Result<Vec<DrawnBoth<X, Y>>, AllocError>
+    ensures pieces { IfOk result (λ drawn. All (λ both. IfOk both.first (λ all. All (λ made. IsMade (W.gives work.now) pieces.now made.place made.items.items) all.items)) drawn.items) }
+    ensures others { IfOk result (λ drawn. All (λ both. IfOk both.second (λ all. All (λ made. IsMade (V.gives other_work.now) others.now made.place made.items.items) all.items)) drawn.items) }
 {
-    thread::map_indices(rt, alloc, workers, &|_| draw(alloc, pieces, next, work))
+    thread::map_indices(
+        rt,
+        alloc,
+        workers,
+        &|_| -> DrawnBoth<X, Y>
+            ensures pieces { IfOk result.first (λ all. All (λ made. IsMade (W.gives work.entry.now) pieces.entry.now made.place made.items.items) all.items) }
+            ensures others { IfOk result.second (λ all. All (λ made. IsMade (V.gives other_work.entry.now) others.entry.now made.place made.items.items) all.items) }
+        { draw_both(alloc, pieces, next, work, others, next_other, other_work) },
+    )
 }

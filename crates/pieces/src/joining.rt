@@ -8,7 +8,7 @@ use crate::work::Work;
 use std::alloc::{AllocError, Global};
 
 // `work` is for the clauses alone, here and below: it says what may be made.
-fn no_slots<P: Copy, X: Drop, W: Work<P, X>>(
+fn no_slots<P, X: Drop, W: Work<P, X>>(
     alloc: Global,
     pieces: &[P],
     work: &W,
@@ -23,7 +23,7 @@ fn no_slots<P: Copy, X: Drop, W: Work<P, X>>(
     Ok(slots)
 }
 
-fn put<P: Copy, X: Drop, W: Work<P, X>>(
+fn put<P, X: Drop, W: Work<P, X>>(
     pieces: &[P],
     slots: &mut [Option<Vec<X>>],
     made: Made<X>,
@@ -39,7 +39,7 @@ fn put<P: Copy, X: Drop, W: Work<P, X>>(
     slots[made.place] = Some(made.items);
 }
 
-fn put_all<P: Copy, X: Drop, W: Work<P, X>>(
+fn put_all<P, X: Drop, W: Work<P, X>>(
     pieces: &[P],
     slots: &mut [Option<Vec<X>>],
     all: Vec<Made<X>>,
@@ -56,7 +56,7 @@ fn put_all<P: Copy, X: Drop, W: Work<P, X>>(
     }
 }
 
-fn put_drawn<P: Copy, X: Drop, W: Work<P, X>>(
+fn put_drawn<P, X: Drop, W: Work<P, X>>(
     pieces: &[P],
     slots: &mut [Option<Vec<X>>],
     drawn: Vec<Drawn<X>>,
@@ -74,7 +74,7 @@ fn put_drawn<P: Copy, X: Drop, W: Work<P, X>>(
     Ok(())
 }
 
-fn take<P: Copy, X: Drop, W: Work<P, X>>(
+fn take<P, X: Drop, W: Work<P, X>>(
     pieces: &[P],
     slots: &mut [Option<Vec<X>>],
     place: usize,
@@ -91,7 +91,7 @@ fn take<P: Copy, X: Drop, W: Work<P, X>>(
     slots[place].take()
 }
 
-fn taken_or_made<P: Copy, X: Drop, W: Work<P, X>>(
+fn taken_or_made<P, X: Drop, W: Work<P, X>>(
     alloc: Global,
     pieces: &[P],
     place: usize,
@@ -104,7 +104,7 @@ fn taken_or_made<P: Copy, X: Drop, W: Work<P, X>>(
 {
     match slot {
         Some(made) => Ok(made),
-        None => work.make(alloc, pieces[place]),
+        None => work.make(alloc, &pieces[place]),
     }
 }
 
@@ -119,7 +119,7 @@ fn count_made<X: Drop>(slots: &[Option<Vec<X>>]) -> usize {
     count
 }
 
-fn join<P: Copy, X: Drop, W: Work<P, X>>(
+fn join<P, X: Drop, W: Work<P, X>>(
     alloc: Global,
     pieces: &[P],
     slots: &mut [Option<Vec<X>>],
@@ -138,7 +138,7 @@ fn join<P: Copy, X: Drop, W: Work<P, X>>(
     Ok(all)
 }
 
-fn through_slots<P: Copy, X: Drop, W: Work<P, X>>(
+fn through_slots<P, X: Drop, W: Work<P, X>>(
     alloc: Global,
     pieces: &[P],
     slots: &mut [Option<Vec<X>>],
@@ -155,7 +155,7 @@ fn through_slots<P: Copy, X: Drop, W: Work<P, X>>(
 }
 
 /// What workers drew of all pieces, in the order of the pieces. What none of them made is made now.
-pub(crate) fn joined<P: Copy, X: Drop, W: Work<P, X>>(
+pub(crate) fn joined<P, X: Drop, W: Work<P, X>>(
     alloc: Global,
     pieces: &[P],
     drawn: Vec<Drawn<X>>,

@@ -6,5 +6,5 @@ mod drawing;
 mod joining;
 mod work;
 
-pub use beside::in_pieces_beside;
-pub use work::{Beside, Work};
+pub use beside::{MadeOfBoth, in_pieces_beside};
+pub use work::Work;

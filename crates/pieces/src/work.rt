@@ -8,16 +8,6 @@ pub trait Work<P, X> {
     ghost gives: { Self → P → List X → Type 0 };
 
     /// Makes it. An `Err` is want of memory alone.
-    fn make(&self, alloc: Global, piece: P) -> Result<Vec<X>, AllocError>
-        ensures { IfOk result (λ made. gives self.now piece made.items) };
-}
-
-/// What a worker makes before it draws pieces, once.
-pub trait Beside<Y> {
-    /// What may be made.
-    ghost gives: { Self → Y → Type 0 };
-
-    /// Makes it.
-    fn make(&self) -> Y
-        ensures { gives self.now result };
+    fn make(&self, alloc: Global, piece: &P) -> Result<Vec<X>, AllocError>
+        ensures { IfOk result (λ made. gives self.now piece.now made.items) };
 }

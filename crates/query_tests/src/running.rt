@@ -171,8 +171,8 @@ fn is_run_of_writes_alike<R: Threads + Wait + Sync, G: Gate + Sync>(
 
 #[test]
 fn the_next_block_is_taken_in_while_one_is_committed(rt: HostRuntime) -> Result<(), Failed> {
-    // more than the 40 of block 0, whose checks wait
-    let gate = Awaiting::new(Phase::Endorse, Phase::Intake, 40);
+    // more than the 80 of blocks 0 and 1, which are taken in together, and whose checks wait
+    let gate = Awaiting::new(Phase::Endorse, Phase::Intake, 80);
     assert!(rt; is_run_of_writes_alike(&rt, rt.alloc(), 2, &gate)?);
     assert!(rt; gate.is_met());
     Ok(())

@@ -1,15 +1,19 @@
-use Rattle.std.proofs.Common.{◌≡◌, ◌≤◌, ◌+◌, ◌∷◌, length, take, get_or, vec_len, vec_capacity}
+use Rattle.std.proofs.Common.{◌≡◌, ◌≤◌, ◌-◌, length, take, drop, vec_len, vec_capacity}
 use Rattle.commit.specs.Committing.{Runs}
 use Rattle.commit.specs.Prepared.{IsAhead}
 use Rattle.commit.specs.Running.{committing}
 use Rattle.commit.proofs.running.run_all.Given as goal
 
--- so many blocks are committed, and the next one is taken in
-abbrev pub invariant-loop-bytes : goal.invariant-loop-bytes
-invariant-loop-bytes g l = record {
-  runs : Runs (g.V.Verify.accepts l.verifier) (committing l.channel l.fn.published) (take l.bytes-index (l.first ∷ l.rest)) l.answers.items (committing l.channel l.published);
-  next : l.next.bytes.now ≡ get_or (l.first ∷ l.rest) l.bytes-index l.next.bytes.now;
-  ahead : IsAhead l.channel (g.V.Verify.accepts l.verifier) l.next.bytes.now l.next.prepared;
-  count : vec_len l.answers ≡ l.bytes-index;
-  room : length l.rest + 1 ≤ vec_capacity l.answers;
+-- blocks up to a place are committed, and some behind it are taken in
+abbrev pub invariant-loop-end : goal.invariant-loop-end
+invariant-loop-end g l = record {
+  order : l.start ≤ l.end;
+  within : l.end ≤ length l.blocks;
+  runs : Runs (g.V.Verify.accepts l.verifier) (committing l.channel l.fn.published) (take l.start l.blocks) l.answers.items (committing l.channel l.published);
+  ahead : IsAhead l.channel (g.V.Verify.accepts l.verifier) (take (l.end - l.start) (drop l.start l.blocks)) l.ahead;
+  count : vec_len l.answers ≡ l.start;
+  room : length l.blocks ≤ vec_capacity l.answers;
 }
+
+abbrev pub decreases-loop-end : goal.decreases-loop-end
+decreases-loop-end g l = length l.blocks - l.end

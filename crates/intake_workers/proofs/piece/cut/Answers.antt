@@ -1,9 +1,9 @@
-use Rattle.std.proofs.Common.{arith, ap, length-drop, take, take_all}
-use Rattle.intake_workers.proofs.Shown.{one_more}
+use Rattle.std.proofs.Common.{arith}
+use Rattle.intake_workers.specs.Pieces.{transactions_of}
+use Rattle.intake_workers.proofs.Shown.{one_block_more}
 use Rattle.intake_workers.proofs.piece.cut.Goals as goal
 
-pub loop-start-preserved : goal.loop-start-preserved
-loop-start-preserved c = record {
-  place = omega (arith, c.next_len-count.ensures.fits, length-drop c.loop-start.start c.args.txs.now, c.loop-start.invariant.place);
-  so_far = one_more _ _ _ _ _ _ c.in_ok-push.ensures.items (ap (take c.next_len-count.result) (take_all _ _ (omega (arith, length-drop c.loop-start.start c.args.txs.now)))) c.loop-start.invariant.so_far;
-}
+pub loop-handed-preserved : goal.loop-handed-preserved
+loop-handed-preserved c =
+    one_block_more c.args.blocks.now c.loop-handed.handed-index c.handed-item.result (transactions_of c.loop-handed.pieces.items) (transactions_of c.cut_one.new.pieces.items) c.txs.result.now
+    (omega (arith, c.loop-handed-test.true)) c.handed-item.is c.loop-handed.invariant c.in_ok-cut_one.ensures c.txs.ensures

@@ -1,12 +1,6 @@
-use Rattle.std.proofs.Common.{◌≡◌, ◌≤◌, ◌-◌, length, take}
-use Rattle.intake_workers.specs.Pieces.{transactions_of}
+use Rattle.std.proofs.Common.{◌≡◌, take}
+use Rattle.intake_workers.specs.Pieces.{txs_of_all, transactions_of}
 use Rattle.intake_workers.proofs.piece.cut.Given as goal
 
-abbrev pub invariant-loop-start : goal.invariant-loop-start
-invariant-loop-start l = record {
-  place : l.start ≤ length l.txs;
-  so_far : transactions_of l.pieces.items ≡ take l.start l.txs;
-}
-
-abbrev pub decreases-loop-start : goal.decreases-loop-start
-decreases-loop-start l = length l.txs - l.start
+abbrev pub invariant-loop-handed : goal.invariant-loop-handed
+invariant-loop-handed l = transactions_of l.pieces.items ≡ txs_of_all (take l.handed-index l.blocks)

@@ -1,0 +1,14 @@
+use Rattle.std.proofs.Common.{sym, subst}
+use Rattle.std.specs.Vec.Iter.{into_iter_items}
+use Rattle.commit.specs.Prepared.{Waits}
+use Rattle.commit.proofs.Waiting.{none_waits}
+use Rattle.commit.proofs.prepared.take_in_ahead.Goals as goal
+
+pub returns-in-Err-clause-ahead : goal.returns-in-Err-clause-ahead
+returns-in-Err-clause-ahead g c =
+    let channel = c.args.channel.now in
+    let accepts = g.V.Verify.accepts c.args.verifier.now in
+    let blocks = c.args.blocks.now in
+    let hashed = into_iter_items c.none.result.hashed in
+    let taken = into_iter_items c.none.result.taken in
+    subst (λ hs. Waits channel accepts blocks hs hashed taken) (sym c.none.ensures) (none_waits channel accepts blocks hashed taken)
