@@ -67,7 +67,7 @@ fn kept(alloc: Global, bytes: &[u8]) -> Result<Shared<Bytes>, AllocError>
     Shared::new(alloc, Bytes::from_slice(alloc, bytes)?)
 }
 
-/// What is made of a block beside what its transactions are taken in for.
+/// A block's data hash, and a copy of its bytes.
 #[derive(Drop)]
 pub struct Hashed {
     pub data_hash: Hash,
