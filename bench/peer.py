@@ -32,6 +32,8 @@ block, the length of the chain and the keys of the state; the slope is that of i
 grow.
 
 Times are the least of five runs, or of as many as RUNS says in the environment. What stands in one line takes turns in them.
+UNDER has words that are put before each program that is timed. A system that gathers new threads on few processors, as one
+whose kernel saves processors of a virtual machine, doesn't show what four cores give: there `UNDER="chrt -f 50"` spreads them.
 `ratio` and `faster` are by the least times; `medians` has the same by the median over the turns, which differs where the
 machine changes its speed: then neither says much.
 `memory` is the most of a run with four workers, in MB. Behind both tables it says what load the machine had before and after,
@@ -46,7 +48,7 @@ import subprocess
 import sys
 import tempfile
 
-from scratch import RUNS, Machine, build, times_as_long
+from scratch import RUNS, UNDER, Machine, build, times_as_long
 from encoding import Namespace, Tx, data_hash, header_hash, identity, spelled_block, spelled_tx, tx_id
 from signing import Keys
 
@@ -482,7 +484,7 @@ WORKLOADS = {
 
 def run(program, way, blocks):
     """The nanoseconds of each line, and the memory in KB."""
-    words = [program, way, str(blocks.setup), *blocks.paths]
+    words = [*UNDER, program, way, str(blocks.setup), *blocks.paths]
     process = subprocess.Popen(words, cwd=blocks.folder, stdout=subprocess.PIPE, text=True)
     lines = [int(line.split()[0]) for line in process.stdout]
     _, status, usage = os.wait4(process.pid, 0)
@@ -571,7 +573,7 @@ def by_state(program, folder):
 
 def at_once(program, blocks, count):
     """The microseconds for a transaction in which so many processes, each for itself, hash the blocks at once."""
-    words = [program, "hash", str(blocks.setup), *blocks.paths]
+    words = [*UNDER, program, "hash", str(blocks.setup), *blocks.paths]
     all_of_them = [subprocess.Popen(words, cwd=blocks.folder, stdout=subprocess.PIPE, text=True) for _ in range(count)]
     took = [sum(int(line.split()[0]) for line in process.stdout) for process in all_of_them]
     for process in all_of_them:

@@ -12,6 +12,8 @@ import sys
 
 TOP = pathlib.Path(__file__).resolve().parent.parent
 RUNS = int(os.environ.get("RUNS", 5))
+# What is put before a program that is timed, `chrt -f 50` say.
+UNDER = os.environ.get("UNDER", "").split()
 # As the launcher does for the program.
 os.environ.setdefault("GLIBC_TUNABLES", "glibc.malloc.hugetlb=1")
 sys.path.append(str(TOP / "vectors"))
@@ -36,7 +38,8 @@ class Machine:
     def __str__(self):
         after, stolen = processors()
         part = (stolen - self.stolen) / max(after - self.all, 1)
-        return f"load before: {self.load}; after: {load()}; stolen: {part:.0%}; {os.cpu_count()} processors"
+        under = f"; under {' '.join(UNDER)}" if UNDER else ""
+        return f"load before: {self.load}; after: {load()}; stolen: {part:.0%}; {os.cpu_count()} processors{under}"
 
 
 def times_as_long(these, those):

@@ -13,6 +13,9 @@ Times are the least of five runs, or of as many as RUNS says in the environment,
 in turns. Ratios are by the least times, beside them by the median over the turns. By the least times it fails where one worker
 takes more than 1.3 times the loop, or four are less than 2.5 times faster than one where transactions are independent.
 
+UNDER has words that are put before each program that is timed: `UNDER="chrt -f 50"` spreads threads at once over the
+processors, where a system gathers new ones on few of them.
+
 Behind them stands the limit of the machine: how many times the loops of one process are done in its time by four that
 share nothing. Where that is less than 2.5, four workers can't reach it either. Last comes the load that the machine had before
 and after, and what part of its time was stolen from it.
@@ -23,7 +26,7 @@ import subprocess
 import sys
 import tempfile
 
-from scratch import RUNS, Machine, build, times_as_long
+from scratch import RUNS, UNDER, Machine, build, times_as_long
 from encoding import Namespace, Tx, data_hash, header_hash, identity, spelled_block, spelled_tx, tx_id
 from signing import Keys
 
@@ -256,7 +259,7 @@ def times(program, folder, name):
     """The nanoseconds of each thing that is timed, each time."""
     lines = []
     for _ in range(RUNS):
-        done = subprocess.run([program, "all", f"{name}.blk"], cwd=folder, capture_output=True, text=True, check=False)
+        done = subprocess.run([*UNDER, program, "all", f"{name}.blk"], cwd=folder, capture_output=True, text=True, check=False)
         run = [tuple(map(int, line.split())) for line in done.stdout.splitlines()]
         if done.returncode != 0 or not run:
             sys.exit(f"the run failed: {done.stdout[-300:]}{done.stderr[-300:]}")
@@ -267,7 +270,7 @@ def times(program, folder, name):
 
 def loops(program, folder, count):
     """The mean of the nanoseconds in which each of so many processes at once does its loops."""
-    words = [program, "loops", "independent.blk"]
+    words = [*UNDER, program, "loops", "independent.blk"]
     all_of_them = [subprocess.Popen(words, cwd=folder, stdout=subprocess.PIPE, text=True) for _ in range(count)]
     return sum(int(process.communicate()[0]) for process in all_of_them) / count
 

@@ -1,5 +1,5 @@
 -- Blocks that wait: taken in together, and taken out one by one.
-use Rattle.std.proofs.Common.{◌≡◌, ◌++◌, ◌∷◌, ◌+◌, ℕ, List, map, take, drop, length, [], zero, suc, refl, ap, sym, subst, ◌∙◌, arith, append-nil, take-add}
+use Rattle.std.proofs.Common.{◌≡◌, ◌++◌, ◌∷◌, ℕ, List, map, take, drop, length, [], ap, sym, subst, ◌∙◌}
 use Rattle.std.proofs.lemmas.List.{take-map, drop-map, length-map, map-append}
 use Rattle.std.proofs.Math.Seq.{take-append_seam, drop-append_seam}
 use Rattle.channel.specs.Configuration.{Configuration}
@@ -74,20 +74,3 @@ handed-push [] [] bytes h are same is = (same, is, tt)
 handed-push (b ∷ blocks) (g ∷ handed) bytes h are same is = (are.0, are.1, handed-push blocks handed bytes h are.2 same is)
 handed-push [] (g ∷ handed) bytes h are same is = absurd are
 handed-push (b ∷ blocks) [] bytes h are same is = absurd are
-
--- ---- taking from the front of a list
-
-after : {X : Type 0} (n : ℕ) (xs rest : List X) (x : X) → drop n xs ≡ x ∷ rest → drop (suc n) xs ≡ rest
-after zero [] rest x is = ap behind_first is
-after zero (y ∷ ys) rest x is = ap behind_first is
-after (suc n) [] rest x is = ap behind_first is
-after (suc n) (y ∷ ys) rest x is = after n ys rest x is
-
-pub one_out : {X : Type 0} (n : ℕ) (xs all all' rest : List X) (x : X) → drop n xs ≡ x ∷ rest → all ≡ take n xs → all' ≡ all ++ x ∷ [] → all' ≡ take (n + 1) xs
-one_out n xs all all' rest x left so_far is =
-    is ∙ (ap (λ l. l ++ x ∷ []) so_far ∙ (ap (λ l. take n xs ++ take 1 l) (sym left) ∙ sym (take-add n 1 xs)))
-
-pub one_behind : {X : Type 0} (n : ℕ) (xs rest : List X) (x : X) → drop n xs ≡ x ∷ rest → rest ≡ drop (n + 1) xs
-one_behind n xs rest x left =
-    let next : suc n ≡ n + 1 = omega arith in
-    sym (after n xs rest x left) ∙ ap (λ k. drop k xs) next

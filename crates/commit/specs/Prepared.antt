@@ -9,7 +9,7 @@ use Rattle.intake.specs.declared.taking.Taken.{Taken}
 use Rattle.intake.specs.Place.{taken_of, shown}
 use Rattle.intake_workers.specs.declared.handed.Handed.{Handed}
 use Rattle.intake_workers.specs.declared.taking.Hashed.{Hashed}
-use Rattle.intake_workers.specs.Pieces.{txs_in}
+use Rattle.intake_workers.specs.Pieces.{txs_in, all_taken}
 use Rattle.policy_eval.specs.Accepts.{Accepts}
 use Rattle.rules.specs.declared.answer.Refused.{Refused}
 use Rattle.rules.specs.Commit.{txs_of}
@@ -61,7 +61,7 @@ Waits channel accepts (bytes ∷ blocks) (h ∷ handed) (k ∷ hashed) taken =
     × Waits channel accepts blocks handed hashed (drop (length (txs_in h.block)) taken)
 
 abbrev pub IsAhead : Configuration → Accepts → List (List ℕ) → Ahead → Type 0
-IsAhead channel accepts blocks ahead = Waits channel accepts blocks (into_iter_items ahead.handed) (into_iter_items ahead.hashed) (into_iter_items ahead.taken)
+IsAhead channel accepts blocks ahead = Waits channel accepts blocks (into_iter_items ahead.handed) (into_iter_items ahead.hashed) (all_taken (into_iter_items ahead.lists))
 
 -- a block that was taken in, and is the next one of the world
 pub record IsNext (channel : Configuration) (accepts : Accepts) (w : World) (bytes : List ℕ) (b : Block) (places : List Taken) : Type 0 where

@@ -3,6 +3,7 @@ ghost use Rattle.std.specs.Prelude.{◌≡◌, ◌∷◌, [], ℕ, List, take, d
 ghost use Rattle.rules.specs.declared.answer.Refused.TheVariants.{Memory};
 ghost use Rattle.std.specs.Vec.Iter.{into_iter_items};
 ghost use Rattle.channel.specs.Configuration.{Configuration};
+ghost use Rattle.intake_workers.specs.Pieces.{all_taken};
 ghost use Rattle.policy_eval.specs.Accepts.{Accepts};
 ghost use Rattle.rules.specs.World.{World};
 ghost use Rattle.commit.specs.Prepared.{IsTakenIn, IsDecoded, AreHanded, IsAhead};
@@ -35,38 +36,41 @@ pub(crate) struct Prepared<'b> {
 pub(crate) struct Ahead<'b> {
     handed: vec::IntoIter<Handed<'b>>,
     hashed: vec::IntoIter<Hashed>,
-    taken: vec::IntoIter<Taken<'b>>,
+    lists: vec::IntoIter<Vec<Taken<'b>>>,
 }
 
-/// The next ones, if there are so many, and memory for them.
+/// The next ones, if so many are in whole lists, and there is memory for them.
 fn next_taken<'b>(
     alloc: Global,
-    taken: &mut vec::IntoIter<Taken<'b>>,
+    lists: &mut vec::IntoIter<Vec<Taken<'b>>>,
     count: usize,
 ) -> Option<Vec<Taken<'b>>>
-    ensures taken { IfSome result (λ r. r.items ≡ take count (into_iter_items taken.old)) }
-    ensures left { OnSome result (into_iter_items taken.new ≡ drop count (into_iter_items taken.old)) }
+    ensures taken { IfSome result (λ r. r.items ≡ take count (all_taken (into_iter_items lists.old))) }
+    ensures left { OnSome result (all_taken (into_iter_items lists.new) ≡ drop count (all_taken (into_iter_items lists.old))) }
 {
     let Ok(mut all) = Vec::with_capacity(alloc, count) else {
         return None;
     };
-    for _ in 0..count {
-        all.push_reserved(taken.next()?);
+    while all.len() < count {
+        let mut more = lists.next()?;
+        if all.append(&mut more).is_err() {
+            return None;
+        }
     }
-    Some(all)
+    if all.len() == count { Some(all) } else { None }
 }
 
 impl<'b> Ahead<'b> {
     fn of(handed: Vec<Handed<'b>>, taken_in: TakenIn<'b>) -> Ahead<'b>
         ensures handed { into_iter_items result.handed ≡ handed.entry.items }
         ensures hashed { into_iter_items result.hashed ≡ taken_in.entry.hashed.items }
-        ensures taken { into_iter_items result.taken ≡ taken_in.entry.taken.items }
+        ensures lists { into_iter_items result.lists ≡ taken_in.entry.taken.items }
     {
         let TakenIn { hashed, taken } = taken_in;
         Ahead {
             handed: handed.into_iter(),
             hashed: hashed.into_iter(),
-            taken: taken.into_iter(),
+            lists: taken.into_iter(),
         }
     }
 
@@ -77,7 +81,7 @@ impl<'b> Ahead<'b> {
         Ahead {
             handed: Vec::new(alloc).into_iter(),
             hashed: Vec::new(alloc).into_iter(),
-            taken: Vec::new(alloc).into_iter(),
+            lists: Vec::new(alloc).into_iter(),
         }
     }
 
@@ -102,7 +106,7 @@ impl<'b> Ahead<'b> {
             return self.stop(alloc);
         };
         let block = handed.block?;
-        let Some(taken) = next_taken(alloc, &mut self.taken, block.txs.len()) else {
+        let Some(taken) = next_taken(alloc, &mut self.lists, block.txs.len()) else {
             return self.stop(alloc);
         };
         let Hashed { data_hash, bytes } = hashed;

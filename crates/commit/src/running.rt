@@ -23,8 +23,8 @@ use values::Bytes;
 pub(crate) type Answer = Result<Receipt, NotCommitted>;
 
 // What workers take in at once has at most so many bytes, but at least one block: enough for them to be done with it at nearly
-// the same time.
-const MOST_BYTES: usize = 4 << 20;
+// the same time, and few enough for the last blocks, which are committed with nobody else at work.
+const MOST_BYTES: usize = 2 << 20;
 
 /// How many of the next blocks are taken in at once. They are at most half of what is left, so that little is committed at
 /// last while no other block is taken in.

@@ -1,10 +1,13 @@
 -- What is made of the pieces is what is made of all.
 use Rattle.std.proofs.Common.{◌≡◌, ◌++◌, ◌∷◌, ◌+◌, ◌<◌, ℕ, List, map, take, drop, length, get_or, [], refl, ap, sym, ◌∙◌, append_assoc, append-nil, take-add}
 use Rattle.std.proofs.lemmas.List.{take_more}
+use Rattle.std.specs.Prelude.{Vec}
+use Rattle.std.specs.declared.alloc.Global.{Global}
+use Rattle.intake.specs.declared.taking.Taken.{Taken}
 use Rattle.intake_workers.specs.declared.handed.Handed.{Handed}
 use Rattle.intake_workers.specs.declared.piece.Piece.{Piece}
-use Rattle.intake_workers.specs.Pieces.{txs_in, txs_of_all, transactions_of}
-use Rattle.pieces.specs.Pieces.{Joined}
+use Rattle.intake_workers.specs.Pieces.{txs_in, txs_of_all, transactions_of, all_taken}
+use Rattle.pieces.specs.Pieces.{AreMade}
 
 transactions-append : (ps qs : List Piece) → transactions_of (ps ++ qs) ≡ transactions_of ps ++ transactions_of qs
 transactions-append [] qs = refl
@@ -18,30 +21,23 @@ map-append : {A B : Type 0} (f : A → B) (xs ys : List A) → map f (xs ++ ys) 
 map-append f [] ys = refl
 map-append f (x ∷ xs) ys = ap (λ l. f x ∷ l) (map-append f xs ys)
 
-pub all_shown : {X Y Z : Type 0} (seen : X → Y) (f : Z → Y) (g : List ℕ → Z) (ps : List Piece) (xs : List X) → Joined (λ (p : Piece) ys. map seen ys ≡ map f (map g p.txs.now)) ps xs → map seen xs ≡ map f (map g (transactions_of ps))
-all_shown seen f g [] xs none = ap (map seen) none
-all_shown seen f g (p ∷ ps) xs (front, rest, made, more, is) =
-    ap (map seen) is
-    ∙ (map-append seen front rest
-    ∙ (ap (λ l. l ++ map seen rest) made
-    ∙ (ap (λ l. map f (map g p.txs.now) ++ l) (all_shown seen f g ps rest more)
+pub all_shown : {Y Z : Type 0} (seen : Taken → Y) (f : Z → Y) (g : List ℕ → Z) (ps : List Piece) (lists : List (Vec Taken Global)) → AreMade (λ (p : Piece) (taken : Vec Taken Global). map seen taken.items ≡ map f (map g p.txs.now)) ps lists → map seen (all_taken lists) ≡ map f (map g (transactions_of ps))
+all_shown seen f g [] [] made = refl
+all_shown seen f g [] (taken ∷ lists) made = absurd made
+all_shown seen f g (p ∷ ps) [] made = absurd made
+all_shown seen f g (p ∷ ps) (taken ∷ lists) made =
+    map-append seen taken.items (all_taken lists)
+    ∙ (ap (λ l. l ++ map seen (all_taken lists)) made.0
+    ∙ (ap (λ l. map f (map g p.txs.now) ++ l) (all_shown seen f g ps lists made.1)
     ∙ (sym (map-append f (map g p.txs.now) (map g (transactions_of ps)))
-    ∙ ap (map f) (sym (map-append g p.txs.now (transactions_of ps)))))))
+    ∙ ap (map f) (sym (map-append g p.txs.now (transactions_of ps))))))
 
--- where one thing is made of each piece, by two sides of it
-pub firsts : {P X Y Z : Type 0} (f : X → Y) (g : P → Y) (f' : X → Z) (g' : P → Z) (ps : List P) (xs : List X) → Joined (λ p ys. (map f ys ≡ g p ∷ []) × (map f' ys ≡ g' p ∷ [])) ps xs → map f xs ≡ map g ps
-firsts f g f' g' [] xs none = ap (map f) none
-firsts f g f' g' (p ∷ ps) xs (front, rest, made, more, is) =
-    ap (map f) is
-    ∙ (map-append f front rest
-    ∙ (ap (λ l. l ++ map f rest) made.0 ∙ ap (λ l. g p ∷ l) (firsts f g f' g' ps rest more)))
-
-pub seconds : {P X Y Z : Type 0} (f : X → Y) (g : P → Y) (f' : X → Z) (g' : P → Z) (ps : List P) (xs : List X) → Joined (λ p ys. (map f ys ≡ g p ∷ []) × (map f' ys ≡ g' p ∷ [])) ps xs → map f' xs ≡ map g' ps
-seconds f g f' g' [] xs none = ap (map f') none
-seconds f g f' g' (p ∷ ps) xs (front, rest, made, more, is) =
-    ap (map f') is
-    ∙ (map-append f' front rest
-    ∙ (ap (λ l. l ++ map f' rest) made.1 ∙ ap (λ l. g' p ∷ l) (seconds f g f' g' ps rest more)))
+-- of what was made of each piece, one side
+pub each : {P X Y : Type 0} (made : P → X → Type 0) (f : X → Y) (g : P → Y) → ((p : P) (x : X) → made p x → f x ≡ g p) → (ps : List P) (xs : List X) → AreMade made ps xs → map f xs ≡ map g ps
+each made f g side [] [] are = refl
+each made f g side [] (x ∷ xs) are = absurd are
+each made f g side (p ∷ ps) [] are = absurd are
+each made f g side (p ∷ ps) (x ∷ xs) are = ap (λ y. y ∷ map f xs) (side p x are.0) ∙ ap (λ l. g p ∷ l) (each made f g side ps xs are.1)
 
 pub one_more : (before after : List Piece) (p : Piece) (start count : ℕ) (old txs : List (List ℕ)) → after ≡ before ++ p ∷ [] → p.txs.now ≡ take count (drop start txs) → transactions_of before ≡ old ++ take start txs → transactions_of after ≡ old ++ take (start + count) txs
 one_more before after p start count old txs is piece so_far =

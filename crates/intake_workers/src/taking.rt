@@ -1,9 +1,9 @@
 //! Workers hash and copy blocks, and take pieces of them in.
-ghost use Rattle.std.specs.Prelude.{◌≡◌, ◌∷◌, [], map, Ok, IfOk};
+ghost use Rattle.std.specs.Prelude.{◌≡◌, map, Ok, IfOk};
 ghost use Rattle.header_hash.specs.Hashes.{data_hash_of};
 ghost use Rattle.transaction.specs.Decoded.{tx_of};
 ghost use Rattle.intake.specs.Place.{taken_of, shown};
-ghost use Rattle.intake_workers.specs.Pieces.{txs_in, txs_of_all};
+ghost use Rattle.intake_workers.specs.Pieces.{txs_in, txs_of_all, all_taken};
 
 use crate::handed::Handed;
 use crate::piece::{Piece, cut};
@@ -25,8 +25,8 @@ struct TakeIn<'s, V, G> {
     gate: &'s G,
 }
 
-impl<'t, 'a, 's, V: Verify, G: Gate> Work<Piece<'t, 'a>, Taken<'a>> for TakeIn<'s, V, G> {
-    ghost gives = { λ s piece taken. map shown taken ≡ map (taken_of s.channel.now (V.accepts s.verifier.now)) (map tx_of piece.txs.now) };
+impl<'t, 'a, 's, V: Verify, G: Gate> Work<Piece<'t, 'a>, Vec<Taken<'a>>> for TakeIn<'s, V, G> {
+    ghost gives = { λ s piece taken. map shown taken.items ≡ map (taken_of s.channel.now (V.accepts s.verifier.now)) (map tx_of piece.txs.now) };
 
     fn make(&self, alloc: Global, piece: &Piece<'t, 'a>) -> Result<Vec<Taken<'a>>, AllocError> {
         take_piece(
@@ -80,15 +80,13 @@ pub struct Hashed {
 struct HashAndCopy;
 
 impl<'a> Work<Handed<'a>, Hashed> for HashAndCopy {
-    ghost gives = { λ s handed made. (map (λ h. h.data_hash) made ≡ data_hash_of (txs_in handed.block) ∷ []) × (map (λ h. h.bytes) made ≡ handed.bytes.now ∷ []) };
+    ghost gives = { λ s handed made. (made.data_hash ≡ data_hash_of (txs_in handed.block)) × (made.bytes ≡ handed.bytes.now) };
 
-    fn make(&self, alloc: Global, handed: &Handed<'a>) -> Result<Vec<Hashed>, AllocError> {
-        let mut made = Vec::with_capacity(alloc, 1)?;
-        made.push(Hashed {
+    fn make(&self, alloc: Global, handed: &Handed<'a>) -> Result<Hashed, AllocError> {
+        Ok(Hashed {
             data_hash: data_hash(handed.txs()),
             bytes: kept(alloc, handed.bytes)?,
-        })?;
-        Ok(made)
+        })
     }
 }
 
@@ -97,12 +95,12 @@ impl<'a> Work<Handed<'a>, Hashed> for HashAndCopy {
 pub struct TakenIn<'a> {
     /// One for each block.
     pub hashed: Vec<Hashed>,
-    /// All transactions of all blocks.
-    pub taken: Vec<Taken<'a>>,
+    /// All transactions of all blocks, in lists that follow one another.
+    pub taken: Vec<Vec<Taken<'a>>>,
 }
 
 fn taken_in<'a>(
-    made: Result<(Vec<Hashed>, Vec<Taken<'a>>), AllocError>,
+    made: Result<(Vec<Hashed>, Vec<Vec<Taken<'a>>>), AllocError>,
 ) -> Result<TakenIn<'a>, AllocError>
     ensures { IfOk result (λ r. made.entry ≡ Ok (r.hashed, r.taken)) }
 {
@@ -142,7 +140,7 @@ pub fn take_in_beside<'a, R: Threads + Sync, V: Verify + Sync, G: Gate + Sync, Z
     own: &mut F,
 ) -> (Result<TakenIn<'a>, AllocError>, Z)
     requires { F.pre own.old }
-    ensures taken { IfOk result.0 (λ r. map shown r.taken.items ≡ map (taken_of channel.now (V.accepts verifier.now)) (map tx_of (txs_of_all blocks.now))) }
+    ensures taken { IfOk result.0 (λ r. map shown (all_taken r.taken.items) ≡ map (taken_of channel.now (V.accepts verifier.now)) (map tx_of (txs_of_all blocks.now))) }
     ensures hash { IfOk result.0 (λ r. map (λ h. h.data_hash) r.hashed.items ≡ map (λ h. data_hash_of (txs_in h.block)) blocks.now) }
     ensures bytes { IfOk result.0 (λ r. map (λ h. h.bytes) r.hashed.items ≡ map (λ h. h.bytes.now) blocks.now) }
     ensures own { F.step own.old result.1 own.new }

@@ -1,29 +1,20 @@
--- What is joined so far, and the next piece.
+-- What was made so far, and of the next piece.
 use native.Mathlib.Omega.{arith}
-use Rattle.std.proofs.Common.{◌≡◌, ◌++◌, ◌≤◌, ◌+◌, ◌∷◌, ℕ, List, length, drop, [], append_assoc, append-nil, zero, suc, subst, refl}
-use Rattle.pieces.specs.Pieces.{IsMade, Joined}
+use Rattle.std.proofs.Common.{◌≡◌, ◌++◌, ◌≤◌, ◌+◌, ◌∷◌, ℕ, List, length, take, take_all, [], zero, suc, subst, sym, refl}
+use Rattle.pieces.specs.Pieces.{IsMade, AreMade}
 
-module _ {P X : Type 0} (gives : P → List X → Type 0) where
-  -- with what was made of the piece at a place, what is joined behind it begins there
-  from : (pieces : List P) (place : ℕ) (front rest : List X) → IsMade gives pieces place front → Joined gives (drop (suc place) pieces) rest → Joined gives (drop place pieces) (front ++ rest)
-  from [] place front rest made more = absurd (omega (arith, made.0))
-  from (p ∷ ps) zero front rest made more = (front, rest, made.1 p refl, more, refl)
-  from (p ∷ ps) (suc place) front rest made more = from ps place front rest (omega (arith, made.0), made.1) more
+module _ {P X : Type 0} (gives : P → X → Type 0) where
+  next : (pieces : List P) (place : ℕ) (made : X) (all : List X) → IsMade gives pieces place made → AreMade gives (take place pieces) all → AreMade gives (take (suc place) pieces) (all ++ made ∷ [])
+  next [] place made all is so_far = absurd (omega (arith, is.0))
+  next (p ∷ ps) zero made [] is so_far = (is.1 p refl, tt)
+  next (p ∷ ps) zero made (x ∷ all) is so_far = absurd so_far
+  next (p ∷ ps) (suc place) made [] is so_far = absurd so_far
+  next (p ∷ ps) (suc place) made (x ∷ all) is so_far = (so_far.0, next ps place made all (omega (arith, is.0), is.1) so_far.1)
 
-  none_behind : (pieces : List P) (place : ℕ) → length pieces ≤ place → Joined gives (drop place pieces) []
-  none_behind [] zero end = refl
-  none_behind [] (suc place) end = refl
-  none_behind (p ∷ ps) zero end = absurd (omega (arith, end))
-  none_behind (p ∷ ps) (suc place) end = none_behind ps place (omega (arith, end))
+  pub one_more : (pieces : List P) (place : ℕ) (made : X) (before after : List X) → after ≡ before ++ made ∷ [] → IsMade gives pieces place made → AreMade gives (take place pieces) before → AreMade gives (take (place + 1) pieces) after
+  one_more pieces place made before after is one so_far =
+      let count : suc place ≡ place + 1 = omega arith in
+      subst (λ (all : List X). AreMade gives (take (place + 1) pieces) all) (sym is) (subst (λ (n : ℕ). AreMade gives (take n pieces) (before ++ made ∷ [])) count (next pieces place made before one so_far))
 
-  -- whatever is joined behind a place completes what is joined before it
-  abbrev pub SoFar : List P → ℕ → List X → Type 0
-  SoFar pieces place before = (rest : List X) → Joined gives (drop place pieces) rest → Joined gives pieces (before ++ rest)
-
-  pub one_more : (pieces : List P) (place : ℕ) (before front after : List X) → after ≡ before ++ front → IsMade gives pieces place front → SoFar pieces place before → SoFar pieces (place + 1) after
-  one_more pieces place before front after is made so_far rest more =
-      let next : place + 1 ≡ suc place = omega arith in
-      rw (is, append_assoc before front rest) (so_far (front ++ rest) (from pieces place front rest made (subst (λ n. Joined gives (drop n pieces) rest) next more)))
-
-  pub at_end : (pieces : List P) (place : ℕ) (all : List X) → length pieces ≤ place → SoFar pieces place all → Joined gives pieces all
-  at_end pieces place all end so_far = subst (Joined gives pieces) (append-nil all) (so_far [] (none_behind pieces place end))
+  pub at_end : (pieces : List P) (place : ℕ) (all : List X) → length pieces ≤ place → AreMade gives (take place pieces) all → AreMade gives pieces all
+  at_end pieces place all end = subst (λ (ps : List P). AreMade gives ps all) (take_all place pieces end)

@@ -1,6 +1,6 @@
 ghost use Rattle.std.specs.Prelude.{◌≡◌, IfOk};
 ghost use Rattle.std.specs.List.{All};
-ghost use Rattle.pieces.specs.Pieces.{IsMade, Joined};
+ghost use Rattle.pieces.specs.Pieces.{IsMade, AreMade};
 
 use crate::drawing::{Drawn, DrawnBoth, draw_all, draw_both};
 use crate::joining::joined;
@@ -25,8 +25,8 @@ fn draw_behind_call<P, X: Drop, W: Work<P, X>, Q, Y: Drop, V: Work<Q, Y>, Z, F: 
     own: &mut F,
 ) -> (DrawnBoth<X, Y>, Z)
     requires { F.pre own.old }
-    ensures pieces { IfOk result.0.first (λ all. All (λ made. IsMade (W.gives work.now) pieces.now made.place made.items.items) all.items) }
-    ensures others { IfOk result.0.second (λ all. All (λ made. IsMade (V.gives other_work.now) others.now made.place made.items.items) all.items) }
+    ensures pieces { IfOk result.0.first (λ all. All (λ made. IsMade (W.gives work.now) pieces.now made.place made.item) all.items) }
+    ensures others { IfOk result.0.second (λ all. All (λ made. IsMade (V.gives other_work.now) others.now made.place made.item) all.items) }
     ensures own { F.step own.old result.1 own.new }
 {
     let made = own();
@@ -45,10 +45,10 @@ fn apart<P, X: Drop, W: Work<P, X>, Q, Y: Drop, V: Work<Q, Y>>(
     other_work: &V,
     drawn: Vec<DrawnBoth<X, Y>>,
 ) -> Result<(Vec<Drawn<X>>, Vec<Drawn<Y>>), AllocError>
-    requires pieces { All (λ both. IfOk both.first (λ all. All (λ made. IsMade (W.gives work.now) pieces.now made.place made.items.items) all.items)) drawn.items }
-    requires others { All (λ both. IfOk both.second (λ all. All (λ made. IsMade (V.gives other_work.now) others.now made.place made.items.items) all.items)) drawn.items }
-    ensures pieces { IfOk result (λ r. All (λ one. IfOk one (λ all. All (λ made. IsMade (W.gives work.now) pieces.now made.place made.items.items) all.items)) r.0.items) }
-    ensures others { IfOk result (λ r. All (λ one. IfOk one (λ all. All (λ made. IsMade (V.gives other_work.now) others.now made.place made.items.items) all.items)) r.1.items) }
+    requires pieces { All (λ both. IfOk both.first (λ all. All (λ made. IsMade (W.gives work.now) pieces.now made.place made.item) all.items)) drawn.items }
+    requires others { All (λ both. IfOk both.second (λ all. All (λ made. IsMade (V.gives other_work.now) others.now made.place made.item) all.items)) drawn.items }
+    ensures pieces { IfOk result (λ r. All (λ one. IfOk one (λ all. All (λ made. IsMade (W.gives work.now) pieces.now made.place made.item) all.items)) r.0.items) }
+    ensures others { IfOk result (λ r. All (λ one. IfOk one (λ all. All (λ made. IsMade (V.gives other_work.now) others.now made.place made.item) all.items)) r.1.items) }
 {
     let (_pieces, _work, _others, _other_work) = (pieces, work, others, other_work);
     let mut firsts = Vec::new(alloc);
@@ -71,12 +71,12 @@ fn joined_of<P, X: Drop, W: Work<P, X>, Q, Y: Drop, V: Work<Q, Y>>(
     drawn: Result<Vec<DrawnBoth<X, Y>>, AllocError>,
     own: DrawnBoth<X, Y>,
 ) -> MadeOfBoth<X, Y>
-    requires pieces { IfOk drawn (λ drawn. All (λ both. IfOk both.first (λ all. All (λ made. IsMade (W.gives work.now) pieces.now made.place made.items.items) all.items)) drawn.items) }
-    requires others { IfOk drawn (λ drawn. All (λ both. IfOk both.second (λ all. All (λ made. IsMade (V.gives other_work.now) others.now made.place made.items.items) all.items)) drawn.items) }
-    requires own_pieces { IfOk own.first (λ all. All (λ made. IsMade (W.gives work.now) pieces.now made.place made.items.items) all.items) }
-    requires own_others { IfOk own.second (λ all. All (λ made. IsMade (V.gives other_work.now) others.now made.place made.items.items) all.items) }
-    ensures pieces { IfOk result (λ r. Joined (W.gives work.now) pieces.now r.0.items) }
-    ensures others { IfOk result (λ r. Joined (V.gives other_work.now) others.now r.1.items) }
+    requires pieces { IfOk drawn (λ drawn. All (λ both. IfOk both.first (λ all. All (λ made. IsMade (W.gives work.now) pieces.now made.place made.item) all.items)) drawn.items) }
+    requires others { IfOk drawn (λ drawn. All (λ both. IfOk both.second (λ all. All (λ made. IsMade (V.gives other_work.now) others.now made.place made.item) all.items)) drawn.items) }
+    requires own_pieces { IfOk own.first (λ all. All (λ made. IsMade (W.gives work.now) pieces.now made.place made.item) all.items) }
+    requires own_others { IfOk own.second (λ all. All (λ made. IsMade (V.gives other_work.now) others.now made.place made.item) all.items) }
+    ensures pieces { IfOk result (λ r. AreMade (W.gives work.now) pieces.now r.0.items) }
+    ensures others { IfOk result (λ r. AreMade (V.gives other_work.now) others.now r.1.items) }
 {
     let (mut firsts, mut seconds) = apart(alloc, pieces, work, others, other_work, drawn?)?;
     let DrawnBoth { first, second } = own;
@@ -114,8 +114,8 @@ pub fn in_pieces_beside<
     own: &mut F,
 ) -> (MadeOfBoth<X, Y>, Z)
     requires { F.pre own.old }
-    ensures pieces { IfOk result.0 (λ r. Joined (W.gives work.now) pieces.now r.0.items) }
-    ensures others { IfOk result.0 (λ r. Joined (V.gives other_work.now) others.now r.1.items) }
+    ensures pieces { IfOk result.0 (λ r. AreMade (W.gives work.now) pieces.now r.0.items) }
+    ensures others { IfOk result.0 (λ r. AreMade (V.gives other_work.now) others.now r.1.items) }
     ensures own { F.step own.old result.1 own.new }
 {
     let (next, next_other) = (AtomicUsize::new(0), AtomicUsize::new(0));

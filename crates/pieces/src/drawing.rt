@@ -13,7 +13,7 @@ use std::thread::Threads;
 #[derive(Drop)]
 pub(crate) struct Made<X> {
     pub(crate) place: usize,
-    pub(crate) items: Vec<X>,
+    pub(crate) item: X,
 }
 
 /// What one worker made, or that it was refused memory.
@@ -26,10 +26,10 @@ fn make_one<P, X: Drop, W: Work<P, X>>(
     work: &W,
 ) -> Result<Made<X>, AllocError>
     requires { place < length pieces.now }
-    ensures { IfOk result (λ made. IsMade (W.gives work.now) pieces.now made.place made.items.items) }
+    ensures { IfOk result (λ made. IsMade (W.gives work.now) pieces.now made.place made.item) }
 {
-    let items = work.make(alloc, &pieces[place])?;
-    Ok(Made { place, items })
+    let item = work.make(alloc, &pieces[place])?;
+    Ok(Made { place, item })
 }
 
 /// Makes what is to be made of pieces for as long as there are places to draw.
@@ -39,7 +39,7 @@ pub(crate) fn draw<P, X: Drop, W: Work<P, X>>(
     next: &AtomicUsize,
     work: &W,
 ) -> Drawn<X>
-    ensures { IfOk result (λ all. All (λ made. IsMade (W.gives work.now) pieces.now made.place made.items.items) all.items) }
+    ensures { IfOk result (λ all. All (λ made. IsMade (W.gives work.now) pieces.now made.place made.item) all.items) }
 {
     let mut all = Vec::new(alloc);
     for _ in 0..pieces.len() {
@@ -69,8 +69,8 @@ pub(crate) fn draw_both<P, X: Drop, W: Work<P, X>, Q, Y: Drop, V: Work<Q, Y>>(
     next_other: &AtomicUsize,
     other_work: &V,
 ) -> DrawnBoth<X, Y>
-    ensures pieces { IfOk result.first (λ all. All (λ made. IsMade (W.gives work.now) pieces.now made.place made.items.items) all.items) }
-    ensures others { IfOk result.second (λ all. All (λ made. IsMade (V.gives other_work.now) others.now made.place made.items.items) all.items) }
+    ensures pieces { IfOk result.first (λ all. All (λ made. IsMade (W.gives work.now) pieces.now made.place made.item) all.items) }
+    ensures others { IfOk result.second (λ all. All (λ made. IsMade (V.gives other_work.now) others.now made.place made.item) all.items) }
 {
     let first = draw(alloc, pieces, next, work);
     let second = draw(alloc, others, next_other, other_work);
@@ -97,16 +97,16 @@ pub(crate) fn draw_all<
     other_work: &V,
     workers: usize,
 ) -> Result<Vec<DrawnBoth<X, Y>>, AllocError>
-    ensures pieces { IfOk result (λ drawn. All (λ both. IfOk both.first (λ all. All (λ made. IsMade (W.gives work.now) pieces.now made.place made.items.items) all.items)) drawn.items) }
-    ensures others { IfOk result (λ drawn. All (λ both. IfOk both.second (λ all. All (λ made. IsMade (V.gives other_work.now) others.now made.place made.items.items) all.items)) drawn.items) }
+    ensures pieces { IfOk result (λ drawn. All (λ both. IfOk both.first (λ all. All (λ made. IsMade (W.gives work.now) pieces.now made.place made.item) all.items)) drawn.items) }
+    ensures others { IfOk result (λ drawn. All (λ both. IfOk both.second (λ all. All (λ made. IsMade (V.gives other_work.now) others.now made.place made.item) all.items)) drawn.items) }
 {
     thread::map_indices(
         rt,
         alloc,
         workers,
         &|_| -> DrawnBoth<X, Y>
-            ensures pieces { IfOk result.first (λ all. All (λ made. IsMade (W.gives work.entry.now) pieces.entry.now made.place made.items.items) all.items) }
-            ensures others { IfOk result.second (λ all. All (λ made. IsMade (V.gives other_work.entry.now) others.entry.now made.place made.items.items) all.items) }
+            ensures pieces { IfOk result.first (λ all. All (λ made. IsMade (W.gives work.entry.now) pieces.entry.now made.place made.item) all.items) }
+            ensures others { IfOk result.second (λ all. All (λ made. IsMade (V.gives other_work.entry.now) others.entry.now made.place made.item) all.items) }
         { draw_both(alloc, pieces, next, work, others, next_other, other_work) },
     )
 }

@@ -1,7 +1,7 @@
 //! What was drawn is put into slots, a slot for each place, and joined in their order.
 ghost use Rattle.std.specs.Prelude.{◌≡◌, ◌<◌, length, IfOk, IfSome};
 ghost use Rattle.std.specs.List.{All};
-ghost use Rattle.pieces.specs.Pieces.{IsMade, Fits, Joined};
+ghost use Rattle.pieces.specs.Pieces.{IsMade, Fits, AreMade};
 
 use crate::drawing::{Drawn, Made};
 use crate::work::Work;
@@ -12,9 +12,9 @@ fn no_slots<P, X: Drop, W: Work<P, X>>(
     alloc: Global,
     pieces: &[P],
     work: &W,
-) -> Result<Vec<Option<Vec<X>>>, AllocError>
+) -> Result<Vec<Option<X>>, AllocError>
     ensures len { IfOk result (λ slots. length slots.items ≡ length pieces.now) }
-    ensures fits { IfOk result (λ slots. Fits (λ place slot. IfSome slot (λ made. IsMade (W.gives work.now) pieces.now place made.items)) slots.items) }
+    ensures fits { IfOk result (λ slots. Fits (λ place slot. IfSome slot (λ made. IsMade (W.gives work.now) pieces.now place made)) slots.items) }
 {
     let mut slots = Vec::with_capacity(alloc, pieces.len())?;
     for _ in 0..pieces.len() {
@@ -23,33 +23,28 @@ fn no_slots<P, X: Drop, W: Work<P, X>>(
     Ok(slots)
 }
 
-fn put<P, X: Drop, W: Work<P, X>>(
-    pieces: &[P],
-    slots: &mut [Option<Vec<X>>],
-    made: Made<X>,
-    work: &W,
-)
+fn put<P, X: Drop, W: Work<P, X>>(pieces: &[P], slots: &mut [Option<X>], made: Made<X>, work: &W)
     requires len { length slots.old ≡ length pieces.now }
-    requires made { IsMade (W.gives work.now) pieces.now made.place made.items.items }
-    requires fits { Fits (λ place slot. IfSome slot (λ made. IsMade (W.gives work.now) pieces.now place made.items)) slots.old }
+    requires made { IsMade (W.gives work.now) pieces.now made.place made.item }
+    requires fits { Fits (λ place slot. IfSome slot (λ made. IsMade (W.gives work.now) pieces.now place made)) slots.old }
     ensures len { length slots.new ≡ length pieces.now }
-    ensures fits { Fits (λ place slot. IfSome slot (λ made. IsMade (W.gives work.now) pieces.now place made.items)) slots.new }
+    ensures fits { Fits (λ place slot. IfSome slot (λ made. IsMade (W.gives work.now) pieces.now place made)) slots.new }
 {
     let _work = work;
-    slots[made.place] = Some(made.items);
+    slots[made.place] = Some(made.item);
 }
 
 fn put_all<P, X: Drop, W: Work<P, X>>(
     pieces: &[P],
-    slots: &mut [Option<Vec<X>>],
+    slots: &mut [Option<X>],
     all: Vec<Made<X>>,
     work: &W,
 )
     requires len { length slots.old ≡ length pieces.now }
-    requires made { All (λ made. IsMade (W.gives work.now) pieces.now made.place made.items.items) all.items }
-    requires fits { Fits (λ place slot. IfSome slot (λ made. IsMade (W.gives work.now) pieces.now place made.items)) slots.old }
+    requires made { All (λ made. IsMade (W.gives work.now) pieces.now made.place made.item) all.items }
+    requires fits { Fits (λ place slot. IfSome slot (λ made. IsMade (W.gives work.now) pieces.now place made)) slots.old }
     ensures len { length slots.new ≡ length pieces.now }
-    ensures fits { Fits (λ place slot. IfSome slot (λ made. IsMade (W.gives work.now) pieces.now place made.items)) slots.new }
+    ensures fits { Fits (λ place slot. IfSome slot (λ made. IsMade (W.gives work.now) pieces.now place made)) slots.new }
 {
     for made in all {
         put(pieces, slots, made, work);
@@ -58,15 +53,15 @@ fn put_all<P, X: Drop, W: Work<P, X>>(
 
 fn put_drawn<P, X: Drop, W: Work<P, X>>(
     pieces: &[P],
-    slots: &mut [Option<Vec<X>>],
+    slots: &mut [Option<X>],
     drawn: Vec<Drawn<X>>,
     work: &W,
 ) -> Result<(), AllocError>
     requires len { length slots.old ≡ length pieces.now }
-    requires drawn { All (λ one. IfOk one (λ all. All (λ made. IsMade (W.gives work.now) pieces.now made.place made.items.items) all.items)) drawn.items }
-    requires fits { Fits (λ place slot. IfSome slot (λ made. IsMade (W.gives work.now) pieces.now place made.items)) slots.old }
+    requires drawn { All (λ one. IfOk one (λ all. All (λ made. IsMade (W.gives work.now) pieces.now made.place made.item) all.items)) drawn.items }
+    requires fits { Fits (λ place slot. IfSome slot (λ made. IsMade (W.gives work.now) pieces.now place made)) slots.old }
     ensures len { length slots.new ≡ length pieces.now }
-    ensures fits { Fits (λ place slot. IfSome slot (λ made. IsMade (W.gives work.now) pieces.now place made.items)) slots.new }
+    ensures fits { Fits (λ place slot. IfSome slot (λ made. IsMade (W.gives work.now) pieces.now place made)) slots.new }
 {
     for one in drawn {
         put_all(pieces, slots, one?, work);
@@ -76,16 +71,16 @@ fn put_drawn<P, X: Drop, W: Work<P, X>>(
 
 fn take<P, X: Drop, W: Work<P, X>>(
     pieces: &[P],
-    slots: &mut [Option<Vec<X>>],
+    slots: &mut [Option<X>],
     place: usize,
     work: &W,
-) -> Option<Vec<X>>
+) -> Option<X>
     requires place { place < length pieces.now }
     requires len { length slots.old ≡ length pieces.now }
-    requires fits { Fits (λ place slot. IfSome slot (λ made. IsMade (W.gives work.now) pieces.now place made.items)) slots.old }
+    requires fits { Fits (λ place slot. IfSome slot (λ made. IsMade (W.gives work.now) pieces.now place made)) slots.old }
     ensures len { length slots.new ≡ length pieces.now }
-    ensures fits { Fits (λ place slot. IfSome slot (λ made. IsMade (W.gives work.now) pieces.now place made.items)) slots.new }
-    ensures slot { IfSome result (λ made. IsMade (W.gives work.now) pieces.now place made.items) }
+    ensures fits { Fits (λ place slot. IfSome slot (λ made. IsMade (W.gives work.now) pieces.now place made)) slots.new }
+    ensures slot { IfSome result (λ made. IsMade (W.gives work.now) pieces.now place made) }
 {
     let _work = work;
     slots[place].take()
@@ -95,12 +90,12 @@ fn taken_or_made<P, X: Drop, W: Work<P, X>>(
     alloc: Global,
     pieces: &[P],
     place: usize,
-    slot: Option<Vec<X>>,
+    slot: Option<X>,
     work: &W,
-) -> Result<Vec<X>, AllocError>
+) -> Result<X, AllocError>
     requires place { place < length pieces.now }
-    requires slot { IfSome slot (λ made. IsMade (W.gives work.now) pieces.now place made.items) }
-    ensures { IfOk result (λ made. IsMade (W.gives work.now) pieces.now place made.items) }
+    requires slot { IfSome slot (λ made. IsMade (W.gives work.now) pieces.now place made) }
+    ensures { IfOk result (λ made. IsMade (W.gives work.now) pieces.now place made) }
 {
     match slot {
         Some(made) => Ok(made),
@@ -108,32 +103,20 @@ fn taken_or_made<P, X: Drop, W: Work<P, X>>(
     }
 }
 
-// How much was made, for room alone.
-fn count_made<X: Drop>(slots: &[Option<Vec<X>>]) -> usize {
-    let mut count = 0usize;
-    for slot in slots {
-        if let Some(made) = slot {
-            count = count.saturating_add(made.len());
-        }
-    }
-    count
-}
-
 fn join<P, X: Drop, W: Work<P, X>>(
     alloc: Global,
     pieces: &[P],
-    slots: &mut [Option<Vec<X>>],
+    slots: &mut [Option<X>],
     work: &W,
 ) -> Result<Vec<X>, AllocError>
     requires len { length slots.old ≡ length pieces.now }
-    requires fits { Fits (λ place slot. IfSome slot (λ made. IsMade (W.gives work.now) pieces.now place made.items)) slots.old }
-    ensures { IfOk result (λ all. Joined (W.gives work.now) pieces.now all.items) }
+    requires fits { Fits (λ place slot. IfSome slot (λ made. IsMade (W.gives work.now) pieces.now place made)) slots.old }
+    ensures { IfOk result (λ all. AreMade (W.gives work.now) pieces.now all.items) }
 {
-    let mut all = Vec::with_capacity(alloc, count_made(slots))?;
+    let mut all = Vec::with_capacity(alloc, pieces.len())?;
     for place in 0..pieces.len() {
         let slot = take(pieces, slots, place, work);
-        let mut made = taken_or_made(alloc, pieces, place, slot, work)?;
-        all.append(&mut made)?;
+        all.push(taken_or_made(alloc, pieces, place, slot, work)?)?;
     }
     Ok(all)
 }
@@ -141,14 +124,14 @@ fn join<P, X: Drop, W: Work<P, X>>(
 fn through_slots<P, X: Drop, W: Work<P, X>>(
     alloc: Global,
     pieces: &[P],
-    slots: &mut [Option<Vec<X>>],
+    slots: &mut [Option<X>],
     drawn: Vec<Drawn<X>>,
     work: &W,
 ) -> Result<Vec<X>, AllocError>
     requires len { length slots.old ≡ length pieces.now }
-    requires drawn { All (λ one. IfOk one (λ all. All (λ made. IsMade (W.gives work.now) pieces.now made.place made.items.items) all.items)) drawn.items }
-    requires fits { Fits (λ place slot. IfSome slot (λ made. IsMade (W.gives work.now) pieces.now place made.items)) slots.old }
-    ensures { IfOk result (λ all. Joined (W.gives work.now) pieces.now all.items) }
+    requires drawn { All (λ one. IfOk one (λ all. All (λ made. IsMade (W.gives work.now) pieces.now made.place made.item) all.items)) drawn.items }
+    requires fits { Fits (λ place slot. IfSome slot (λ made. IsMade (W.gives work.now) pieces.now place made)) slots.old }
+    ensures { IfOk result (λ all. AreMade (W.gives work.now) pieces.now all.items) }
 {
     put_drawn(pieces, slots, drawn, work)?;
     join(alloc, pieces, slots, work)
@@ -161,8 +144,8 @@ pub(crate) fn joined<P, X: Drop, W: Work<P, X>>(
     drawn: Vec<Drawn<X>>,
     work: &W,
 ) -> Result<Vec<X>, AllocError>
-    requires { All (λ one. IfOk one (λ all. All (λ made. IsMade (W.gives work.now) pieces.now made.place made.items.items) all.items)) drawn.items }
-    ensures { IfOk result (λ all. Joined (W.gives work.now) pieces.now all.items) }
+    requires { All (λ one. IfOk one (λ all. All (λ made. IsMade (W.gives work.now) pieces.now made.place made.item) all.items)) drawn.items }
+    ensures { IfOk result (λ all. AreMade (W.gives work.now) pieces.now all.items) }
 {
     let mut slots = no_slots(alloc, pieces, work)?;
     through_slots(alloc, pieces, slots.as_mut_slice(), drawn, work)

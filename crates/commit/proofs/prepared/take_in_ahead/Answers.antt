@@ -1,5 +1,6 @@
 use Rattle.std.proofs.Common.{sym, subst}
 use Rattle.std.specs.Vec.Iter.{into_iter_items}
+use Rattle.intake_workers.specs.Pieces.{all_taken}
 use Rattle.commit.specs.Prepared.{Waits}
 use Rattle.commit.proofs.Waiting.{none_waits}
 use Rattle.commit.proofs.prepared.take_in_ahead.Goals as goal
@@ -10,5 +11,5 @@ returns-in-Err-clause-ahead g c =
     let accepts = g.V.Verify.accepts c.args.verifier.now in
     let blocks = c.args.blocks.now in
     let hashed = into_iter_items c.none.result.hashed in
-    let taken = into_iter_items c.none.result.taken in
+    let taken = all_taken (into_iter_items c.none.result.lists) in
     subst (λ hs. Waits channel accepts blocks hs hashed taken) (sym c.none.ensures) (none_waits channel accepts blocks hashed taken)

@@ -1,4 +1,4 @@
-use Rattle.std.proofs.Common.{◌≡◌, ◌≤◌, ◌+◌, ◌++◌, ℕ, List, length, take, drop, vec_len, vec_capacity}
+use Rattle.std.proofs.Common.{◌≡◌, ◌≤◌, ◌+◌, ◌++◌, ℕ, List, take, drop, vec_len, vec_capacity}
 use Rattle.commit.specs.Committing.{Committing, Runs}
 use Rattle.commit.specs.Prepared.{IsAhead}
 use Rattle.commit.specs.Running.{committing}

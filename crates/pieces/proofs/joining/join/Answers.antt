@@ -6,7 +6,7 @@ pub loop-place-preserved : goal.loop-place-preserved
 loop-place-preserved g c = (
   c.take-slot.ensures.len,
   c.take-slot.ensures.fits,
-  one_more _ _ _ _ _ _ c.in_ok-append.ensures.items c.in_ok-made.ensures c.loop-place.invariant.2,
+  one_more _ _ _ _ _ _ c.in_ok-push.ensures.items c.in_ok-taken_or_made.ensures c.loop-place.invariant.2,
 )
 
 pub returns : goal.returns
