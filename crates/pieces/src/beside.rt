@@ -121,8 +121,8 @@ pub fn in_pieces_beside<
     let (next, next_other) = (AtomicUsize::new(0), AtomicUsize::new(0));
     let (shared, shared_other) = (&next, &next_other);
     let started = workers.saturating_sub(1);
-    if started == 0 {
-        let (last, done) = draw_behind_call(
+    let mut behind = || {
+        draw_behind_call(
             alloc,
             pieces,
             shared,
@@ -131,41 +131,29 @@ pub fn in_pieces_beside<
             shared_other,
             other_work,
             own,
-        );
-        let drawn = Ok(Vec::new(alloc));
-        return (
-            joined_of(alloc, pieces, work, others, other_work, drawn, last),
-            done,
-        );
-    }
-    let (drawn, (last, done)) = thread::join_mut(
-        rt,
-        &mut || {
-            draw_all(
-                rt,
-                alloc,
-                pieces,
-                shared,
-                work,
-                others,
-                shared_other,
-                other_work,
-                started,
-            )
-        },
-        &mut || {
-            draw_behind_call(
-                alloc,
-                pieces,
-                shared,
-                work,
-                others,
-                shared_other,
-                other_work,
-                own,
-            )
-        },
-    );
+        )
+    };
+    let (drawn, (last, done)) = if started == 0 {
+        (Ok(Vec::new(alloc)), behind())
+    } else {
+        thread::join_mut(
+            rt,
+            &mut || {
+                draw_all(
+                    rt,
+                    alloc,
+                    pieces,
+                    shared,
+                    work,
+                    others,
+                    shared_other,
+                    other_work,
+                    started,
+                )
+            },
+            &mut behind,
+        )
+    };
     (
         joined_of(alloc, pieces, work, others, other_work, drawn, last),
         done,
