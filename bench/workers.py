@@ -9,9 +9,10 @@ policy asks for; signatures are verified before anything is timed.
 - `chain`: 4,096 transactions, each of which reads the key that the one before it writes.
 - `one`: a block of one transaction, with 4 workers, beside the starting and joining of 4 scoped threads that do nothing.
 
-Times are the least of five runs, or of as many as RUNS says in the environment, in each of which everything is done ten times,
-in turns. Ratios are by the least times, beside them by the median over the turns. By the least times it fails where one worker
-takes more than 1.3 times the loop, or four are less than 2.5 times faster than one where transactions are independent.
+Times are the least of five runs, or of as many as RUNS says in the environment, in each of which each is done ten times one
+after the other, so that the processors are awake, as they are in a committer at work. Ratios are by the least times, beside
+them by the median over the turns. By the least times it fails where one worker takes more than 1.3 times the loop, or four are
+less than 2.5 times faster than one where transactions are independent.
 
 UNDER has words that are put before each program that is timed: `UNDER="chrt -f 50"` spreads threads at once over the
 processors, where a system gathers new ones on few of them.
@@ -32,13 +33,14 @@ from signing import Keys
 
 CRATES = ["block", "channel", "check_workers", "commit", "gates", "intake", "key_book", "key_chains", "rules", "serial_checks"]
 ONE_WORKER, FOUR_WORKERS = 1.3, 2.5
-TIMED = ["loop", "1", "2", "4", "threads"]
+TIMED, TIMES = ["loop", "1", "2", "4", "threads"], 10
 CHANNEL = "channel ch\nchaincode cc AND('Org1.peer','Org2.peer')\n"
 CREATOR, PEERS = "Org1:client:c0", ["Org1:peer:p0", "Org2:peer:q0"]
 KEYS = "".join(f"{who} {number:02x}{'5a' * 31}\n" for number, who in enumerate([CREATOR] + PEERS))
 
-# Takes the first block, and times the checks of each other one. Behind `all` that is a line of nanoseconds for each time, and
-# last the number of valid transactions and how many verdicts no worker found; behind `loops` the nanoseconds of many loops.
+# Takes the first block, and times the checks of each other one. Behind `all` those are the nanoseconds of the loop, of 1, 2 and 4
+# workers and of threads, ten of each, and last the number of valid transactions and how many verdicts no worker found; behind
+# `loops` the nanoseconds of many loops.
 PROGRAM = r"""
 #![tactic(auto)]
 
@@ -86,10 +88,13 @@ fn valid(flags: &[Flag]) -> u32 {
     count
 }
 
-fn time_loop<R: Clock>(rt: &R, alloc: Global, job: &Job<'_>) -> anyhow::Result<u128> {
-    let start = Instant::now(rt)?;
-    let _flags = serial_checks::flags(alloc, job)?;
-    Ok(start.elapsed(rt)?.as_nanos())
+fn time_loop<R: Clock>(rt: &R, alloc: Global, job: &Job<'_>, found: &mut Vec<u128>) -> anyhow::Result<()> {
+    for _ in 0..TIMES {
+        let start = Instant::now(rt)?;
+        let _flags = serial_checks::flags(alloc, job)?;
+        found.push(start.elapsed(rt)?.as_nanos())?;
+    }
+    Ok(())
 }
 
 fn checked<R: Threads + Wait + Sync>(
@@ -108,28 +113,36 @@ fn time_workers<R: Clock + Threads + Wait + Sync>(
     alloc: Global,
     job: &Job<'_>,
     workers: usize,
-) -> anyhow::Result<u128>
+    found: &mut Vec<u128>,
+) -> anyhow::Result<()>
     requires { (1 ≤ workers) × (workers ≤ 64) }
 {
-    let start = Instant::now(rt)?;
-    let _checked = checked(rt, alloc, job, workers)?;
-    Ok(start.elapsed(rt)?.as_nanos())
+    for _ in 0..TIMES {
+        let start = Instant::now(rt)?;
+        let _checked = checked(rt, alloc, job, workers)?;
+        found.push(start.elapsed(rt)?.as_nanos())?;
+    }
+    Ok(())
 }
 
-fn time_threads<R: Clock + Threads + Wait + Sync>(rt: &R) -> anyhow::Result<u128> {
-    let start = Instant::now(rt)?;
-    start_and_join(rt);
-    Ok(start.elapsed(rt)?.as_nanos())
+fn time_threads<R: Clock + Threads + Wait + Sync>(rt: &R, found: &mut Vec<u128>) -> anyhow::Result<()> {
+    for _ in 0..TIMES {
+        let start = Instant::now(rt)?;
+        start_and_join(rt);
+        found.push(start.elapsed(rt)?.as_nanos())?;
+    }
+    Ok(())
 }
 
 fn time_all<R: Clock + Print + Threads + Wait + Sync>(rt: &R, alloc: Global, job: &Job<'_>) -> anyhow::Result<()> {
-    for _ in 0..TIMES {
-        let plain = time_loop(rt, alloc, job)?;
-        let one = time_workers(rt, alloc, job, 1)?;
-        let two = time_workers(rt, alloc, job, 2)?;
-        let four = time_workers(rt, alloc, job, 4)?;
-        let threads = time_threads(rt)?;
-        println!(rt; "{plain} {one} {two} {four} {threads}")?;
+    let mut found = Vec::new(alloc);
+    time_loop(rt, alloc, job, &mut found)?;
+    time_workers(rt, alloc, job, 1, &mut found)?;
+    time_workers(rt, alloc, job, 2, &mut found)?;
+    time_workers(rt, alloc, job, 4, &mut found)?;
+    time_threads(rt, &mut found)?;
+    for nanos in found {
+        println!(rt; "{nanos}")?;
     }
     let last = checked(rt, alloc, job, 4)?;
     let valid = valid(last.flags.as_slice());
@@ -257,15 +270,17 @@ def write_files(folder):
 
 def times(program, folder, name):
     """The nanoseconds of each thing that is timed, each time."""
-    lines = []
+    found = {timed: [] for timed in TIMED}
     for _ in range(RUNS):
         done = subprocess.run([*UNDER, program, "all", f"{name}.blk"], cwd=folder, capture_output=True, text=True, check=False)
         run = [tuple(map(int, line.split())) for line in done.stdout.splitlines()]
         if done.returncode != 0 or not run:
             sys.exit(f"the run failed: {done.stdout[-300:]}{done.stderr[-300:]}")
-        lines += run[:-1]
+        nanos = [number for [number] in run[:-1]]
+        for place, timed in enumerate(TIMED):
+            found[timed] += nanos[place * TIMES:(place + 1) * TIMES]
         valid, gathered = run[-1]
-    return dict(zip(TIMED, zip(*lines))), valid, gathered
+    return found, valid, gathered
 
 
 def loops(program, folder, count):
