@@ -26,9 +26,12 @@ pub(crate) type Answer = Result<Receipt, NotCommitted>;
 // the same time, and few enough for the last blocks, which are committed with nobody else at work.
 const MOST_BYTES: usize = 2 << 20;
 
-/// How many of the next blocks are taken in at once. They are at most half of what is left, so that little is committed at
-/// last while no other block is taken in.
-fn next_count(blocks: &[Bytes], workers: Workers) -> usize
+// What they take in first, while nothing is there to commit. Each time behind it they take in up to twice as much.
+const FIRST_BYTES: usize = MOST_BYTES / 8;
+
+/// How many of the next blocks are taken in at once: up to so many bytes. They are at most half of what is left, so that little
+/// is committed at last while no other block is taken in.
+fn next_count(blocks: &[Bytes], most_bytes: usize, workers: Workers) -> usize
     ensures some { 0 < length blocks.now → 0 < result }
     ensures fits { result ≤ length blocks.now }
 {
@@ -39,7 +42,7 @@ fn next_count(blocks: &[Bytes], workers: Workers) -> usize
     let mut bytes = 0usize;
     for (count, block) in blocks.iter().enumerate() {
         bytes = bytes.saturating_add(block.as_slice().len());
-        if count > 0 && (count >= half || bytes > MOST_BYTES) {
+        if count > 0 && (count >= half || bytes > most_bytes) {
             return count;
         }
     }
@@ -148,8 +151,9 @@ pub(crate) fn run_all<R: Threads + Wait + Sync, V: Verify + Sync, G: Gate + Sync
     ensures { Runs (V.accepts verifier.now) (committing channel.now published.old) blocks.now result.items (committing channel.now published.new) }
 {
     let mut answers = answers;
+    let mut most_bytes = FIRST_BYTES;
     let mut start = 0;
-    let mut end = next_count(blocks, workers);
+    let mut end = next_count(blocks, most_bytes, workers);
     let (mut ahead, ()) = take_in_ahead(
         rt,
         alloc,
@@ -161,7 +165,8 @@ pub(crate) fn run_all<R: Threads + Wait + Sync, V: Verify + Sync, G: Gate + Sync
         &mut || (),
     );
     while end < blocks.len() {
-        let count = next_count(&blocks[end..], workers);
+        most_bytes = most_bytes.saturating_mul(2).min(MOST_BYTES);
+        let count = next_count(&blocks[end..], most_bytes, workers);
         ahead = commit_beside_intake(
             rt,
             alloc,
