@@ -99,7 +99,7 @@ fn write_one(
 {
     keeping.note(version.tx, number, written);
     let value = new_value(keeping, number, written)?;
-    let now = row_now(&rows[number as usize], job.row(&written.key));
+    let now = row_now(&rows[number as usize], job.row_of(number));
     let row = row_after(version, &value, &written.policy, now)?;
     rows[number as usize] = Some(row);
     add_entry(

@@ -48,9 +48,8 @@ fn open_passes<B: Board>(
 ///
 /// `Sure` where that is the same whatever the unknown endorsements before i will be. `Blocked(h)` where it isn't known
 /// yet: h is before i, writes the policy of a key that i writes, and whether h passes is unknown. Where all before i are
-/// known at the call, the answer is `Sure`. For each key that i writes, the cost is that of a search for its row, of
-/// evaluating the policy that governs it, and of a look at the earlier candidates that write its policy, down to the
-/// newest that passed.
+/// known at the call, the answer is `Sure`. For each key that i writes, the cost is that of evaluating the policy that
+/// governs it, and of a look at the earlier candidates that write its policy, down to the newest that passed.
 pub fn decide<B: Board>(job: &Job<'_>, i: u32, board: &mut B) -> Decision<bool>
     requires place { i < length job.now.candidates }
     requires board { B.count board.old ≡ length job.now.candidates }

@@ -1,12 +1,14 @@
 //! What policies ask, which no other verdict changes.
 ghost use Rattle.std.specs.Prelude.{◌≡◌};
-ghost use Rattle.std.specs.Option.{option_copied};
+ghost use Rattle.std.specs.Option.{option_and_then, option_copied};
+ghost use Rattle.std.specs.FinMap.{get};
 ghost use Rattle.rules.specs.State.{policy_in};
 ghost use Rattle.rules.specs.Endorsement as rule;
 
 use key_chains::{Job, StateKey};
 use policy::Policy;
 use policy_eval::{Signers, satisfied};
+use rules::Row;
 
 /// Whether there is a policy, and the signers satisfy it.
 pub fn meets(signers: &Signers<'_>, policy: Option<&Policy>) -> bool
@@ -18,11 +20,11 @@ pub fn meets(signers: &Signers<'_>, policy: Option<&Policy>) -> bool
     }
 }
 
-/// The policy that a key has of its own before the block.
-pub fn own_policy<'a>(job: &Job<'a>, key: &StateKey<'_>) -> Option<&'a Policy>
-    ensures { option_copied result ≡ policy_in job.now.state key.now }
+/// The policy that a row has of its own.
+fn policy_of<'a>(row: Option<&'a Row>) -> Option<&'a Policy>
+    ensures { option_copied result ≡ option_and_then (λ row. row.policy) (option_copied row.entry) }
 {
-    match job.row(key) {
+    match row {
         None => None,
         Some(row) => match &row.policy {
             None => None,
@@ -31,12 +33,31 @@ pub fn own_policy<'a>(job: &Job<'a>, key: &StateKey<'_>) -> Option<&'a Policy>
     }
 }
 
+/// The policy that a key has of its own before the block.
+pub fn own_policy<'a>(job: &Job<'a>, key: &StateKey<'_>) -> Option<&'a Policy>
+    ensures { option_copied result ≡ policy_in job.now.state key.now }
+{
+    policy_of(job.row(key))
+}
+
+/// The policy that governs a key whose row before the block this is: the row's own, else the key's namespace's.
+pub(crate) fn governing_over<'a>(
+    job: &Job<'a>,
+    key: &StateKey<'_>,
+    row: Option<&'a Row>,
+) -> Option<&'a Policy>
+    requires { option_copied row ≡ get job.now.state key.now }
+    ensures { option_copied result ≡ rule.governing job.now.definitions key.now.0 (policy_in job.now.state key.now) }
+{
+    match policy_of(row) {
+        Some(own) => Some(own),
+        None => job.definition(&key.namespace()),
+    }
+}
+
 /// The policy that governs a key: its own before the block, else its namespace's.
 pub fn governing<'a>(job: &Job<'a>, key: &StateKey<'_>) -> Option<&'a Policy>
     ensures { option_copied result ≡ rule.governing job.now.definitions key.now.0 (policy_in job.now.state key.now) }
 {
-    match own_policy(job, key) {
-        Some(own) => Some(own),
-        None => job.definition(&key.namespace()),
-    }
+    governing_over(job, key, job.row(key))
 }

@@ -11,7 +11,7 @@ ghost use Rattle.key_chains.specs.Job.{written_by};
 ghost use Rattle.key_chains.specs.Known.{Known};
 ghost use Rattle.key_chains.specs.Decided.{MatchDecision};
 
-use crate::policies::{governing, meets};
+use crate::policies::{governing_over, meets};
 use crate::writers::any_passed;
 use key_chains::{Board, Decision, Job, StateKey, WrittenKey};
 use policy_eval::Signers;
@@ -34,7 +34,8 @@ fn may_write<B: Board>(
         (λ h. EndorsementDepends job.now i h × ((B.known board.new).endorsed h ≡ None)) }
 {
     // what asks no other verdict goes first
-    if !meets(signers, governing(job, key)) {
+    let row = job.row_of(job.key_number_of(i, place));
+    if !meets(signers, governing_over(job, key, row)) {
         return Decision::Sure(false);
     }
     match any_passed(i, job.policy_writers(i, place), board) {

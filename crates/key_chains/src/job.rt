@@ -10,6 +10,7 @@ ghost use Rattle.rules.specs.Candidate.{flagged};
 ghost use Rattle.candidates.specs.Seen.{seen};
 ghost use Rattle.key_chains.specs.Operations.{operations};
 ghost use Rattle.key_chains.specs.PolicyWriters.{policy_writers};
+ghost use Rattle.key_chains.specs.WrittenRows.{AreRows};
 
 use crate::chains::{Chains, newest_on};
 use crate::links::{Operations, PolicyWriters};
@@ -30,6 +31,8 @@ pub struct Job<'a> {
     definitions: &'a Definitions,
     candidates: Vec<Candidate<'a>>,
     chains: Chains<'a>,
+    /// The row before the block of each key that it writes, in the keys' order.
+    rows: Vec<Option<&'a Row>>,
 }
 
 impl<'a> Model for Job<'a> {
@@ -44,10 +47,11 @@ impl<'a> Model for Job<'a> {
     ghost use Rattle.block.specs.Limits.{max_txs};
     ghost use Rattle.candidates.specs.Seen.{seen};
     ghost use Rattle.key_chains.specs.Built.{IsBuilt};
+    ghost use Rattle.key_chains.specs.WrittenRows.{AreRows};
 
     ghost view = { λ j. record { number = j.number; state = j.state.now.state; definitions = j.definitions.now; candidates = map seen j.candidates.items } };
 
-    ghost invariant = { λ j. (length j.candidates.items ≤ max_txs) × IsBuilt (map seen j.candidates.items) (length j.candidates.items) (length j.candidates.items) 0 j.chains };
+    ghost invariant = { λ j. ((length j.candidates.items ≤ max_txs) × AreRows j.state.now.state j.chains.keys j.rows.items) × IsBuilt (map seen j.candidates.items) (length j.candidates.items) (length j.candidates.items) 0 j.chains };
 }
 
 /// An item of candidate i, whose items begin at the place that `firsts` has for it.
@@ -59,9 +63,24 @@ fn item_of<T: Copy>(items: &[T], firsts: &[usize], i: u32, item: usize) -> T
     items[firsts[i as usize] + item]
 }
 
+/// The rows of these keys.
+fn rows_of<'a>(
+    alloc: Global,
+    state: &'a StateDb,
+    keys: &[StateKey<'_>],
+) -> Result<Vec<Option<&'a Row>>, AllocError>
+    ensures { IfOk result (λ rows. AreRows state.entry.now.state keys.now rows.items) }
+{
+    let mut rows = Vec::with_capacity(alloc, keys.len())?;
+    for key in keys {
+        rows.push(state.row(key))?;
+    }
+    Ok(rows)
+}
+
 impl<'a> Job<'a> {
-    /// The job of a block's candidates, over the state before the block. A sort of the keys that they write, and one
-    /// pass over what they read and write, with a search for each key.
+    /// The job of a block's candidates, over the state before the block. A sort of the keys that they write, a search for
+    /// the row of each, and one pass over what they read and write, with a search for each key.
     pub fn build(
         alloc: Global,
         number: u64,
@@ -73,12 +92,14 @@ impl<'a> Job<'a> {
         ensures { IfOk result (λ j. j ≡ record { number = number; state = state.entry.now.state; definitions = definitions.entry.now; candidates = map seen candidates.entry.items }) }
     {
         let chains = Chains::build(alloc, candidates.as_slice())?;
+        let rows = rows_of(alloc, state, chains.keys.as_slice())?;
         Ok(Job {
             number,
             state,
             definitions,
             candidates,
             chains,
+            rows,
         })
     }
 
@@ -125,6 +146,14 @@ impl<'a> Job<'a> {
         ensures { option_copied result ≡ get self.now.state key.now }
     {
         self.state.row(key)
+    }
+
+    /// The row before the block of the key of this number among those that the block writes. Constant time.
+    pub fn row_of(&self, number: u32) -> Option<&'a Row>
+        requires { number < length (keys_of self.now) }
+        ensures { (k : StateKey) → slice_get (keys_of self.now) number ≡ Some k → option_copied result ≡ get self.now.state k }
+    {
+        self.rows[number as usize]
     }
 
     /// The rows of a namespace before the block, from a start to before an end, an empty end being no bound.

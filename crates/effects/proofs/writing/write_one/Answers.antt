@@ -21,7 +21,7 @@ returns-clause-rows c s shows =
     let row : c.in_ok-row.row ≡ row_written c.args.version c.args.written.now (get s c.args.written.now.key) =
     c.in_ok-row.ensures
     ∙ ap (λ x. row_by_parts c.args.version x c.args.written.now.policy (option_copied c.row_now-now.result)) c.in_ok-value.ensures
-    ∙ ap (row_written c.args.version c.args.written.now) (c.row_now-now.ensures ∙ ap (unwrap_or c.index.result.now) c.row.ensures
+    ∙ ap (row_written c.args.version c.args.written.now) (c.row_now-now.ensures ∙ ap (unwrap_or c.index.result.now) (c.row_of.ensures c.args.written.now.key c.requires.place)
     ∙ ap (λ x. unwrap_or x (get c.args.job.now.state c.args.written.now.key)) read ∙ shows c.args.number c.args.written.now.key c.requires.place) in
     subst (λ (r : Option Row). ShowRows c.args.job.now (slice_set c.args.rows.now.items c.args.number (Some c.in_ok-row.row)) (set_at s c.args.written.now.key r)) row
     (shows_one_more c.args.job.now c.args.rows.now.items s c.args.number c.args.written.now.key c.in_ok-row.row c.requires.rising c.requires.place below shows)
@@ -29,3 +29,6 @@ returns-clause-rows c s shows =
 pub returns-clause-entries : goal.returns-clause-entries
 returns-clause-entries c =
     c.in_ok-add_entry.ensures ∙ ap (λ x. entries_in c.args.entries.now.items ++ entry_at c.args.version c.args.id c.args.written.now.key x) c.in_ok-value.ensures
+
+pub row_of-requires : goal.row_of-requires
+row_of-requires c = slice_get_within (keys_of c.args.job.now) c.args.number c.args.written.now.key c.requires.place
