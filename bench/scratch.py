@@ -45,7 +45,7 @@ class Machine:
 def times_as_long(these, those):
     """How many times as long these took as those beside them, by the least of each, and by the median over the turns.
 
-    The least is what is promised. The two differ where the machine changes its speed: then neither says much.
+    The two differ where the machine changes its speed: then the least ones may be of different speeds.
     """
     return min(these) / min(those), statistics.median(this / that for this, that in zip(these, those))
 
