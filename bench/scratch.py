@@ -84,7 +84,8 @@ def build(folder, name, source, own, kit, proofs=None):
     """A program of one file, over `own` crates of this repository and over crates of the kit; its path.
 
     What the crates stand on is taken too. One whose library isn't built is proved in the scratch folder, each time anew:
-    build them first. `proofs` has texts by their paths in the program's `proofs/`.
+    build them first, by `rt lib`, since what `rt ci` leaves doesn't count as built. `proofs` has texts by their paths in the
+    program's `proofs/`.
     """
     crates = folder / "crates"
     texts = {f"proofs/{path}": text for path, text in (proofs or {}).items()}
