@@ -2,7 +2,7 @@ ghost use Rattle.std.specs.Prelude.{◌≡◌, ◌*◌, ◌≤◌, [], length, r
 ghost use Rattle.rules.specs.Fold as fold;
 ghost use Rattle.check_workers.specs.Words.{fresh};
 
-use crate::gathering::{flags, gather};
+use crate::gathering::gather;
 use crate::rule::{Place, Words};
 use crate::seat::VerdictSeat;
 use crate::turns::Turns;
@@ -70,7 +70,5 @@ pub fn check_all<R: Threads + Wait + Sync, G: Gate + Sync>(
     let steps = &words.shared;
     run(rt, alloc, job, steps, &turns, workers, gate);
     let mut seat = VerdictSeat::first(steps, place);
-    let gathered = gather(job, &mut seat);
-    let flags = flags(alloc, job, &mut seat)?;
-    Ok(Checked { flags, gathered })
+    gather(alloc, job, &mut seat)
 }

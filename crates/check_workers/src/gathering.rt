@@ -1,9 +1,10 @@
 //! What is left once the workers have ended.
-ghost use Rattle.std.specs.Prelude.{◌≡◌, ◌*◌, ◌+◌, ◌<◌, ◌≤◌, ℕ, length, IfOk};
+ghost use Rattle.std.specs.Prelude.{◌≡◌, ◌*◌, ◌+◌, ◌<◌, ◌≤◌, ◌^◌, ℕ, length, IfOk};
 ghost use Rattle.rules.specs.Fold as fold;
 ghost use Rattle.check_workers.specs.Cells.{IsKnown};
 ghost use Rattle.check_workers.specs.Seats.{Moves};
 
+use crate::checking::Checked;
 use crate::seat::VerdictSeat;
 use key_chains::{Decision, Job};
 use rules::Flag;
@@ -27,33 +28,37 @@ fn gather_one(job: &Job<'_>, seat: &mut VerdictSeat<'_, '_>, task: u32) -> u32
     1
 }
 
-/// Settles what is unknown, in the order of the tasks, and counts it.
-pub(crate) fn gather(job: &Job<'_>, seat: &mut VerdictSeat<'_, '_>) -> u32
-    requires { seat.old.job ≡ job.now }
+/// The flag of a candidate, once what is unknown of its two verdicts is settled, and how many that were.
+fn gather_both(job: &Job<'_>, seat: &mut VerdictSeat<'_, '_>, i: u32) -> (Flag, u32)
+    requires job { seat.old.job ≡ job.now }
+    requires place { (i < length job.now.candidates) × (2 * i + 1 < 2 ^ 32) }
+    requires before { (h : ℕ) → h < 2 * i → IsKnown seat.old.known h }
     ensures job { seat.new.job ≡ job.now }
-    ensures known { (task : ℕ) → task < 2 * length job.now.candidates → IsKnown seat.new.known task }
+    ensures known { (h : ℕ) → h < 2 * (i + 1) → IsKnown seat.new.known h }
+    ensures flag { result.0 ≡ fold.flag job.now i }
+    ensures count { result.1 ≤ 2 }
 {
-    let mut gathered = 0;
-    for task in 0..2 * job.len() {
-        gathered += gather_one(job, seat, task);
-    }
-    gathered
+    let endorsements = gather_one(job, seat, 2 * i);
+    let reads = gather_one(job, seat, 2 * i + 1);
+    (seat.known_flag(i), endorsements + reads)
 }
 
-/// The flags, all of which are known.
-pub(crate) fn flags(
+/// The flags, once what is unknown is settled in the order of the tasks, and how many verdicts that were.
+pub(crate) fn gather(
     alloc: Global,
     job: &Job<'_>,
     seat: &mut VerdictSeat<'_, '_>,
-) -> Result<Vec<Flag>, AllocError>
-    requires job { seat.old.job ≡ job.now }
-    requires known { (task : ℕ) → task < 2 * length job.now.candidates → IsKnown seat.old.known task }
-    ensures { IfOk result (λ flags. flags.items ≡ fold.flags job.now) }
+) -> Result<Checked, AllocError>
+    requires { seat.old.job ≡ job.now }
+    ensures { IfOk result (λ c. c.flags.items ≡ fold.flags job.now) }
 {
     let count = job.len();
     let mut flags = Vec::with_capacity(alloc, count as usize)?;
+    let mut gathered = 0;
     for i in 0..count {
-        flags.push(seat.known_flag(i))?;
+        let (flag, unknown) = gather_both(job, seat, i);
+        gathered += unknown;
+        flags.push(flag)?;
     }
-    Ok(flags)
+    Ok(Checked { flags, gathered })
 }

@@ -1,5 +1,5 @@
 //! Whose turn it is: the desk of tasks, under a lock.
-ghost use Rattle.std.specs.Prelude.{◌≡◌, ◌*◌, ◌<◌, ◌≤◌, All};
+ghost use Rattle.std.specs.Prelude.{◌≡◌, ◌+◌, ◌*◌, ◌<◌, ◌≤◌, All};
 ghost use Rattle.arrayvec.specs.ArrayVec.{array_vec_len};
 
 use crate::deques::{BATCH, Owner, Tasks, push};
@@ -7,10 +7,10 @@ use arrayvec::ArrayVec;
 use key_chains::Decision;
 use std::alloc::{AllocError, Global};
 use std::sync::{Condvar, Mutex, Wait};
-use task_desk::Desk;
+use task_desk::{Desk, Run};
 
 /// The most tasks that a worker settles between two turns.
-pub(crate) const MOST: usize = 128;
+pub(crate) const MOST: usize = 256;
 
 /// What a worker has done with a task.
 #[derive(Clone, Copy)]
@@ -58,30 +58,57 @@ struct Waited {
     was_blocked: bool,
 }
 
+/// Keeps the tasks of a run, and no others.
+fn keep_run<J: Tasks>(run: Run, tasks: u32, kept: &mut Kept)
+    requires tasks { tasks ≡ J.tasks }
+    requires room { run.end ≤ run.from + 256 }
+    ensures { All (λ task. task < J.tasks) kept.new.items }
+{
+    kept.clear();
+    // The lock doesn't tell that the desk is this job's.
+    for task in run.from..run.end.min(tasks) {
+        kept.push(task);
+    }
+}
+
 impl Waited {
-    fn report_one(&mut self, settled: Settled) {
-        match settled.decision {
-            Decision::Sure(()) => {
-                self.desk.done(settled.task);
-            }
-            Decision::Blocked(on) => {
-                self.was_blocked = true;
-                self.desk.park(settled.task, on);
-            }
+    fn done(&mut self, run: Run) {
+        if run.from < run.end {
+            self.desk.done_run(run);
         }
     }
 
+    /// Tells the desk what a worker did, in order. Tasks that stand one behind the other are told as one run, since most do.
     fn report(&mut self, settled: &[Settled]) {
+        let mut run = Run { from: 0, end: 0 };
         for settled in settled {
-            self.report_one(*settled);
+            match settled.decision {
+                Decision::Sure(()) if settled.task == run.end => {
+                    run.end = run.end.saturating_add(1);
+                }
+                Decision::Sure(()) => {
+                    self.done(run);
+                    run = Run {
+                        from: settled.task,
+                        end: settled.task.saturating_add(1),
+                    };
+                }
+                Decision::Blocked(on) => {
+                    self.done(run);
+                    run = Run { from: 0, end: 0 };
+                    self.was_blocked = true;
+                    self.desk.park(settled.task, on);
+                }
+            }
         }
+        self.done(run);
     }
 
     /// How many tasks a worker keeps for itself: half of its equal part of those that aren't done, and once a check was blocked
     /// at most a batch, since others may wait for what it finds. Where half of its part is less than a batch, or a worker
     /// sleeps, it keeps one: others can steal the rest.
     fn most(&self) -> usize
-        ensures { result ≤ 128 }
+        ensures { (1 ≤ result) × (result ≤ 256) }
     {
         let half = (self.desk.left() / self.workers.saturating_mul(2).max(1)) as usize;
         if half < BATCH || self.has_sleepers {
@@ -116,9 +143,9 @@ impl Waited {
         ensures { All (λ task. task < J.tasks) kept.new.items }
     {
         let most = self.most();
-        kept.clear();
+        keep_run::<J>(self.desk.take_run(most as u32), tasks, kept);
         let mut is_pushed = false;
-        for place in 0..most.max(BATCH) {
+        for place in kept.len()..most.max(BATCH) {
             let Some(task) = self.hand() else {
                 break;
             };

@@ -48,7 +48,7 @@ fn settle_own<J: Tasks, G: Gate>(
     requires job { seat.old.job ≡ job.now }
     requires tasks { 2 * length job.now.candidates ≡ J.tasks }
     requires kept { All (λ task. task < 2 * length job.now.candidates) kept.now }
-    requires room { length kept.now ≤ 128 }
+    requires room { length kept.now ≤ 256 }
     ensures { seat.new.job ≡ job.now }
 {
     settled.clear();

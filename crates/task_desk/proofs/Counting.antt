@@ -1,15 +1,19 @@
 -- What is counted, once one status has changed.
-use Rattle.std.proofs.Common.{◌≡◌, ℕ, zero, suc, ◌+◌, ◌<◌, ◌≤◌, Bool, true, false, cond, List, [], ◌∷◌, length, map, set, Option, Some, None, refl, sym, ap, ◌∙◌, arith}
+use Rattle.std.proofs.Common.{◌≡◌, ℕ, zero, suc, ◌+◌, ◌-◌, ◌<◌, ◌≤◌, Bool, true, false, cond, List, [], ◌∷◌, length, map, set, Option, Some, None, refl, sym, ap, ◌∙◌, arith}
 use Rattle.std.specs.Prelude.{count_by, replicate, slice_index_or, MatchOption}
 use Rattle.std.proofs.Math.ListN.{get_or-map}
 use Rattle.std.proofs.lemmas.List.{map-set, length-set, length-replicate}
 use Rattle.std.proofs.lemmas.List.Sums.{sum_by-set, sum_by-cons}
 use Rattle.task_desk.specs.declared.status.Status.{Status}
-use Rattle.task_desk.specs.declared.status.Status.TheVariants.{Ready, Done}
+use Rattle.task_desk.specs.declared.status.Status.TheVariants.{Ready, Handed, Out, Parked, Done}
 use Rattle.task_desk.specs.Status.{is_unhanded, is_out, is_undone, status_at}
+use Rattle.task_desk.specs.Runs.{with_run, IsNextRun}
 use Rattle.task_desk.specs.Desk.{NoneUnhanded, IsNext}
 use Rattle.task_desk.specs.Bits.{IsLeast, IsEmpty}
+use Rattle.task_desk.specs.Unhanded.{IsFirstRun}
 use Rattle.task_desk.specs.Counted.{IsCounted}
+use Rattle.task_desk.proofs.StatusAt.{at_other}
+use Rattle.task_desk.proofs.InRuns.{run-length, run-map, run-same}
 
 -- the count of a test, once one status has changed
 pub count-set : (p : Status → Bool) (tasks : List Status) (t : ℕ) (v : Status) → t < length tasks → count_by p (set tasks t v) + cond (p (status_at tasks t)) 1 0 ≡ count_by p tasks + cond (p v) 1 0
@@ -34,7 +38,7 @@ counted-set tasks t v unhanded unhandeds out undone outs undones counted lt is_u
 
 -- ---- all ready
 
-map-replicate : {X Y : Type 0} (f : X → Y) (n : ℕ) (x : X) → map f (replicate n x) ≡ replicate n (f x)
+pub map-replicate : {X Y : Type 0} (f : X → Y) (n : ℕ) (x : X) → map f (replicate n x) ≡ replicate n (f x)
 map-replicate f zero x = refl
 map-replicate f (suc n) x = ap (λ ys. f x ∷ ys) (map-replicate f n x)
 
@@ -65,3 +69,96 @@ unhanded-found tasks unhanded (Some t) is least = record {
   unhanded = sym (ap (λ (ms : List Bool). slice_index_or ms t false) is ∙ mark is_unhanded tasks t) ∙ least.member;
   least = λ u lt. sym (ap (λ (ms : List Bool). slice_index_or ms u false) is ∙ mark is_unhanded tasks u) ∙ least.least u lt;
 }
+
+-- ---- a run changes
+
+sums : (b c : Bool) (n x y z : ℕ) → x + cond b n 0 ≡ y + cond c n 0 → y + cond b 1 0 ≡ z + cond c 1 0 → x + cond b (suc n) 0 ≡ z + cond c (suc n) 0
+sums true true n x y z one two = omega (arith, one, two)
+sums true false n x y z one two = omega (arith, one, two)
+sums false true n x y z one two = omega (arith, one, two)
+sums false false n x y z one two = omega (arith, one, two)
+
+-- the count of a test that holds of all of a run, or of none
+pub count-run : (p : Status → Bool) (b : Bool) (v : Status) (tasks : List Status) (t n : ℕ) → t + n ≤ length tasks → ((u : ℕ) → t ≤ u → u < t + n → p (status_at tasks u) ≡ b)
+    → count_by p (with_run v tasks t n) + cond b n 0 ≡ count_by p tasks + cond (p v) n 0
+count-run p b v tasks t zero room are = (λ k. count_by p tasks + none b k) ∙ sym (λ k. count_by p tasks + none (p v) k)
+  where
+    none : (c : Bool) → ◌≡◌ {A = ℕ} (cond c 0 0) 0
+    none true = refl
+    none false = refl
+count-run p b v tasks t (suc n) room are =
+    sums b (p v) n (count_by p (with_run v (set tasks t v) (suc t) n)) (count_by p (set tasks t v)) (count_by p tasks)
+    (count-run p b v (set tasks t v) (suc t) n (omega (arith, room, length-set tasks t v))
+    (λ u from to. ap p (at_other tasks t u v (λ e. absurd (omega (arith, e, from)))) ∙ are u (omega (arith, from)) (omega (arith, to))))
+    ((λ k. count_by p (set tasks t v) + cond (sym (are t (omega arith) (omega arith)) k) 1 0) ∙ count-set p tasks t v (omega (arith, room)))
+
+unhanded-out : (s : Status) → is_unhanded s ≡ true → is_out s ≡ false
+unhanded-out Ready is = refl
+unhanded-out Handed is = refl
+unhanded-out Out is = absurd cc
+unhanded-out (Parked g) is = refl
+unhanded-out Done is = refl
+
+unhanded-undone : (s : Status) → is_unhanded s ≡ true → is_undone s ≡ true
+unhanded-undone Ready is = refl
+unhanded-undone Handed is = refl
+unhanded-undone Out is = refl
+unhanded-undone (Parked g) is = refl
+unhanded-undone Done is = absurd cc
+
+pub taken-counted : (tasks : List Status) (unhanded unhandeds : List Bool) (out undone t n : ℕ) → IsCounted tasks unhanded out undone → t + n ≤ length tasks
+    → ((u : ℕ) → t ≤ u → u < t + n → is_unhanded (status_at tasks u) ≡ true) → unhandeds ≡ with_run false unhanded t n → IsCounted (with_run Out tasks t n) unhandeds (out + n) undone
+taken-counted tasks unhanded unhandeds out undone t n counted room are is = record {
+  small = let small = counted.small in omega (arith, small, run-length Out tasks t n);
+  are_unhanded = is ∙ ap (λ (ms : List Bool). with_run false ms t n) counted.are_unhanded ∙ sym (run-map is_unhanded Out tasks t n);
+  are_out = let before = counted.are_out in let now = count-run is_out false Out tasks t n room (λ u from to. unhanded-out (status_at tasks u) (are u from to)) in omega (arith, before, now);
+  are_undone = let before = counted.are_undone in let now = count-run is_undone true Out tasks t n room (λ u from to. unhanded-undone (status_at tasks u) (are u from to)) in omega (arith, before, now);
+}
+
+pub finished-counted : (tasks : List Status) (unhanded : List Bool) (out undone from end : ℕ) → IsCounted tasks unhanded out undone → from ≤ end → end ≤ length tasks
+    → ((t : ℕ) → from ≤ t → t < end → status_at tasks t ≡ Out)
+    → (end - from ≤ out) × ((end - from ≤ undone) × IsCounted (with_run Done tasks from (end - from)) unhanded (out - (end - from)) (undone - (end - from)))
+finished-counted tasks unhanded out undone from end counted order inside are = (
+  omega (arith, outs, before_out),
+  (
+    omega (arith, undones, before_undone),
+    record {
+      small = let small = counted.small in omega (arith, small, run-length Done tasks from count);
+      are_unhanded =
+          counted.are_unhanded
+          ∙ sym (run-map is_unhanded Done tasks from count ∙ run-same false (map is_unhanded tasks) from count false (λ t le lt. mark is_unhanded tasks t ∙ ap is_unhanded (here t le lt)));
+      are_out = omega (arith, outs, before_out);
+      are_undone = omega (arith, undones, before_undone);
+    },
+  ),
+)
+  where
+    count : ℕ
+    count = end - from
+
+    here : (t : ℕ) → from ≤ t → t < from + (end - from) → status_at tasks t ≡ Out
+    here t le lt = are t le (omega (arith, lt, order))
+
+    outs : count_by is_out (with_run Done tasks from (end - from)) + (end - from) ≡ count_by is_out tasks + 0
+    outs = count-run is_out true Done tasks from (end - from) (omega (arith, order, inside)) (λ t le lt. ap is_out (here t le lt))
+
+    undones : count_by is_undone (with_run Done tasks from (end - from)) + (end - from) ≡ count_by is_undone tasks + 0
+    undones = count-run is_undone true Done tasks from (end - from) (omega (arith, order, inside)) (λ t le lt. ap is_undone (here t le lt))
+
+    before_out : out ≡ count_by is_out tasks
+    before_out = counted.are_out
+
+    before_undone : undone ≡ count_by is_undone tasks
+    before_undone = counted.are_undone
+
+pub run-found : (tasks : List Status) (unhanded : List Bool) (most from end : ℕ) → unhanded ≡ map is_unhanded tasks → IsFirstRun unhanded most from end → IsNextRun tasks most from end
+run-found tasks unhanded most from end is run = record {
+  order = run.order;
+  size = run.size;
+  unhanded = λ t le lt. here t ∙ run.are t le lt;
+  least = λ some u lt. here u ∙ run.least some u lt;
+  none = λ e t. here t ∙ run.none e t;
+}
+  where
+    here : (t : ℕ) → is_unhanded (status_at tasks t) ≡ slice_index_or unhanded t false
+    here t = sym (ap (λ (ms : List Bool). slice_index_or ms t false) is ∙ mark is_unhanded tasks t)

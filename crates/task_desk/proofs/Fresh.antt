@@ -1,5 +1,5 @@
 -- Tasks of which all from one on are there.
-use Rattle.std.proofs.Common.{◌≡◌, ◌≢◌, ◌⊎◌, inl, inr, ℕ, ◌+◌, ◌<◌, ◌≤◌, eqb, leb, ltb, Bool, true, false, cond, ◌||◌, List, length, set, get_or, refl, sym, ap, ◌∙◌, arith}
+use Rattle.std.proofs.Common.{◌≡◌, ◌≢◌, ◌⊎◌, inl, inr, ℕ, zero, suc, ◌+◌, ◌<◌, ◌≤◌, eqb, leb, ltb, Bool, true, false, cond, ◌||◌, List, length, set, get_or, refl, sym, ap, ◌∙◌, arith}
 use Rattle.std.specs.Prelude.{replicate}
 use Rattle.std.proofs.Math.ListN.{get_or-eq_default}
 use Rattle.std.proofs.lemmas.Bool.{lt-ltb, le-ltb, ltb-false}
@@ -8,7 +8,8 @@ use Rattle.std.proofs.lemmas.List.{get_or-set_same, get_or-set_other, get_or-rep
 use Rattle.std.proofs.lemmas.List.FromFn.{get_or-map-range_with_len, length-map-range_with_len}
 use Rattle.task_desk.specs.Bits.{IsLeast, IsEmpty}
 use Rattle.task_desk.specs.Groups.{is_member}
-use Rattle.task_desk.specs.Unhanded.{is_shown, with_fresh, AreBefore, IsRunPut}
+use Rattle.task_desk.specs.Runs.{with_run}
+use Rattle.task_desk.specs.Unhanded.{is_shown, with_fresh, AreBefore, IsRunPut, IsFirstRun}
 use Rattle.task_desk.proofs.Grouping.{true_false, member-below, none-member}
 
 pub fresh-length : (others : List Bool) (fresh : ℕ) → length (with_fresh others fresh) ≡ length others
@@ -157,3 +158,61 @@ none-left others fresh count has are none le k = by (leb_tells (length others) k
     by : ((leb (length others) k ≡ true) × (length others ≤ k)) ⊎ ((leb (length others) k ≡ false) × (k < length others)) → is_member (with_fresh others fresh) k ≡ false
     by (inl d) = get_or-eq_default (with_fresh others fresh) false (let beyond = d.1 in omega (arith, beyond, fresh-length others fresh))
     by (inr d) = let lt = d.1 in let all = are.all in fresh-at others fresh k false lt ∙ shown-before others fresh k (omega (arith, lt, all, le)) ∙ none k
+
+-- ---- a run leaves
+
+pub fresh-keeps : (others : List Bool) (fresh moved count : ℕ) (has : Bool) → AreBefore others fresh count has → fresh ≤ moved → moved ≤ count → AreBefore others moved count has
+fresh-keeps others fresh moved count has are from to = record {
+  small = are.small;
+  all = are.all;
+  bound = to;
+  before = λ k le. are.before k (omega (arith, from, le));
+  none = are.none;
+}
+
+pub fresh-leave : (others : List Bool) (fresh count n : ℕ) (has : Bool) → AreBefore others fresh count has → fresh + n ≤ count → with_fresh others (fresh + n) ≡ with_run false (with_fresh others fresh) fresh n
+fresh-leave others fresh count zero has are room = let same : fresh + 0 ≡ fresh = omega arith in ap (with_fresh others) same
+fresh-leave others fresh count (suc n) has are room =
+    ap (with_fresh others) further
+    ∙ fresh-leave others (suc fresh) count n has (fresh-keeps others fresh (suc fresh) count has are (omega arith) (omega (arith, room))) (omega (arith, room))
+    ∙ ap (λ (xs : List Bool). with_run false xs (suc fresh) n) one
+  where
+    further : fresh + suc n ≡ suc fresh + n
+    further = omega arith
+
+    next : suc fresh ≡ fresh + 1
+    next = omega arith
+
+    one : with_fresh others (suc fresh) ≡ set (with_fresh others fresh) fresh false
+    one =
+        ap (with_fresh others) next
+        ∙ leaves others others fresh count fresh has are (omega arith) (let all = are.all in omega (arith, all, room)) (record { all = refl; below = λ k lt. refl; inside = λ k le lt. absurd (omega (arith, le, lt)); above = λ k le. refl })
+
+pub fresh-run : (others : List Bool) (fresh count most n : ℕ) (has : Bool) → AreBefore others fresh count has → IsEmpty others → fresh + n ≤ count → n ≤ most → (n ≡ 0 → count ≤ fresh) → IsFirstRun (with_fresh others fresh) most fresh (fresh + n)
+fresh-run others fresh count most n has are none room few some = record {
+  order = omega arith;
+  size = omega (arith, few);
+  all = let all = are.all in omega (arith, all, room, fresh-length others fresh);
+  are = λ k from to. fresh-at others fresh k false (let all = are.all in omega (arith, all, room, to)) ∙ shown-fresh others fresh k from;
+  least = λ lt k below. fresh-at others fresh k false (let all = are.all in omega (arith, all, room, below)) ∙ shown-before others fresh k below ∙ none k;
+  none = λ e. none-left others fresh count has are none (some (omega (arith, e)));
+}
+
+pub other-run : (others : List Bool) (fresh count most t : ℕ) (has : Bool) → AreBefore others fresh count has → 0 < most → IsLeast others t → IsFirstRun (with_fresh others fresh) most t (t + 1)
+other-run others fresh count most t has are some first =
+    let least = least-other others fresh count t has are first in record {
+      order = omega arith;
+      size = omega (arith, some);
+      all = let inside = member-below (with_fresh others fresh) t least.member in omega (arith, inside);
+      are = λ k from to. let same : k ≡ t = omega (arith, from, to) in ap (is_member (with_fresh others fresh)) same ∙ least.member;
+      least = λ lt k below. least.least k below;
+      none = λ e. absurd (omega (arith, e));
+    }
+
+-- one that isn't fresh is before those that are
+pub other-before : (others : List Bool) (fresh count t : ℕ) (has : Bool) → AreBefore others fresh count has → IsLeast others t → t < fresh
+other-before others fresh count t has are first = by (leb_tells fresh t)
+  where
+    by : ((leb fresh t ≡ true) × (fresh ≤ t)) ⊎ ((leb fresh t ≡ false) × (t < fresh)) → t < fresh
+    by (inl d) = true_false (is_member others t) first.member (are.before t d.1)
+    by (inr d) = d.1

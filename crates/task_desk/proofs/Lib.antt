@@ -8,5 +8,7 @@ mod Members
 mod Grouping
 mod Fresh
 mod Linking
+mod InRuns
 mod Counting
 mod Parking
+mod RunCalls

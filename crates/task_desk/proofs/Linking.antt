@@ -3,10 +3,10 @@ use Rattle.std.proofs.Common.{◌≡◌, ◌≢◌, ◌⊎◌, inl, inr, ℕ, ze
 use Rattle.std.specs.Prelude.{replicate, slice_index}
 use Rattle.std.proofs.Math.ListN.{get_or-eq_default}
 use Rattle.std.proofs.lemmas.Bool.Decides.{eqb_tells, leb_tells}
-use Rattle.std.proofs.lemmas.List.{get_or-set_same, get_or-set_other, get_or-map, get_or-replicate, length-set, length-map, length-replicate, map-set}
+use Rattle.std.proofs.lemmas.List.{get_or-set_same, get_or-set_other, get_or-map, get_or-replicate, length-set, length-map, length-replicate, map-set, set-get_or}
 use Rattle.task_desk.specs.declared.wait_lists.WaitList.{WaitList}
 use Rattle.task_desk.specs.Waiting.{chain, has, list_at}
-use Rattle.task_desk.specs.Links.{list_of, AreBelow, IsWithin}
+use Rattle.task_desk.specs.Links.{list_of, AreBelow, IsWithin, AreKept}
 
 -- ---- having
 
@@ -159,3 +159,31 @@ first-below next t count some below = below t (ap (λ (ts : List ℕ). has ts t)
 
 pub rest-below : (next : List ℕ) (t count : ℕ) → count ≢ 0 → AreBelow (chain next t count) (length next) → AreBelow (chain next (slice_index next t) (count - 1)) (length next)
 rest-below next t count some below u is = below u (ap (λ (ts : List ℕ). has ts u) (chain-some next t count some) ∙ has-rest t u (chain next (slice_index next t) (count - 1)) is)
+
+-- ---- what is kept beside the lists
+
+pub new-kept : (next : List ℕ) (lists : List WaitList) (n : ℕ) → n ≤ 8192 → next ≡ replicate n 0 → lists ≡ replicate n (record { first = 0; count = 0 }) → AreKept next lists false
+new-kept next lists n small is_next is_lists = record {
+  within = new-within next lists n is_next is_lists;
+  small = let same : length lists ≡ n = ap (λ (xs : List WaitList). length xs) is_lists ∙ length-replicate {A = WaitList} n (record { first = 0; count = 0 }) in omega (arith, same, small);
+  none = λ e g. ap (λ (ls : List WaitList). list_at (map (list_of next) ls) g) is_lists ∙ ap (λ (ls : List (List ℕ)). list_at ls g) (no-lists next n) ∙ empty_at n g;
+}
+
+pub cleared-kept : (next : List ℕ) (lists : List WaitList) (h first : ℕ) (some : Bool) → AreKept next lists some → h < length lists → some ≡ true → AreKept next (set lists h (record { first = first; count = 0 })) some
+cleared-kept next lists h first some kept lt is = record {
+  within = cleared-within next lists h first kept.within lt;
+  small = let small = kept.small in omega (arith, small, length-set lists h (record { first = first; count = 0 }));
+  none = λ e. absurd (let wrong : true ≡ false = sym is ∙ e in cc);
+}
+
+pub cleared-empty : (lists : List (List ℕ)) (h : ℕ) → list_at lists h ≡ [] → lists ≡ set lists h []
+cleared-empty lists h empty = sym (ap (set lists h) (sym empty) ∙ set-get_or lists h [])
+
+pub pushed-kept : (next : List ℕ) (lists : List WaitList) (old : List (List ℕ)) (h t : ℕ) (list : WaitList) (some : Bool) → map (list_of next) lists ≡ old → AreKept next lists some → h < length lists → t < length next
+    → list ≡ get_or lists h list → ((g : ℕ) → has (list_at old g) t ≡ false)
+    → AreKept (set next t list.first) (set lists h (record { first = t; count = list.count + 1 })) true
+pushed-kept next lists old h t list some is kept lt inside at none = record {
+  within = pushed-within next lists old h t list is kept.within lt inside at none;
+  small = let small = kept.small in omega (arith, small, length-set lists h (record { first = t; count = list.count + 1 }));
+  none = λ e. absurd (let wrong : true ≡ false = e in cc);
+}

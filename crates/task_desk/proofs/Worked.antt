@@ -1,10 +1,12 @@
 -- Worked rows of the desk.
-use Rattle.std.proofs.Common.{◌≡◌, ℕ, zero, suc, ◌<◌, true, false, [], ◌∷◌, refl, arith}
+use Rattle.std.proofs.Common.{◌≡◌, ℕ, zero, suc, ◌<◌, ◌≤◌, true, false, List, [], ◌∷◌, refl, arith}
+use Rattle.task_desk.specs.declared.status.Status.{Status}
 use Rattle.std.specs.Prelude.{count_by}
 use Rattle.std.specs.List.{list_all}
 use Rattle.task_desk.specs.declared.status.Status.TheVariants.{Ready, Handed, Out, Parked, Done}
 use Rattle.task_desk.specs.Status.{is_ready, is_unhanded, is_out, is_done, status_at}
 use Rattle.task_desk.specs.Desk.{new_desk, with_out, with_handed, can_park, with_parked, with_done, NoneReady, NoneUnhanded, IsNext}
+use Rattle.task_desk.specs.Runs.{with_run, with_run_done, IsNextRun}
 
 -- a desk for no transaction has nothing to do
 nothing_to_do : (new_desk 0 ≡ []) × (list_all is_done (new_desk 0) ≡ true)
@@ -89,3 +91,78 @@ one_sleeps_on = refl
 
 others_stay : with_done (Handed ∷ Out ∷ Ready ∷ Out ∷ []) 1 ≡ Handed ∷ Done ∷ Ready ∷ Out ∷ []
 others_stay = refl
+
+-- ---- runs
+
+three_taken : with_run Out (new_desk 2) 0 3 ≡ Out ∷ Out ∷ Out ∷ Ready ∷ []
+three_taken = refl
+
+one_from_the_middle : with_run Out (Handed ∷ Ready ∷ Ready ∷ Ready ∷ []) 1 2 ≡ Handed ∷ Out ∷ Out ∷ Ready ∷ []
+one_from_the_middle = refl
+
+no_run_changes_nothing : (with_run Out (new_desk 1) 1 0 ≡ new_desk 1) × (with_run_done (Out ∷ Out ∷ []) 1 0 ≡ Out ∷ Out ∷ [])
+no_run_changes_nothing = (refl, refl)
+
+three_done : with_run_done (Out ∷ Out ∷ Out ∷ Out ∷ []) 1 3 ≡ Out ∷ Done ∷ Done ∷ Done ∷ []
+three_done = refl
+
+-- what waits for one of a run becomes ready, in the run and behind it, and isn't done with it
+run_wakes : with_run_done (Out ∷ Parked 0 ∷ Out ∷ Parked 2 ∷ []) 0 3 ≡ Done ∷ Ready ∷ Done ∷ Ready ∷ []
+run_wakes = refl
+
+-- none that isn't out is done, and no task that there isn't
+only_those_out : with_run_done (Ready ∷ Handed ∷ Done ∷ Out ∷ []) 0 7 ≡ Ready ∷ Handed ∷ Done ∷ Done ∷ []
+only_those_out = refl
+
+abbrev some : List Status
+some = Handed ∷ Ready ∷ Ready ∷ Out ∷ []
+
+next_run : IsNextRun some 2 1 3
+next_run = record {
+  order = omega arith;
+  size = omega arith;
+  unhanded = between;
+  least = λ lt. below;
+  none = λ e. absurd (omega (arith, e));
+}
+  where
+    between : (t : ℕ) → 1 ≤ t → t < 3 → is_unhanded (status_at some t) ≡ true
+    between zero le lt = absurd (omega (arith, le))
+    between (suc zero) le lt = refl
+    between (suc (suc zero)) le lt = refl
+    between (suc (suc (suc t))) le lt = absurd (omega (arith, lt))
+
+    below : (u : ℕ) → u < 1 → is_unhanded (status_at some u) ≡ false
+    below zero lt = refl
+    below (suc u) lt = absurd (omega (arith, lt))
+
+-- it begins with the least one, has none that is out, and isn't longer than was asked
+not_the_second : IsNextRun some 2 2 3 → ⊥
+not_the_second run = absurd (let wrong : true ≡ false = run.least (omega arith) 1 (omega arith) in cc)
+
+none_that_is_out : IsNextRun some 9 1 4 → ⊥
+none_that_is_out run = absurd (let wrong : false ≡ true = run.unhanded 3 (omega arith) (omega arith) in cc)
+
+none_that_was_handed : IsNextRun some 9 0 3 → ⊥
+none_that_was_handed run = absurd (let wrong : false ≡ true = run.unhanded 0 (omega arith) (omega arith) in cc)
+
+not_longer : IsNextRun some 1 1 3 → ⊥
+not_longer run = let wrong = run.size in absurd (omega (arith, wrong))
+
+-- it is empty only where no task is left
+not_empty : IsNextRun some 2 1 1 → ⊥
+not_empty run = absurd (let wrong : true ≡ false = run.none refl 1 in cc)
+
+nothing_left : IsNextRun (Handed ∷ Out ∷ []) 2 2 2
+nothing_left = record {
+  order = omega arith;
+  size = omega arith;
+  unhanded = λ t le lt. absurd (omega (arith, le, lt));
+  least = λ lt. absurd (omega (arith, lt));
+  none = λ e. none_unhanded;
+}
+  where
+    none_unhanded : NoneUnhanded (Handed ∷ Out ∷ [])
+    none_unhanded zero = refl
+    none_unhanded (suc zero) = refl
+    none_unhanded (suc (suc t)) = refl

@@ -1,9 +1,11 @@
 pub mod Status
 pub mod Desk
+pub mod Runs
 pub mod Reached
 pub mod Bits
 pub mod Groups
 pub mod Unhanded
+pub mod Codes
 pub mod Counted
 pub mod Waiting
 pub mod Links

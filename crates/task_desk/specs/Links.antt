@@ -1,5 +1,5 @@
 -- The lists of tasks as they are kept. No public contract cites this.
-use Rattle.std.specs.Prelude.{◌≡◌, ℕ, ◌<◌, true, List, length, map}
+use Rattle.std.specs.Prelude.{◌≡◌, ℕ, ◌<◌, ◌≤◌, Bool, true, false, List, [], length, map}
 use Rattle.task_desk.specs.declared.wait_lists.WaitList.{WaitList}
 use Rattle.task_desk.specs.Waiting.{chain, has, list_at}
 
@@ -14,3 +14,9 @@ AreBelow ts n = (t : ℕ) → has ts t ≡ true → t < n
 pub record IsWithin (next : List ℕ) (lists : List WaitList) : Type 0 where
   pub links : length next ≡ length lists
   pub tasks : (g : ℕ) → AreBelow (list_at (map (list_of next) lists) g) (length next)
+
+-- beside them stands whether there may be one that isn't empty
+pub record AreKept (next : List ℕ) (lists : List WaitList) (has_waiting : Bool) : Type 0 where
+  pub within : IsWithin next lists
+  pub small : length lists ≤ 8192
+  pub none : has_waiting ≡ false → (g : ℕ) → list_at (map (list_of next) lists) g ≡ []

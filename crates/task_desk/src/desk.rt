@@ -1,10 +1,13 @@
-ghost use Rattle.std.specs.Prelude.{◌≡◌, ◌<◌, ◌≤◌, true, false, if◌then◌else◌, length, count_by, IfOk, IsSome, MatchOption};
+ghost use Rattle.std.specs.Prelude.{◌≡◌, ◌-◌, ◌<◌, ◌≤◌, true, false, if◌then◌else◌, length, count_by, IfOk, IsSome, MatchOption};
 ghost use Rattle.std.specs.List.{list_all};
 ghost use Rattle.task_desk.specs.Status.{is_ready, is_out, is_done, is_undone, status_at};
 ghost use Rattle.task_desk.specs.Desk.{new_desk, with_out, with_handed, can_park, with_parked, with_done, NoneReady, NoneUnhanded, IsNext, IsDesk};
+ghost use Rattle.task_desk.specs.declared.status.Status.TheVariants.{Out};
+ghost use Rattle.task_desk.specs.Runs.{with_run, with_run_done, IsNextRun};
 ghost use Rattle.task_desk.specs.Waiting.{with_ready};
 ghost use Rattle.task_desk.specs.Links.{AreBelow};
 
+use crate::run::Run;
 use crate::status::Status;
 use crate::statuses::Statuses;
 use crate::wait_lists::{WaitLists, Waiting};
@@ -41,6 +44,15 @@ fn wake(waiting: Waiting<'_>, statuses: &mut Statuses)
     for task in waiting {
         let was = statuses.at(task);
         statuses.set(task, was, Status::Ready);
+    }
+}
+
+/// Those of a run that are out are done, one after the other.
+fn done_each(desk: &mut Desk, run: Run)
+    ensures { desk.new ≡ with_run_done desk.old run.from (run.end - run.from) }
+{
+    for task in run.from..run.end {
+        desk.done(task);
     }
 }
 
@@ -105,6 +117,26 @@ impl Desk {
         wake(self.waits.on(task), &mut self.statuses);
         self.waits.clear(task);
         true
+    }
+
+    /// Takes a run out: the least ready task that wasn't handed since it became ready, and some right behind it that are so
+    /// too, at most so many. An empty one where there is none. Linear in the run.
+    pub fn take_run(&mut self, most: u32) -> Run
+        requires { 0 < most }
+        ensures run { IsNextRun self.old most result.from result.end }
+        ensures new { self.new ≡ with_run Out self.old result.from (result.end - result.from) }
+    {
+        self.statuses.take_run(most)
+    }
+
+    /// Those of a run that are out are done, as if each were told by itself in order. Linear in the run, and in the tasks that
+    /// become ready.
+    pub fn done_run(&mut self, run: Run)
+        ensures { self.new ≡ with_run_done self.old run.from (run.end - run.from) }
+    {
+        if self.waits.has_waiting() || !self.statuses.finish_run(run) {
+            done_each(self, run);
+        }
     }
 
     /// Hands the least ready task that wasn't handed since it became ready, which stays ready; none where there is none.

@@ -1,9 +1,11 @@
 //! The tasks that are ready and weren't handed since they became so.
-ghost use Rattle.std.specs.Prelude.{◌≡◌, ◌<◌, ◌≤◌, true, false, length, replicate, slice_set, IfOk, MatchOption};
+ghost use Rattle.std.specs.Prelude.{◌≡◌, ◌-◌, ◌<◌, ◌≤◌, true, false, length, replicate, slice_set, IfOk, MatchOption};
 ghost use Rattle.task_desk.specs.Bits.{IsLeast, IsEmpty};
 ghost use Rattle.task_desk.specs.Groups.{is_member};
-ghost use Rattle.task_desk.specs.Unhanded.{IsRunPut};
+ghost use Rattle.task_desk.specs.Runs.{with_run};
+ghost use Rattle.task_desk.specs.Unhanded.{IsRunPut, IsFirstRun};
 
+use crate::run::Run;
 use crate::task_set::TaskSet;
 use std::alloc::{AllocError, Global};
 use std::marker::Model;
@@ -86,6 +88,25 @@ impl Unhanded {
     {
         self.others.set(task, true);
         self.has_others = true;
+    }
+
+    /// The least of them leaves, and with it some right behind it, at most so many. None where there are none. Constant.
+    pub fn take_run(&mut self, most: u32) -> Run
+        requires { 0 < most }
+        ensures run { IsFirstRun self.old most result.from result.end }
+        ensures new { self.new ≡ with_run false self.old result.from (result.end - result.from) }
+    {
+        if let Some(task) = first_in(&self.others, self.has_others) {
+            self.others.set(task, false);
+            return Run {
+                from: task,
+                end: task + 1,
+            };
+        }
+        let from = self.fresh;
+        let end = from + most.min(self.count - from);
+        self.fresh = end;
+        Run { from, end }
     }
 
     /// Puts a task in or takes it out, told whether it was in: nothing is written where nothing changes.

@@ -8,32 +8,34 @@ use std::marker::Model;
 /// The first task of a list, and how many it has.
 #[derive(Clone, Copy, Debug, PartialEq, Eq)]
 struct WaitList {
-    first: u32,
-    count: u32,
+    first: u16,
+    count: u16,
 }
 
 /// A contract sees the lists.
 #[derive(Drop)]
 pub(crate) struct WaitLists {
     lists: Vec<WaitList>,
-    next: Vec<u32>,
+    next: Vec<u16>,
+    // false only where each is empty, which saves a look at them
+    has_waiting: bool,
 }
 
 impl Model for WaitLists {
     ghost use Rattle.std.specs.Prelude.{◌≡◌, List, ℕ, length, map};
-    ghost use Rattle.task_desk.specs.Links.{list_of, IsWithin};
+    ghost use Rattle.task_desk.specs.Links.{list_of, AreKept};
 
     ghost Value = { List (List ℕ) };
 
     ghost view = { λ w. map (list_of w.next.items) w.lists.items };
 
-    ghost invariant = { λ w. IsWithin w.next.items w.lists.items };
+    ghost invariant = { λ w. AreKept w.next.items w.lists.items w.has_waiting };
 }
 
 /// What is left of a list. A contract sees it.
 #[derive(Drop)]
 pub(crate) struct Waiting<'a> {
-    next: &'a [u32],
+    next: &'a [u16],
     first: u32,
     count: u32,
 }
@@ -64,7 +66,7 @@ impl<'a> Iterator for Waiting<'a> {
             return None;
         }
         let task = self.first;
-        self.first = self.next[task as usize];
+        self.first = u32::from(self.next[task as usize]);
         self.count -= 1;
         Some(task)
     }
@@ -77,7 +79,7 @@ fn empty_lists(alloc: Global, count: usize) -> Result<Vec<WaitList>, AllocError>
     vec![in alloc; list; count]
 }
 
-fn no_links(alloc: Global, count: usize) -> Result<Vec<u32>, AllocError>
+fn no_links(alloc: Global, count: usize) -> Result<Vec<u16>, AllocError>
     ensures { IfOk result (λ links. links.items ≡ replicate count 0) }
 {
     vec![in alloc; 0; count]
@@ -86,11 +88,23 @@ fn no_links(alloc: Global, count: usize) -> Result<Vec<u32>, AllocError>
 impl WaitLists {
     /// Empty lists of so many tasks.
     pub fn new(alloc: Global, count: usize) -> Result<WaitLists, AllocError>
+        requires { count ≤ 8192 }
         ensures { IfOk result (λ w. w ≡ replicate count []) }
     {
         let lists = empty_lists(alloc, count)?;
         let next = no_links(alloc, count)?;
-        Ok(WaitLists { lists, next })
+        Ok(WaitLists {
+            lists,
+            next,
+            has_waiting: false,
+        })
+    }
+
+    /// False only where each list is empty.
+    pub fn has_waiting(&self) -> bool
+        ensures { result ≡ false → (h : ℕ) → list_at self.now h ≡ [] }
+    {
+        self.has_waiting
     }
 
     /// Puts a task that is on no list in front of one.
@@ -103,8 +117,9 @@ impl WaitLists {
     {
         let list = &mut self.lists[h as usize];
         self.next[task as usize] = list.first;
-        list.first = task;
+        list.first = task as u16;
         list.count += 1;
+        self.has_waiting = true;
     }
 
     /// The tasks of a list.
@@ -112,11 +127,19 @@ impl WaitLists {
         requires { h < length self.now }
         ensures { result ≡ list_at self.now h }
     {
+        let next = self.next.as_slice();
+        if !self.has_waiting {
+            return Waiting {
+                next,
+                first: 0,
+                count: 0,
+            };
+        }
         let list = self.lists[h as usize];
         Waiting {
-            next: self.next.as_slice(),
-            first: list.first,
-            count: list.count,
+            next,
+            first: u32::from(list.first),
+            count: u32::from(list.count),
         }
     }
 
@@ -125,6 +148,8 @@ impl WaitLists {
         requires { h < length self.old }
         ensures { self.new ≡ slice_set self.old h [] }
     {
-        self.lists[h as usize].count = 0;
+        if self.has_waiting {
+            self.lists[h as usize].count = 0;
+        }
     }
 }

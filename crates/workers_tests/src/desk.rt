@@ -1,11 +1,13 @@
 //! Calls of a desk, one after the other, and what they answer.
 
 use std::alloc::AllocError;
-use task_desk::Desk;
+use task_desk::{Desk, Run};
 
 #[derive(Clone, Copy)]
 enum Call {
     Take,
+    TakeRun(u32),
+    DoneRun(u32, u32),
     Hand,
     Start(u32),
     Park(u32, u32),
@@ -17,13 +19,29 @@ enum Call {
 #[derive(Clone, Copy, PartialEq, Eq)]
 enum Answer {
     Task(Option<u32>),
+    Run(Option<(u32, u32)>),
+    Nothing,
     Is(bool),
     Count(u32),
+}
+
+// An empty run may stand anywhere.
+fn shown(run: Run) -> Option<(u32, u32)> {
+    if run.from < run.end {
+        Some((run.from, run.end))
+    } else {
+        None
+    }
 }
 
 fn answer_of(desk: &mut Desk, call: Call) -> Answer {
     match call {
         Call::Take => Answer::Task(desk.take()),
+        Call::TakeRun(most) => Answer::Run(shown(desk.take_run(most.max(1)))),
+        Call::DoneRun(from, end) => {
+            desk.done_run(Run { from, end });
+            Answer::Nothing
+        }
         Call::Hand => Answer::Task(desk.hand()),
         Call::Start(task) => Answer::Is(desk.start(task)),
         Call::Park(task, h) => Answer::Is(desk.park(task, h)),
@@ -151,9 +169,53 @@ fn tasks_that_are_started_out_of_turn(rt: HostRuntime) -> Result<(), AllocError>
     Ok(())
 }
 
-const NOTHING: [(Call, Answer); 7] = [
+fn running() -> &'static [(Call, Answer)] {
+    &RUNNING
+}
+
+// Runs of six tasks, of which one is parked and one is taken between others.
+static RUNNING: [(Call, Answer); 24] = [
+    (Call::TakeRun(2), Answer::Run(Some((0, 2)))),
+    (Call::Hand, Answer::Task(Some(2))),
+    (Call::TakeRun(9), Answer::Run(Some((3, 6)))),
+    (Call::TakeRun(1), Answer::Run(None)),
+    (Call::Out, Answer::Count(5)),
+    // one that was handed isn't out yet
+    (Call::DoneRun(2, 3), Answer::Nothing),
+    (Call::Start(2), Answer::Is(true)),
+    (Call::Park(3, 1), Answer::Is(true)),
+    (Call::DoneRun(0, 2), Answer::Nothing),
+    (Call::Out, Answer::Count(3)),
+    (Call::TakeRun(4), Answer::Run(Some((3, 4)))),
+    (Call::TakeRun(4), Answer::Run(None)),
+    // those of a run that wait for another one of it are ready behind it, and not done
+    (Call::Park(4, 2), Answer::Is(true)),
+    (Call::DoneRun(2, 6), Answer::Nothing),
+    (Call::AllDone, Answer::Is(false)),
+    (Call::Out, Answer::Count(0)),
+    (Call::TakeRun(4), Answer::Run(Some((4, 5)))),
+    // neither a run that ends before it begins, nor one beside the task
+    (Call::DoneRun(5, 4), Answer::Nothing),
+    (Call::DoneRun(5, 9), Answer::Nothing),
+    (Call::Out, Answer::Count(1)),
+    (Call::DoneRun(0, 9), Answer::Nothing),
+    (Call::AllDone, Answer::Is(true)),
+    (Call::Out, Answer::Count(0)),
+    (Call::TakeRun(4), Answer::Run(None)),
+];
+
+#[test]
+fn runs_of_tasks(rt: HostRuntime) -> Result<(), AllocError> {
+    let mut desk = Desk::new(rt.alloc(), 3)?;
+    assert!(rt; answered(&mut desk, running()) == running().len());
+    Ok(())
+}
+
+const NOTHING: [(Call, Answer); 9] = [
     (Call::AllDone, Answer::Is(true)),
     (Call::Take, Answer::Task(None)),
+    (Call::TakeRun(1), Answer::Run(None)),
+    (Call::DoneRun(0, 1), Answer::Nothing),
     (Call::Hand, Answer::Task(None)),
     (Call::Start(0), Answer::Is(false)),
     (Call::Park(1, 0), Answer::Is(false)),
@@ -164,7 +226,7 @@ const NOTHING: [(Call, Answer); 7] = [
 #[test]
 fn no_tasks(rt: HostRuntime) -> Result<(), AllocError> {
     let mut desk = Desk::new(rt.alloc(), 0)?;
-    assert!(rt; answered(&mut desk, &NOTHING) == 7);
+    assert!(rt; answered(&mut desk, &NOTHING) == 9);
     Ok(())
 }
 
@@ -176,6 +238,27 @@ fn worked_through(desk: &mut Desk, tasks: u32) -> u32 {
         }
     }
     tasks
+}
+
+// The same in runs, each longer than the one before; how many runs there were.
+fn worked_through_in_runs(desk: &mut Desk) -> u32 {
+    for count in 0..8192 {
+        let run = desk.take_run(count + 1);
+        if run.from == run.end {
+            return count;
+        }
+        desk.done_run(run);
+    }
+    8192
+}
+
+#[test]
+fn as_many_tasks_in_runs(rt: HostRuntime) -> Result<(), AllocError> {
+    let mut desk = Desk::new(rt.alloc(), 4096)?;
+    // 1 + 2 + .. + 127 are 8,128
+    assert!(rt; worked_through_in_runs(&mut desk) == 128);
+    assert!(rt; desk.all_done());
+    Ok(())
 }
 
 #[test]

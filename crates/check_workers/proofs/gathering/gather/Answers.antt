@@ -1,13 +1,15 @@
-use Rattle.std.proofs.Common.{arith, ◌∙◌, below_more}
-use Rattle.check_workers.proofs.Words.{stay_known}
+use Rattle.std.proofs.Common.{[], ◌∷◌, ◌++◌, sym, ◌∙◌, arith}
+use Rattle.std.proofs.lemmas.List.FromFn.{map-range_with_len_more}
+use Rattle.rules.specs.Fold.{flag}
 use Rattle.check_workers.proofs.gathering.gather.Goals as goal
 
-pub loop-task-preserved : goal.loop-task-preserved
-loop-task-preserved c =
-    let e = c.gather_one-gathered.ensures in
-    let i = c.loop-task.invariant in
+pub loop-i-preserved : goal.loop-i-preserved
+loop-i-preserved c =
+    let e = c.gather_both-flag.ensures in
+    let i = c.loop-i.invariant in
     record {
-      job = e.moves.job ∙ i.job;
+      job = e.job;
       few = omega (arith, i.few, e.count);
-      known = below_more _ _ (stay_known c.loop-task.task c.loop-task.seat.known c.gather_one-gathered.new.seat.known e.moves.stays i.known) e.known;
+      known = e.known;
+      flags = c.in_ok-push.ensures.items ∙ (λ t. i.flags t ++ e.flag t ∷ []) ∙ sym (map-range_with_len_more (flag c.args.job.now) 0 c.loop-i.i c.loop-i.i (omega arith));
     }

@@ -10,6 +10,7 @@ pub set-requires : goal.set-requires
 set-requires c = record {
   task = c.loop-task.invariant.below c.in-Some.task (ap (λ (ts : List ℕ). has ts c.in-Some.task) c.in-Some.ensures.steps ∙ has-first c.in-Some.task c.next.new.self);
   was = c.at-was.ensures;
+  code = tt;
 }
 
 pub loop-task-preserved : goal.loop-task-preserved

@@ -8,4 +8,4 @@ use Rattle.task_desk.proofs.statuses.Statuses.first_unhanded.Goals as goal
 pub returns : goal.returns
 returns c =
     subst (λ (tasks : List Status). MatchOption c.first.result (NoneUnhanded tasks) (λ t. IsNext tasks t)) c.self.view_is
-    (unhanded-found c.self.inside.list.items c.self.inside.unhanded c.first.result c.self.invariant.are_unhanded c.first.ensures)
+    (unhanded-found c.self.inside.list c.self.inside.unhanded c.first.result c.self.invariant.are_unhanded c.first.ensures)
