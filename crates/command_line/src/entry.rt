@@ -1,8 +1,9 @@
-use crate::command::{Asked, not_text};
 use crate::fault::Fault;
 use crate::files::Files;
+use crate::performing::perform;
 use crate::status::{ACCEPTED, USAGE};
 use clap::error::ErrorKind;
+use command_words::{Asked, not_text};
 use std::alloc::Global;
 use std::convert::AsStr;
 use std::io;
@@ -56,7 +57,7 @@ pub fn program<R: AllocGlobal + Threads + Wait + Sync, S: AsStr, F: Files, O: Wr
     err: &mut E,
 ) -> u8 {
     let ended = match Asked::from_words(rt.alloc(), words) {
-        Ok(asked) => asked.perform(rt, files, out),
+        Ok(asked) => perform(&asked, rt, files, out),
         Err(error) => tell(&error, out, err),
     };
     status_of(ended, err)

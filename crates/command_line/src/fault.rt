@@ -1,13 +1,17 @@
 ghost use Rattle.std.specs.Prelude.{◌≡◌, ◌↔◌};
 ghost use Rattle.channel.specs.declared.fault.ChannelFault.TheVariants as channel_fault;
+ghost use Rattle.answer_lines.specs.declared.line_fault.LineFault.TheVariants as line_fault;
 ghost use Rattle.command_line.specs.declared.fault.Fault.TheVariants.{Memory};
 ghost use Rattle.command_line.specs.declared.files.FileFault.TheVariants as file_fault;
+ghost use Rattle.command_words.specs.declared.word_fault.WordFault.TheVariants as word_fault;
 ghost use Rattle.drafts.specs.declared.fault.DraftFault.TheVariants as draft_fault;
 ghost use Rattle.key_book.specs.declared.fault.KeyBookFault.TheVariants as key_book_fault;
 
 use crate::files::FileFault;
 use crate::status::{FILE_FAULT, MEMORY, USAGE};
+use answer_lines::LineFault;
 use channel::ChannelFault;
+use command_words::WordFault;
 use commit::QueryFault;
 use drafts::DraftFault;
 use key_book::KeyBookFault;
@@ -125,6 +129,28 @@ impl From<AllocError> for Fault<'_> {
 
     fn from(_error: AllocError) -> Self {
         Fault::Memory
+    }
+}
+
+impl From<LineFault> for Fault<'_> {
+    ghost from_gives = { λ line fault. fault ≡ Memory ↔ line ≡ line_fault.Memory };
+
+    fn from(fault: LineFault) -> Self {
+        match fault {
+            LineFault::Output => Fault::Output,
+            LineFault::Memory => Fault::Memory,
+        }
+    }
+}
+
+impl From<WordFault> for Fault<'_> {
+    ghost from_gives = { λ word fault. fault ≡ Memory ↔ word ≡ word_fault.Memory };
+
+    fn from(fault: WordFault) -> Self {
+        match fault {
+            WordFault::NotAWord => Fault::Word,
+            WordFault::Memory => Fault::Memory,
+        }
     }
 }
 

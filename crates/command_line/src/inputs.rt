@@ -1,8 +1,8 @@
 //! What the files hold, each read and checked before the next.
 use crate::fault::Fault;
 use crate::files::Files;
-use crate::paths::{ConfigurationPaths, LedgerPaths};
 use channel::Channel;
+use command_words::{ConfigurationPaths, LedgerPaths};
 use key_book::KeyBook;
 use std::alloc::Global;
 use text_lines::text_of;

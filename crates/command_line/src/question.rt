@@ -1,10 +1,10 @@
 use crate::fault::Fault;
 use crate::files::Files;
 use crate::inputs::{Configuration, Inputs};
-use crate::lines::{Refusal, finish};
-use crate::paths::LedgerPaths;
-use crate::rows::write_height;
+use crate::lines::finish;
 use crate::status::{ACCEPTED, REFUSED};
+use answer_lines::{Refusal, write_height};
+use command_words::LedgerPaths;
 use commit::Ledger;
 use key_book::KeyBook;
 use std::alloc::Global;
@@ -39,6 +39,28 @@ pub(crate) fn hand_in<'a>(
     Ok(status)
 }
 
+fn write_lines<'a, Q: Question, W: Write>(
+    alloc: Global,
+    out: &mut W,
+    world: &World,
+    question: &Q,
+) -> Result<(), Fault<'a>> {
+    write_height(out, world.height())?;
+    question.write(alloc, out, world)
+}
+
+// The same through a buffer.
+fn write_through_buffer<'a, Q: Question, W: Write>(
+    alloc: Global,
+    out: &mut W,
+    world: &World,
+    question: &Q,
+) -> Result<(), Fault<'a>> {
+    let mut lines = BufWriter::new(alloc, out)?;
+    let ended = write_lines(alloc, &mut lines, world, question);
+    finish(lines, ended)
+}
+
 // A ledger behind its blocks, and what the process ends with, where nothing else befalls it.
 #[derive(Drop)]
 struct Committed {
@@ -61,16 +83,16 @@ impl Committed {
         let status = hand_in(&mut ledger, blocks, &keys)?;
         Ok(Committed { ledger, status })
     }
-}
 
-fn write_answer<'a, Q: Question, W: Write>(
-    alloc: Global,
-    out: &mut W,
-    world: &World,
-    question: &Q,
-) -> Result<(), Fault<'a>> {
-    write_height(out, world)?;
-    question.write(alloc, out, world)
+    fn write_answer<'a, Q: Question, W: Write>(
+        &self,
+        alloc: Global,
+        question: &Q,
+        out: &mut W,
+    ) -> Result<u8, Fault<'a>> {
+        write_through_buffer(alloc, out, self.ledger.view(), question)?;
+        Ok(self.status)
+    }
 }
 
 /// Reads the files, hands the blocks in, one by one, and writes what the ledger behind them answers.
@@ -82,9 +104,6 @@ pub(crate) fn answer<'a, F: Files, Q: Question, W: Write>(
     question: &Q,
     out: &mut W,
 ) -> Result<u8, Fault<'a>> {
-    let Committed { ledger, status } = Committed::read(alloc, files, paths)?;
-    let mut lines = BufWriter::new(alloc, out)?;
-    let ended = write_answer(alloc, &mut lines, ledger.view(), question);
-    finish(lines, ended)?;
-    Ok(status)
+    let committed = Committed::read(alloc, files, paths)?;
+    committed.write_answer(alloc, question, out)
 }

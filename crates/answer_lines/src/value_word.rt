@@ -1,5 +1,5 @@
 ghost use Rattle.std.specs.Prelude.{Some};
-ghost use Rattle.command_line.specs.Printed as spec;
+ghost use Rattle.answer_lines.specs.Printed as spec;
 
 use std::fmt;
 use text_lines::Word;

@@ -1,7 +1,7 @@
 ghost use Rattle.std.specs.Prelude.{◌≡◌, ◌<◌, ℕ, List, Some};
 ghost use Rattle.std.specs.List.{All};
 ghost use Rattle.text_lines.specs.Words.{word_bytes};
-ghost use Rattle.command_line.specs.Printed.{value_word_of};
+ghost use Rattle.answer_lines.specs.Printed.{value_word_of};
 
 use text_lines::printed_words_are_read_back;
 

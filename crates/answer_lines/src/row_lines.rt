@@ -1,27 +1,25 @@
 //! The lines in which the ledger's contents are told.
-use crate::fault::Fault;
+use crate::line_fault::LineFault;
 use crate::value_word::ValueWord;
 use rules::{HistoryEntry, Row};
 use std::alloc::Global;
 use std::io;
 use std::io::Write;
 use text_lines::Word;
-use world::World;
 
 /// Writes `height H`. Takes no memory.
-pub(crate) fn write_height<W: Write>(out: &mut W, world: &World) -> io::Result<()> {
-    let height = world.height();
+pub fn write_height<W: Write>(out: &mut W, height: u64) -> io::Result<()> {
     writeln!(out, "height {height}")
 }
 
 /// Writes `row KEY BLOCK TX VALUE POLICY`: words, numbers, and the canonical text of the key's own
 /// policy or `-`. The memory is that text, which is made before any of the line is written.
-pub(crate) fn write_row<'a, W: Write>(
+pub fn write_row<W: Write>(
     alloc: Global,
     out: &mut W,
     key: &[u8],
     row: &Row,
-) -> Result<(), Fault<'a>> {
+) -> Result<(), LineFault> {
     let (block, tx) = (row.version.block, row.version.tx);
     let (key, value) = (Word(key), Word(row.value.as_slice()));
     match &row.policy {
@@ -35,7 +33,7 @@ pub(crate) fn write_row<'a, W: Write>(
 }
 
 /// Writes `entry BLOCK TX ID VALUE`, or `deleted` in the value's place. Takes no memory.
-pub(crate) fn write_entry<W: Write>(out: &mut W, entry: &HistoryEntry) -> io::Result<()> {
+pub fn write_entry<W: Write>(out: &mut W, entry: &HistoryEntry) -> io::Result<()> {
     let (block, tx, id) = (entry.version.block, entry.version.tx, Word(&entry.id));
     match &entry.value {
         Some(value) => {

@@ -1,6 +1,6 @@
 //! What is asked of one key.
-use crate::fault::Fault;
 use crate::paths::LedgerPaths;
+use crate::word_fault::WordFault;
 use crate::words::{key_of, name_of};
 use clap::ArgMatches;
 use std::alloc::{AllocError, Global};
@@ -8,17 +8,17 @@ use values::{Key, Name};
 
 /// The words of who asks for a key: the paths, the namespace and the key.
 #[derive(Drop)]
-pub(crate) struct KeyedQuery<'a> {
-    pub(crate) paths: LedgerPaths<'a>,
+pub struct KeyedQuery<'a> {
+    pub paths: LedgerPaths<'a>,
     namespace: &'a str,
     key: &'a str,
 }
 
 /// The key that they name.
 #[derive(Drop)]
-pub(crate) struct Place {
-    pub(crate) namespace: Name,
-    pub(crate) key: Key,
+pub struct Place {
+    pub namespace: Name,
+    pub key: Key,
 }
 
 impl<'a> KeyedQuery<'a> {
@@ -37,7 +37,7 @@ impl<'a> KeyedQuery<'a> {
     }
 
     /// What the words name, the namespace looked at before the key.
-    pub(crate) fn place(&self, alloc: Global) -> Result<Place, Fault<'a>> {
+    pub fn place(&self, alloc: Global) -> Result<Place, WordFault> {
         let namespace = name_of(alloc, self.namespace)?;
         let key = key_of(alloc, self.key)?;
         Ok(Place { namespace, key })

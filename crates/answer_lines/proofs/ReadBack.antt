@@ -5,7 +5,7 @@ use Rattle.std.specs.Str.{bytes_eq}
 use Rattle.std.proofs.lemmas.Slice.Eq.{bytes_eq-Decides}
 use Rattle.text_lines.specs.Printed.{word_of}
 use Rattle.text_lines.specs.Words.{word_bytes}
-use Rattle.command_line.specs.Printed.{value_word_of}
+use Rattle.answer_lines.specs.Printed.{value_word_of}
 
 -- words are read back
 abbrev WordsAreReadBack : Type 0

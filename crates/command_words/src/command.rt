@@ -1,18 +1,14 @@
 use crate::draft::{DRAFT, Draft};
 use crate::explain::{EXPLAIN, Explain};
-use crate::fault::Fault;
-use crate::files::Files;
-use crate::get::{GET, Get};
-use crate::history::{HISTORY, History};
+use crate::get::GET;
+use crate::history::HISTORY;
+use crate::keyed::KeyedQuery;
 use crate::run::{RUN, Run};
 use crate::scan::{SCAN, Scan};
 use clap::error::ErrorKind;
 use clap::{ArgMatches, Command, Error};
 use std::alloc::{AllocError, Global};
 use std::convert::AsStr;
-use std::io::Write;
-use std::sync::Wait;
-use std::thread::Threads;
 
 const NAME: &str = "fabcommit";
 
@@ -33,12 +29,12 @@ Exit status:
 
 /// What the words ask for.
 #[derive(Drop)]
-pub(crate) enum Asked<'a> {
+pub enum Asked<'a> {
     Draft(Draft<'a>),
     Run(Run<'a>),
-    Get(Get<'a>),
+    Get(KeyedQuery<'a>),
     Scan(Scan<'a>),
-    History(History<'a>),
+    History(KeyedQuery<'a>),
     Explain(Explain<'a>),
 }
 
@@ -61,18 +57,34 @@ fn command<'a>(alloc: Global) -> Result<Command<'a>, AllocError> {
 }
 
 /// The mistake of words that aren't UTF-8.
-pub(crate) fn not_text(alloc: Global) -> Result<Error, AllocError> {
+pub fn not_text(alloc: Global) -> Result<Error, AllocError> {
     let text = "invalid UTF-8 was detected in one or more arguments";
     command(alloc)?.error(ErrorKind::ValueValidation, text)
 }
 
 impl<'a> Asked<'a> {
     /// What the words ask for, of which the first is the program's name; else why they are no
-    /// command, or the help that they ask for.
-    pub(crate) fn from_words<S: AsStr>(alloc: Global, words: &'a [S]) -> Result<Asked<'a>, Error> {
+    /// command, or the help that they ask for. The memory is linear in the words.
+    pub fn from_words<S: AsStr>(alloc: Global, words: &'a [S]) -> Result<Asked<'a>, Error> {
         let mut command = command(alloc)?;
+        Asked::of_command(alloc, &mut command, words)
+    }
+
+    fn of_command<S: AsStr>(
+        alloc: Global,
+        command: &mut Command<'a>,
+        words: &'a [S],
+    ) -> Result<Asked<'a>, Error> {
         let matches = command.try_get_matches_from_mut(words)?;
-        match Asked::from_matches(alloc, &matches)? {
+        Asked::of_matches(alloc, command, &matches)
+    }
+
+    fn of_matches(
+        alloc: Global,
+        command: &mut Command<'a>,
+        matches: &ArgMatches<'a>,
+    ) -> Result<Asked<'a>, Error> {
+        match Asked::from_matches(alloc, matches)? {
             Some(asked) => Ok(asked),
             // All else is required, or looked at by clap.
             None => {
@@ -92,30 +104,11 @@ impl<'a> Asked<'a> {
         Ok(match name {
             "draft" => Draft::from_matches(matches).map(Asked::Draft),
             "run" => Run::from_matches(alloc, matches)?.map(Asked::Run),
-            "get" => Get::from_matches(alloc, matches)?.map(Asked::Get),
+            "get" => KeyedQuery::from_matches(alloc, matches)?.map(Asked::Get),
             "scan" => Scan::from_matches(alloc, matches)?.map(Asked::Scan),
-            "history" => History::from_matches(alloc, matches)?.map(Asked::History),
+            "history" => KeyedQuery::from_matches(alloc, matches)?.map(Asked::History),
             "explain" => Explain::from_matches(alloc, matches)?.map(Asked::Explain),
             _ => None,
         })
-    }
-
-    /// Does what is asked for. Returns what the process ends with, unless a fault ends it before. `run`
-    /// alone has threads.
-    pub(crate) fn perform<R: AllocGlobal + Threads + Wait + Sync, F: Files, W: Write>(
-        &self,
-        rt: &R,
-        files: &F,
-        out: &mut W,
-    ) -> Result<u8, Fault<'a>> {
-        let alloc = rt.alloc();
-        match self {
-            Asked::Draft(draft) => draft.perform(alloc, files),
-            Asked::Run(run) => run.perform(rt, files, out),
-            Asked::Get(get) => get.perform(alloc, files, out),
-            Asked::Scan(scan) => scan.perform(alloc, files, out),
-            Asked::History(history) => history.perform(alloc, files, out),
-            Asked::Explain(explain) => explain.perform(alloc, files, out),
-        }
     }
 }

@@ -5,16 +5,16 @@ use std::alloc::{AllocError, Global};
 
 /// The paths of what each subcommand begins with.
 #[derive(Clone, Copy)]
-pub(crate) struct ConfigurationPaths<'a> {
-    pub(crate) channel: &'a str,
-    pub(crate) keys: &'a str,
+pub struct ConfigurationPaths<'a> {
+    pub channel: &'a str,
+    pub keys: &'a str,
 }
 
 /// The paths of what a ledger is made of, the blocks' in their order.
 #[derive(Drop)]
-pub(crate) struct LedgerPaths<'a> {
-    pub(crate) configuration: ConfigurationPaths<'a>,
-    pub(crate) blocks: Vec<&'a str>,
+pub struct LedgerPaths<'a> {
+    pub configuration: ConfigurationPaths<'a>,
+    pub blocks: Vec<&'a str>,
 }
 
 pub(crate) const CHANNEL: Argument = Argument {

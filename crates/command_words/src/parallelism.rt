@@ -32,9 +32,9 @@ pub(crate) const READERS: Argument = Argument {
 
 /// Numbers of threads within the bounds of a committer.
 #[derive(Drop)]
-pub(crate) struct Parallelism {
-    pub(crate) workers: usize,
-    pub(crate) readers: usize,
+pub struct Parallelism {
+    pub workers: usize,
+    pub readers: usize,
     ghost some_workers: { 1 ≤ workers },
     ghost few_workers: { workers ≤ 64 },
     ghost few_readers: { readers ≤ 32 },

@@ -1,10 +1,10 @@
 //! The words of reasons.
-use crate::fault::Fault;
-use commit::{Flag, Reason};
+use crate::line_fault::LineFault;
 use reasons::{
     EndorsementFault, FormFault, IdUse, KeyList, PhantomKey, PolicyOwner, PolicyTextFault,
-    QueriedRange, StaleRead,
+    QueriedRange, Reason, StaleRead,
 };
+use rules::Flag;
 use std::alloc::{AllocError, Global};
 use std::io;
 use std::io::Write;
@@ -264,13 +264,13 @@ fn policy_of(alloc: Global, reason: &Reason) -> Result<String, AllocError> {
 
 /// Writes `TX FLAG NAME` and the words of the reason, of a place of the block of this number. The memory is the text of
 /// the policy that it names, which is made before any of the line is written.
-pub(crate) fn write_reason<'a, W: Write>(
+pub fn write_reason<W: Write>(
     alloc: Global,
     out: &mut W,
     number: u64,
     place: usize,
     reason: &Reason,
-) -> Result<(), Fault<'a>> {
+) -> Result<(), LineFault> {
     let policy = policy_of(alloc, reason)?;
     let flag = reason.flag();
     let (code, name) = (flag.number(), name_of(flag));

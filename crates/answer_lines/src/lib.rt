@@ -1,0 +1,18 @@
+//! The lines in which the program `fabcommit` tells what a ledger holds and what came of a block: rows, entries of a history,
+//! accepted and refused blocks, and the reasons of flags.
+#![tactic(auto)]
+
+mod block_lines;
+mod laws;
+mod line_fault;
+mod reason_lines;
+mod refusal;
+mod row_lines;
+mod value_word;
+
+pub use block_lines::{write_accepted, write_block};
+pub use laws::printed_values_are_read_back;
+pub use line_fault::LineFault;
+pub use reason_lines::write_reason;
+pub use refusal::Refusal;
+pub use row_lines::{write_entry, write_height, write_row};

@@ -1,0 +1,31 @@
+use crate::draft::draft_block;
+use crate::explain::print_reasons;
+use crate::fault::Fault;
+use crate::files::Files;
+use crate::get::print_row;
+use crate::history::print_history;
+use crate::run::run_blocks;
+use crate::scan::print_rows;
+use command_words::Asked;
+use std::io::Write;
+use std::sync::Wait;
+use std::thread::Threads;
+
+/// Does what is asked for. Returns what the process ends with, unless a fault ends it before. `run`
+/// alone has threads.
+pub(crate) fn perform<'a, R: AllocGlobal + Threads + Wait + Sync, F: Files, W: Write>(
+    asked: &Asked<'a>,
+    rt: &R,
+    files: &F,
+    out: &mut W,
+) -> Result<u8, Fault<'a>> {
+    let alloc = rt.alloc();
+    match asked {
+        Asked::Draft(words) => draft_block(alloc, files, words),
+        Asked::Run(words) => run_blocks(rt, files, words, out),
+        Asked::Get(words) => print_row(alloc, files, words, out),
+        Asked::Scan(words) => print_rows(alloc, files, words, out),
+        Asked::History(words) => print_history(alloc, files, words, out),
+        Asked::Explain(words) => print_reasons(alloc, files, words, out),
+    }
+}

@@ -1,0 +1,46 @@
+//! The words of `run`.
+use crate::parallelism::{Parallelism, READERS, WORKERS};
+use crate::paths::{CHANNEL, KEYS, LedgerPaths, SOME_BLOCKS};
+use crate::subcommand::Subcommand;
+use clap::ArgMatches;
+use std::alloc::{AllocError, Global};
+
+pub(crate) static RUN: Subcommand = Subcommand {
+    name: "run",
+    about: "Hands blocks in, one after the other, and prints what is answered to each",
+    example: "\
+Example, with a worker for each of four processors and two readers:
+  fabcommit run --channel channel.txt --keys keys.txt --workers 4 --readers 2 block0.blk block1.blk
+
+  accepted NUMBER HASH FLAG ..  the header's hash, and a flag for each transaction: 0 is valid
+  refused PLACE FAULT           the file's place among the blocks, from 1; the next one is still tried
+  reader J height H             behind all blocks, what reader J then finds: the number of accepted ones
+
+  Workers share the transactions of a block among them: they check signatures, policies and reads side
+  by side, and take in the block behind it while it is committed. With as many workers as there are
+  processors blocks of many transactions are done soonest; for blocks of few one worker is enough. What is
+  printed of the blocks is the same for any number. Lines come for up to 16 blocks at a time.
+
+  Readers stand for the clients who query a peer while it commits. Each asks for the height, 1,000 times,
+  while the blocks are handed in, and waits for nobody.",
+    arguments: &[CHANNEL, KEYS, WORKERS, READERS, SOME_BLOCKS],
+};
+
+/// Blocks in, and a line for each out.
+#[derive(Drop)]
+pub struct Run<'a> {
+    pub paths: LedgerPaths<'a>,
+    pub parallelism: Parallelism,
+}
+
+impl<'a> Run<'a> {
+    pub(crate) fn from_matches(
+        alloc: Global,
+        matches: &ArgMatches<'a>,
+    ) -> Result<Option<Run<'a>>, AllocError> {
+        let Some(parallelism) = Parallelism::from_matches(matches) else {
+            return Ok(None);
+        };
+        Ok(LedgerPaths::from_matches(alloc, matches)?.map(|paths| Run { paths, parallelism }))
+    }
+}

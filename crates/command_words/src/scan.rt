@@ -1,0 +1,78 @@
+//! The words of `scan`.
+use crate::arguments::{Argument, Form, NAMESPACE, number_of};
+use crate::paths::{ANY_BLOCKS, CHANNEL, KEYS, LedgerPaths};
+use crate::subcommand::Subcommand;
+use clap::ArgMatches;
+use std::alloc::{AllocError, Global};
+
+pub(crate) static SCAN: Subcommand = Subcommand {
+    name: "scan",
+    about: "Hands blocks in and prints the rows of a namespace, in the order of their keys",
+    example: "\
+Example:
+  fabcommit scan --channel channel.txt --keys keys.txt --ns cc --start car --limit 10 block0.blk
+
+  height H                       how many blocks were accepted
+  row KEY BLOCK TX VALUE POLICY  the block and transaction that wrote it last; - is no own policy
+  more                           behind the rows, where the limit cut them: go on with --start KEY%00,
+                                 KEY being that of the last row",
+    arguments: &[CHANNEL, KEYS, NAMESPACE, START, END, LIMIT, ANY_BLOCKS],
+};
+
+const START: Argument = Argument {
+    name: "start",
+    value_name: "WORD",
+    help: "The key to begin with, as a word; % is before all keys",
+    form: Form::Default("%"),
+};
+
+const END: Argument = Argument {
+    name: "end",
+    value_name: "WORD",
+    help: "The key to end before, as a word; % is behind all keys",
+    form: Form::Default("%"),
+};
+
+const LIMIT: Argument = Argument {
+    name: "limit",
+    value_name: "N",
+    help: "The most rows that are printed, from 1 to 65535",
+    form: Form::Count {
+        default: "100",
+        least: 1,
+        most: u16::MAX,
+    },
+};
+
+/// Blocks in, and the rows of a namespace out.
+#[derive(Drop)]
+pub struct Scan<'a> {
+    pub paths: LedgerPaths<'a>,
+    pub namespace: &'a str,
+    pub start: &'a str,
+    pub end: &'a str,
+    pub limit: u16,
+}
+
+impl<'a> Scan<'a> {
+    pub(crate) fn from_matches(
+        alloc: Global,
+        matches: &ArgMatches<'a>,
+    ) -> Result<Option<Scan<'a>>, AllocError> {
+        let (Some(namespace), Some(start), Some(end), Some(limit)) = (
+            matches.get_str("ns"),
+            matches.get_str("start"),
+            matches.get_str("end"),
+            number_of(matches, "limit"),
+        ) else {
+            return Ok(None);
+        };
+        Ok(LedgerPaths::from_matches(alloc, matches)?.map(|paths| Scan {
+            paths,
+            namespace,
+            start,
+            end,
+            limit,
+        }))
+    }
+}

@@ -1,0 +1,43 @@
+//! What options say by words and names, which is looked at before any file.
+ghost use Rattle.std.specs.Prelude.{◌≡◌, Some, None, Err, false, IfOk};
+ghost use Rattle.values.specs.Name.{is_name};
+ghost use Rattle.text_lines.specs.Words.{word_bytes};
+ghost use Rattle.command_words.specs.declared.word_fault.WordFault.TheVariants.{NotAWord};
+
+use crate::word_fault::WordFault;
+use std::alloc::Global;
+use text_lines::read_word;
+use values::{Bytes, Key, Name, is_key, is_name};
+
+/// The bytes that a word spells. Linear in it, and takes its length in memory at most.
+pub fn bytes_of(alloc: Global, word: &str) -> Result<Bytes, WordFault>
+    ensures ok { IfOk result (λ bytes. word_bytes word.now ≡ Some bytes) }
+    ensures err { result ≡ Err NotAWord → word_bytes word.now ≡ None }
+{
+    match read_word(alloc, word.as_bytes())? {
+        Some(bytes) => Ok(bytes),
+        None => Err(WordFault::NotAWord),
+    }
+}
+
+/// The key that a word spells. As dear as `bytes_of`.
+pub fn key_of(alloc: Global, word: &str) -> Result<Key, WordFault>
+    ensures { IfOk result (λ key. word_bytes word.now ≡ Some key) }
+{
+    let bytes = bytes_of(alloc, word)?;
+    if !is_key(bytes.as_slice()) {
+        return Err(WordFault::NotAWord);
+    }
+    Ok(Key::from_slice(alloc, bytes.as_slice())?)
+}
+
+/// The name that an option gives. Linear in it, in time and memory.
+pub fn name_of(alloc: Global, text: &str) -> Result<Name, WordFault>
+    ensures ok { IfOk result (λ name. name ≡ text.now) }
+    ensures err { result ≡ Err NotAWord → is_name text.now ≡ false }
+{
+    if !is_name(text.as_bytes()) {
+        return Err(WordFault::NotAWord);
+    }
+    Ok(Name::from_slice(alloc, text.as_bytes())?)
+}
