@@ -1,20 +1,19 @@
 -- A list whose last item is changed.
-use Rattle.std.proofs.Common.{◌≡◌, List, [], ◌∷◌, ◌++◌, Option, Some, None, refl, ap, ◌∙◌}
+use Rattle.std.proofs.Common.{◌≡◌, ℕ, List, [], ◌∷◌, zero, suc, length, Bool, true, false, Option, Result, Ok, Err, ap, subst, arith, slice_index_or, slice_set}
 use Rattle.std.specs.Prelude.{option_map}
+use Rattle.std.specs.declared.alloc.AllocError.{AllocError}
 use Rattle.scripts.specs.Script.{with_last}
+use Rattle.scripts.specs.Taking.{Changes}
 
-mapped_twice : {A B C : Type 0} (f : A → B) (g : B → C) (o : Option A) → option_map g (option_map f o) ≡ option_map (λ x. g (f x)) o
-mapped_twice f g None = refl
-mapped_twice f g (Some x) = refl
+mapped : {A B : Type 0} (g : A → B) (r : Result Bool AllocError) (new : A) (wanted : Option A) → Changes r new wanted → Changes r (g new) (option_map g wanted)
+mapped g (Ok true) new wanted is = ap (option_map g) is
+mapped g (Ok false) new wanted is = ap (option_map g) is
+mapped g (Err e) new wanted is = tt
 
-at_end : {A : Type 0} (f : A → Option A) (front : List A) (x : A) → with_last f (front ++ x ∷ []) ≡ option_map (λ y. front ++ y ∷ []) (f x)
-at_end f [] x = refl
-at_end f (a ∷ []) x = mapped_twice (λ y. y ∷ []) (λ changed. a ∷ changed) (f x)
-at_end f (a ∷ b ∷ more) x =
-    ap (option_map (λ changed. a ∷ changed)) (at_end f (b ∷ more) x) ∙ mapped_twice (λ y. (b ∷ more) ++ y ∷ []) (λ changed. a ∷ changed) (f x)
-
-pub last_refused : {A : Type 0} (f : A → Option A) (items front : List A) (x : A) → items ≡ front ++ x ∷ [] → f x ≡ None → with_last f items ≡ None
-last_refused f items front x parts none = ap (with_last f) parts ∙ at_end f front x ∙ ap (option_map (λ y. front ++ y ∷ [])) none
-
-pub last_changed : {A : Type 0} (f : A → Option A) (items front : List A) (x y : A) → items ≡ front ++ x ∷ [] → f x ≡ Some y → with_last f items ≡ Some (front ++ y ∷ [])
-last_changed f items front x y parts some = ap (with_last f) parts ∙ at_end f front x ∙ ap (option_map (λ z. front ++ z ∷ [])) some
+pub last_set : {A : Type 0} (f : A → Option A) (items : List A) (k : ℕ) (x y : A) (r : Result Bool AllocError) → suc k ≡ length items → x ≡ slice_index_or items k x → Changes r y (f x) → Changes r (slice_set items k y) (with_last f items)
+last_set f [] k x y r count is made = absurd (omega (arith, count))
+last_set f (a ∷ []) zero x y r count is made = mapped (λ z. z ∷ []) r y (f a) (subst (λ z. Changes r y (f z)) is made)
+last_set f (a ∷ []) (suc k) x y r count is made = absurd (omega (arith, count))
+last_set f (a ∷ b ∷ more) zero x y r count is made = absurd (omega (arith, count))
+last_set f (a ∷ b ∷ more) (suc k) x y r count is made =
+    mapped (λ changed. a ∷ changed) r (slice_set (b ∷ more) k y) (with_last f (b ∷ more)) (last_set f (b ∷ more) k x y r (omega (arith, count)) is made)

@@ -8,3 +8,9 @@ abbrev pub Takes : Result Bool AllocError → SoFar → SoFar → Option SoFar �
 Takes (Ok true) before new wanted = wanted ≡ Some new
 Takes (Ok false) before new wanted = (wanted ≡ None) × (new.items ≡ before.items)
 Takes (Err e) before new wanted = Unit {0}
+
+-- the value was changed so, or it can't be; or memory ran out
+abbrev pub Changes : {A : Type 0} → Result Bool AllocError → A → Option A → Type 0
+Changes (Ok true) new wanted = wanted ≡ Some new
+Changes (Ok false) new wanted = wanted ≡ None
+Changes (Err e) new wanted = Unit {0}

@@ -1,9 +1,9 @@
 //! What a script says of one transaction.
-ghost use Rattle.std.specs.Prelude.{◌≡◌, [], IfOk, option_map};
-ghost use Rattle.scripts.specs.Limits.{max_list, with_one};
+ghost use Rattle.std.specs.Prelude.{◌≡◌, []};
 ghost use Rattle.scripts.specs.Script as spec;
+ghost use Rattle.scripts.specs.Taking.{Changes};
 
-use crate::namespace::{MAX_LIST, OwnedNsSet, with_one};
+use crate::namespace::{MAX_LIST, OwnedNsSet, add_one, push_one};
 use crate::saying::Entry;
 use std::alloc::{AllocError, Global};
 use std::marker::Model;
@@ -30,35 +30,14 @@ impl Model for Draft {
     ghost view = { λ d. record { line = d.line; creator = d.creator; nonce = d.nonce; chaincode = d.chaincode; namespaces = d.namespaces.items; endorsers = d.endorsers } };
 }
 
-fn with_namespace(
-    namespaces: Vec<OwnedNsSet>,
-    namespace: OwnedNsSet,
-) -> Result<Option<Vec<OwnedNsSet>>, AllocError>
-    ensures { IfOk result (λ longer. option_map (λ v. v.items) longer ≡ with_one max_list namespaces.items namespace) }
+// Adds a line to the last namespace, or answers no where it can't stand there.
+fn add_to_last(namespaces: &mut Vec<OwnedNsSet>, entry: Entry) -> Result<bool, AllocError>
+    ensures { Changes result namespaces.new.items (spec.with_last (spec.with_entry entry) namespaces.old.items) }
 {
-    if namespaces.len() >= MAX_LIST {
-        return Ok(None);
+    match namespaces.last_mut() {
+        Some(last) => last.add(entry),
+        None => Ok(false),
     }
-    let mut namespaces = namespaces;
-    namespaces.push(namespace)?;
-    Ok(Some(namespaces))
-}
-
-fn with_addition(
-    namespaces: Vec<OwnedNsSet>,
-    entry: Entry,
-) -> Result<Option<Vec<OwnedNsSet>>, AllocError>
-    ensures { IfOk result (λ changed. option_map (λ v. v.items) changed ≡ spec.with_last (spec.with_entry entry) namespaces.items) }
-{
-    let mut namespaces = namespaces;
-    let Some(last) = namespaces.pop() else {
-        return Ok(None);
-    };
-    let Some(changed) = last.with_entry(entry)? else {
-        return Ok(None);
-    };
-    namespaces.push(changed)?;
-    Ok(Some(namespaces))
 }
 
 impl Draft {
@@ -82,45 +61,25 @@ impl Draft {
         }
     }
 
-    // With one namespace more, which is open from then on, or none where there are the most.
-    pub(crate) fn with_namespace(
-        self,
-        alloc: Global,
-        name: Name,
-    ) -> Result<Option<Draft>, AllocError>
-        ensures { IfOk result (λ draft. draft ≡ spec.with_namespace name self) }
+    // Adds a namespace, which is open from then on, or answers no where there are the most.
+    pub(crate) fn add_namespace(&mut self, alloc: Global, name: Name) -> Result<bool, AllocError>
+        ensures { Changes result self.new (spec.with_namespace name self.old) }
     {
-        let mut draft = self;
-        let namespace = OwnedNsSet::new(alloc, name);
-        let Some(namespaces) = with_namespace(draft.namespaces, namespace)? else {
-            return Ok(None);
-        };
-        draft.namespaces = namespaces;
-        Ok(Some(draft))
+        push_one(&mut self.namespaces, MAX_LIST, OwnedNsSet::new(alloc, name))
     }
 
-    // With one line more in the last namespace, or none where it can't stand there.
-    pub(crate) fn with_addition(self, entry: Entry) -> Result<Option<Draft>, AllocError>
-        ensures { IfOk result (λ draft. draft ≡ spec.with_addition entry self) }
+    // Adds a line to the last namespace, or answers no where it can't stand there.
+    pub(crate) fn add_entry(&mut self, entry: Entry) -> Result<bool, AllocError>
+        ensures { Changes result self.new (spec.with_addition entry self.old) }
     {
-        let mut draft = self;
-        let Some(namespaces) = with_addition(draft.namespaces, entry)? else {
-            return Ok(None);
-        };
-        draft.namespaces = namespaces;
-        Ok(Some(draft))
+        add_to_last(&mut self.namespaces, entry)
     }
 
-    // With one endorser more, or none where there are the most.
-    pub(crate) fn with_endorser(self, endorser: OwnedIdentity) -> Result<Option<Draft>, AllocError>
-        ensures { IfOk result (λ draft. draft ≡ spec.with_endorser endorser self) }
+    // Adds an endorser, or answers no where there are the most.
+    pub(crate) fn add_endorser(&mut self, endorser: OwnedIdentity) -> Result<bool, AllocError>
+        ensures { Changes result self.new (spec.with_endorser endorser self.old) }
     {
-        let mut draft = self;
-        let Some(endorsers) = with_one(draft.endorsers, MAX_ENDORSEMENTS, endorser)? else {
-            return Ok(None);
-        };
-        draft.endorsers = endorsers;
-        Ok(Some(draft))
+        add_one(&mut self.endorsers, MAX_ENDORSEMENTS, endorser)
     }
 
     /// The number of its `tx` line.

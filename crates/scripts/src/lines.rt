@@ -1,5 +1,5 @@
 //! The forms of lines.
-ghost use Rattle.std.specs.Prelude.{◌≡◌, IfOk};
+ghost use Rattle.std.specs.Prelude.{◌≡◌, IfOk, option_map};
 ghost use Rattle.scripts.specs.Says as spec;
 
 use crate::keyed::{OwnedKeyVersion, OwnedPolicyWrite, OwnedRead, OwnedWrite};
@@ -24,8 +24,8 @@ fn read_version_or_absent(text: &[u8]) -> Option<Option<Version>>
     }
 }
 
-fn read_read(alloc: Global, text: &[u8]) -> Result<Option<OwnedRead>, AllocError>
-    ensures { IfOk result (λ read. read ≡ spec.read_of text.now) }
+fn read_read(alloc: Global, text: &[u8]) -> Result<Option<Entry>, AllocError>
+    ensures { IfOk result (λ entry. entry ≡ option_map Entry.Read (spec.read_of text.now)) }
 {
     let (key, version) = first_part(text);
     let Some(key) = read_key(alloc, key)? else {
@@ -34,7 +34,7 @@ fn read_read(alloc: Global, text: &[u8]) -> Result<Option<OwnedRead>, AllocError
     let Some(version) = read_version_or_absent(version) else {
         return Ok(None);
     };
-    Ok(Some(OwnedRead::new(key, version)))
+    Ok(Some(Entry::Read(OwnedRead::new(key, version))))
 }
 
 fn read_exhausted(part: &[u8]) -> Option<bool>
@@ -49,8 +49,8 @@ fn read_exhausted(part: &[u8]) -> Option<bool>
     }
 }
 
-fn read_range(alloc: Global, text: &[u8]) -> Result<Option<OwnedRange>, AllocError>
-    ensures { IfOk result (λ range. range ≡ spec.range_of text.now) }
+fn read_range(alloc: Global, text: &[u8]) -> Result<Option<Entry>, AllocError>
+    ensures { IfOk result (λ entry. entry ≡ option_map Entry.Range (spec.range_of text.now)) }
 {
     let (start, rest) = first_part(text);
     let (end, exhausted) = first_part(rest);
@@ -63,11 +63,11 @@ fn read_range(alloc: Global, text: &[u8]) -> Result<Option<OwnedRange>, AllocErr
     let Some(exhausted) = read_exhausted(exhausted) else {
         return Ok(None);
     };
-    Ok(Some(OwnedRange::new(alloc, start, end, exhausted)))
+    Ok(Some(Entry::Range(OwnedRange::new(alloc, start, end, exhausted))))
 }
 
-fn read_result(alloc: Global, text: &[u8]) -> Result<Option<OwnedKeyVersion>, AllocError>
-    ensures { IfOk result (λ found. found ≡ spec.result_of text.now) }
+fn read_result(alloc: Global, text: &[u8]) -> Result<Option<Entry>, AllocError>
+    ensures { IfOk result (λ entry. entry ≡ option_map Entry.Found (spec.result_of text.now)) }
 {
     let (key, version) = first_part(text);
     let Some(key) = read_key(alloc, key)? else {
@@ -76,11 +76,11 @@ fn read_result(alloc: Global, text: &[u8]) -> Result<Option<OwnedKeyVersion>, Al
     let Some(version) = read_version(version) else {
         return Ok(None);
     };
-    Ok(Some(OwnedKeyVersion::new(key, version)))
+    Ok(Some(Entry::Found(OwnedKeyVersion::new(key, version))))
 }
 
-fn read_write(alloc: Global, text: &[u8]) -> Result<Option<OwnedWrite>, AllocError>
-    ensures { IfOk result (λ write. write ≡ spec.write_of text.now) }
+fn read_write(alloc: Global, text: &[u8]) -> Result<Option<Entry>, AllocError>
+    ensures { IfOk result (λ entry. entry ≡ option_map Entry.Write (spec.write_of text.now)) }
 {
     let (key, value) = first_part(text);
     let Some(key) = read_key(alloc, key)? else {
@@ -89,20 +89,20 @@ fn read_write(alloc: Global, text: &[u8]) -> Result<Option<OwnedWrite>, AllocErr
     let Some(value) = read_bytes(alloc, MAX_VALUE, value)? else {
         return Ok(None);
     };
-    Ok(Some(OwnedWrite::new(key, Some(value))))
+    Ok(Some(Entry::Write(OwnedWrite::new(key, Some(value)))))
 }
 
-fn read_delete(alloc: Global, text: &[u8]) -> Result<Option<OwnedWrite>, AllocError>
-    ensures { IfOk result (λ write. write ≡ spec.delete_of text.now) }
+fn read_delete(alloc: Global, text: &[u8]) -> Result<Option<Entry>, AllocError>
+    ensures { IfOk result (λ entry. entry ≡ option_map Entry.Write (spec.delete_of text.now)) }
 {
     let Some(key) = read_key(alloc, text)? else {
         return Ok(None);
     };
-    Ok(Some(OwnedWrite::new(key, None)))
+    Ok(Some(Entry::Write(OwnedWrite::new(key, None))))
 }
 
-fn read_policy(alloc: Global, text: &[u8]) -> Result<Option<OwnedPolicyWrite>, AllocError>
-    ensures { IfOk result (λ write. write ≡ spec.policy_of text.now) }
+fn read_policy(alloc: Global, text: &[u8]) -> Result<Option<Entry>, AllocError>
+    ensures { IfOk result (λ entry. entry ≡ option_map Entry.Policy (spec.policy_of text.now)) }
 {
     let (key, policy) = first_part(text);
     let Some(key) = read_key(alloc, key)? else {
@@ -111,35 +111,35 @@ fn read_policy(alloc: Global, text: &[u8]) -> Result<Option<OwnedPolicyWrite>, A
     let Some(policy) = read_policy_text(alloc, policy)? else {
         return Ok(None);
     };
-    Ok(Some(OwnedPolicyWrite::new(key, Some(policy))))
+    Ok(Some(Entry::Policy(OwnedPolicyWrite::new(key, Some(policy)))))
 }
 
-fn read_no_policy(alloc: Global, text: &[u8]) -> Result<Option<OwnedPolicyWrite>, AllocError>
-    ensures { IfOk result (λ write. write ≡ spec.no_policy_of text.now) }
+fn read_no_policy(alloc: Global, text: &[u8]) -> Result<Option<Entry>, AllocError>
+    ensures { IfOk result (λ entry. entry ≡ option_map Entry.Policy (spec.no_policy_of text.now)) }
 {
     let Some(key) = read_key(alloc, text)? else {
         return Ok(None);
     };
-    Ok(Some(OwnedPolicyWrite::new(key, None)))
+    Ok(Some(Entry::Policy(OwnedPolicyWrite::new(key, None))))
 }
 
 fn read_entry(alloc: Global, word: &[u8], rest: &[u8]) -> Result<Option<Entry>, AllocError>
     ensures { IfOk result (λ entry. entry ≡ spec.entry_of word.now rest.now) }
 {
     if word == b"read".as_slice() {
-        Ok(read_read(alloc, rest)?.map(Entry::Read))
+        read_read(alloc, rest)
     } else if word == b"range".as_slice() {
-        Ok(read_range(alloc, rest)?.map(Entry::Range))
+        read_range(alloc, rest)
     } else if word == b"result".as_slice() {
-        Ok(read_result(alloc, rest)?.map(Entry::Found))
+        read_result(alloc, rest)
     } else if word == b"write".as_slice() {
-        Ok(read_write(alloc, rest)?.map(Entry::Write))
+        read_write(alloc, rest)
     } else if word == b"delete".as_slice() {
-        Ok(read_delete(alloc, rest)?.map(Entry::Write))
+        read_delete(alloc, rest)
     } else if word == b"policy".as_slice() {
-        Ok(read_policy(alloc, rest)?.map(Entry::Policy))
+        read_policy(alloc, rest)
     } else if word == b"nopolicy".as_slice() {
-        Ok(read_no_policy(alloc, rest)?.map(Entry::Policy))
+        read_no_policy(alloc, rest)
     } else {
         Ok(None)
     }

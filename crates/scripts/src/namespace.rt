@@ -1,8 +1,9 @@
 //! What a transaction read and wrote in one namespace, owned.
-ghost use Rattle.std.specs.Prelude.{◌≡◌, ℕ, List, [], IsTrue, IfOk, option_map};
+ghost use Rattle.std.specs.Prelude.{◌≡◌, ℕ, List, [], IsTrue, IfOk};
 ghost use Rattle.values.specs.Key.{is_bound};
-ghost use Rattle.scripts.specs.Limits.{max_list, with_one};
+ghost use Rattle.scripts.specs.Limits.{with_one};
 ghost use Rattle.scripts.specs.Script as spec;
+ghost use Rattle.scripts.specs.Taking.{Changes};
 
 use crate::keyed::{OwnedKeyVersion, OwnedPolicyWrite, OwnedRead, OwnedWrite};
 use crate::saying::Entry;
@@ -14,20 +15,34 @@ use values::{BoundRef, Bytes, Items, Name};
 /// The most items of a list.
 pub(crate) const MAX_LIST: usize = 65_535;
 
-// The items with one more, or none where they are that many already.
-pub(crate) fn with_one<T: Drop>(
-    items: Items<T>,
+// Adds an item, or answers no where they are that many already.
+pub(crate) fn add_one<T: Drop>(
+    items: &mut Items<T>,
     most: usize,
     item: T,
-) -> Result<Option<Items<T>>, AllocError>
-    ensures { IfOk result (λ longer. longer ≡ with_one most items item) }
+) -> Result<bool, AllocError>
+    ensures { Changes result items.new (with_one most items.old item) }
 {
     if items.len() >= most {
-        return Ok(None);
+        return Ok(false);
     }
-    let mut items = items;
     items.push(item)?;
-    Ok(Some(items))
+    Ok(true)
+}
+
+// The same of a vector.
+pub(crate) fn push_one<T: Drop>(
+    items: &mut Vec<T>,
+    most: usize,
+    item: T,
+) -> Result<bool, AllocError>
+    ensures { Changes result items.new.items (with_one most items.old.items item) }
+{
+    if items.len() >= most {
+        return Ok(false);
+    }
+    items.push(item)?;
+    Ok(true)
 }
 
 /// A range query with its raw results. A contract sees the range.
@@ -79,24 +94,10 @@ impl OwnedRange {
         }
     }
 
-    fn with_result(self, found: OwnedKeyVersion) -> Result<Option<OwnedRange>, AllocError>
-        ensures { IfOk result (λ longer. longer ≡ spec.with_result found self) }
+    fn add_result(&mut self, found: OwnedKeyVersion) -> Result<bool, AllocError>
+        ensures { Changes result self.new (spec.with_result found self.old) }
     {
-        let OwnedRange {
-            start,
-            end,
-            exhausted,
-            results,
-        } = self;
-        let Some(results) = with_one(results, MAX_LIST, found)? else {
-            return Ok(None);
-        };
-        Ok(Some(OwnedRange {
-            start,
-            end,
-            exhausted,
-            results,
-        }))
+        add_one(&mut self.results, MAX_LIST, found)
     }
 
     /// The same range, lent. Linear in its results, in time and memory.
@@ -112,36 +113,14 @@ impl OwnedRange {
     }
 }
 
-// The ranges with a result more in the last one, or none where there is none or it has the most.
-fn with_result(
-    ranges: Vec<OwnedRange>,
-    found: OwnedKeyVersion,
-) -> Result<Option<Vec<OwnedRange>>, AllocError>
-    ensures { IfOk result (λ changed. option_map (λ v. v.items) changed ≡ spec.with_last (spec.with_result found) ranges.items) }
+// Adds a result to the last range, or answers no where there is none or it has the most.
+fn add_result(ranges: &mut Vec<OwnedRange>, found: OwnedKeyVersion) -> Result<bool, AllocError>
+    ensures { Changes result ranges.new.items (spec.with_last (spec.with_result found) ranges.old.items) }
 {
-    let mut ranges = ranges;
-    let Some(last) = ranges.pop() else {
-        return Ok(None);
-    };
-    let Some(longer) = last.with_result(found)? else {
-        return Ok(None);
-    };
-    ranges.push(longer)?;
-    Ok(Some(ranges))
-}
-
-fn with_range(
-    ranges: Vec<OwnedRange>,
-    range: OwnedRange,
-) -> Result<Option<Vec<OwnedRange>>, AllocError>
-    ensures { IfOk result (λ longer. option_map (λ v. v.items) longer ≡ with_one max_list ranges.items range) }
-{
-    if ranges.len() >= MAX_LIST {
-        return Ok(None);
+    match ranges.last_mut() {
+        Some(last) => last.add_result(found),
+        None => Ok(false),
     }
-    let mut ranges = ranges;
-    ranges.push(range)?;
-    Ok(Some(ranges))
 }
 
 /// What a transaction read and wrote in one namespace. A contract sees all of it.
@@ -219,44 +198,17 @@ impl OwnedNsSet {
         }
     }
 
-    // The namespace with a line more, or none where no range is there for a result or a list has the most items.
-    pub(crate) fn with_entry(self, entry: Entry) -> Result<Option<OwnedNsSet>, AllocError>
-        ensures { IfOk result (λ changed. changed ≡ spec.with_entry entry self) }
+    // Adds a line, or answers no where no range is there for a result or a list has the most items.
+    pub(crate) fn add(&mut self, entry: Entry) -> Result<bool, AllocError>
+        ensures { Changes result self.new (spec.with_entry entry self.old) }
     {
-        let mut ns = self;
         match entry {
-            Entry::Read(read) => {
-                let Some(reads) = with_one(ns.reads, MAX_LIST, read)? else {
-                    return Ok(None);
-                };
-                ns.reads = reads;
-            }
-            Entry::Range(range) => {
-                let Some(ranges) = with_range(ns.ranges, range)? else {
-                    return Ok(None);
-                };
-                ns.ranges = ranges;
-            }
-            Entry::Found(found) => {
-                let Some(ranges) = with_result(ns.ranges, found)? else {
-                    return Ok(None);
-                };
-                ns.ranges = ranges;
-            }
-            Entry::Write(write) => {
-                let Some(writes) = with_one(ns.writes, MAX_LIST, write)? else {
-                    return Ok(None);
-                };
-                ns.writes = writes;
-            }
-            Entry::Policy(write) => {
-                let Some(writes) = with_one(ns.policy_writes, MAX_LIST, write)? else {
-                    return Ok(None);
-                };
-                ns.policy_writes = writes;
-            }
+            Entry::Read(read) => add_one(&mut self.reads, MAX_LIST, read),
+            Entry::Range(range) => push_one(&mut self.ranges, MAX_LIST, range),
+            Entry::Found(found) => add_result(&mut self.ranges, found),
+            Entry::Write(write) => add_one(&mut self.writes, MAX_LIST, write),
+            Entry::Policy(write) => add_one(&mut self.policy_writes, MAX_LIST, write),
         }
-        Ok(Some(ns))
     }
 
     /// The same namespace, lent. Linear in its entries and results, in time and memory.

@@ -1,6 +1,7 @@
 //! What a script says.
 ghost use Rattle.std.specs.Prelude.{◌≡◌, IfOk};
-ghost use Rattle.scripts.specs.Script.{script_of};
+ghost use Rattle.text_lines.specs.Lines.{statements};
+ghost use Rattle.scripts.specs.Script.{script_from, script_of};
 ghost use Rattle.scripts.specs.Within.{AreDrafted};
 
 use crate::draft::Draft;
@@ -27,23 +28,33 @@ pub struct Script {
     pub fault: Option<u64>,
 }
 
+// Takes in the lines up to the first faulty one, and answers its number; where no line is faulty, all lines.
+fn say_lines(
+    alloc: Global,
+    so_far: &mut SoFar,
+    text: &str,
+    keys: &KeyBook,
+) -> Result<Option<u64>, AllocError>
+    ensures { IfOk result (λ fault. record { items = so_far.new.items; fault = fault } ≡ script_from keys.now so_far.old (statements text.now)) }
+{
+    for statement in Statements::new(text) {
+        so_far.go_before(statement.bytes)?;
+        if !so_far.say(alloc, keys, statement.line, statement.bytes)? {
+            return Ok(Some(statement.line));
+        }
+    }
+    so_far.end_open()?;
+    Ok(None)
+}
+
 fn read_lines(alloc: Global, text: &str, keys: &KeyBook) -> Result<Script, AllocError>
     ensures { IfOk result (λ script. script ≡ script_of keys.now text.now) }
 {
     let mut so_far = SoFar::new(alloc);
-    for statement in Statements::new(text) {
-        so_far.go_before(statement.bytes)?;
-        if !so_far.say(alloc, keys, statement.line, statement.bytes)? {
-            return Ok(Script {
-                items: so_far.items,
-                fault: Some(statement.line),
-            });
-        }
-    }
-    so_far.end_open()?;
+    let fault = say_lines(alloc, &mut so_far, text, keys)?;
     Ok(Script {
         items: so_far.items,
-        fault: None,
+        fault,
     })
 }
 

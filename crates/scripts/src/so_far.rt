@@ -95,21 +95,19 @@ impl SoFar {
     fn add_namespace(&mut self, alloc: Global, name: Name) -> Result<bool, AllocError>
         ensures { Takes result self.old self.new (spec.in_open (spec.with_namespace name) self.old) }
     {
-        let Some(draft) = self.drafting.take() else {
-            return Ok(false);
-        };
-        self.drafting = draft.with_namespace(alloc, name)?;
-        Ok(self.drafting.is_some())
+        match &mut self.drafting {
+            Some(draft) => draft.add_namespace(alloc, name),
+            None => Ok(false),
+        }
     }
 
     fn add_entry(&mut self, entry: Entry) -> Result<bool, AllocError>
         ensures { Takes result self.old self.new (spec.in_open (spec.with_addition entry) self.old) }
     {
-        let Some(draft) = self.drafting.take() else {
-            return Ok(false);
-        };
-        self.drafting = draft.with_addition(entry)?;
-        Ok(self.drafting.is_some())
+        match &mut self.drafting {
+            Some(draft) => draft.add_entry(entry),
+            None => Ok(false),
+        }
     }
 
     fn add_endorser(&mut self, keys: &KeyBook, endorser: OwnedIdentity) -> Result<bool, AllocError>
@@ -118,11 +116,10 @@ impl SoFar {
         if !can_sign(keys, &endorser.lend()) {
             return Ok(false);
         }
-        let Some(draft) = self.drafting.take() else {
-            return Ok(false);
-        };
-        self.drafting = draft.with_endorser(endorser)?;
-        Ok(self.drafting.is_some())
+        match &mut self.drafting {
+            Some(draft) => draft.add_endorser(endorser),
+            None => Ok(false),
+        }
     }
 
     // Takes in what a line says. A faulty line leaves the items as they were.

@@ -2,7 +2,7 @@ use Rattle.std.proofs.Common.{ap, sym, ◌∙◌}
 use Rattle.text_lines.specs.Statements.{view_of}
 use Rattle.scripts.specs.Script.{script_from}
 use Rattle.scripts.proofs.Steps.{stops, goes}
-use Rattle.scripts.proofs.script.read_lines.Goals as goal
+use Rattle.scripts.proofs.script.say_lines.Goals as goal
 
 pub returns-then-not-branch : goal.returns-then-not-branch
 returns-then-not-branch c =
