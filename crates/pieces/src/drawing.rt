@@ -9,6 +9,14 @@ use std::sync::atomic::{AtomicUsize, Ordering};
 use std::thread;
 use std::thread::Threads;
 
+/// Pieces of one kind, what is made of them, and the first place that nobody has drawn.
+#[derive(Drop)]
+pub(crate) struct Kind<'a, P, W> {
+    pub(crate) pieces: &'a [P],
+    pub(crate) work: &'a W,
+    pub(crate) next: AtomicUsize,
+}
+
 /// What was made of the piece at a place.
 #[derive(Drop)]
 pub(crate) struct Made<X> {
@@ -33,21 +41,16 @@ fn make_one<P, X: Drop, W: Work<P, X>>(
 }
 
 /// Makes what is to be made of pieces for as long as there are places to draw.
-pub(crate) fn draw<P, X: Drop, W: Work<P, X>>(
-    alloc: Global,
-    pieces: &[P],
-    next: &AtomicUsize,
-    work: &W,
-) -> Drawn<X>
-    ensures { IfOk result (λ all. All (λ made. IsMade (W.gives work.now) pieces.now made.place made.item) all.items) }
+pub(crate) fn draw<P, X: Drop, W: Work<P, X>>(alloc: Global, kind: &Kind<'_, P, W>) -> Drawn<X>
+    ensures { IfOk result (λ all. All (λ made. IsMade (W.gives kind.now.work.now) kind.now.pieces.now made.place made.item) all.items) }
 {
     let mut all = Vec::new(alloc);
-    for _ in 0..pieces.len() {
-        let place = next.fetch_add(1, Ordering::SeqCst);
-        if place >= pieces.len() {
+    for _ in 0..kind.pieces.len() {
+        let place = kind.next.fetch_add(1, Ordering::SeqCst);
+        if place >= kind.pieces.len() {
             break;
         }
-        all.push(make_one(alloc, pieces, place, work)?)?;
+        all.push(make_one(alloc, kind.pieces, place, kind.work)?)?;
     }
     Ok(all)
 }
@@ -62,19 +65,16 @@ pub(crate) struct DrawnBoth<X, Y> {
 /// Makes what is to be made of the first kind for as long as there are places to draw, and then of the second.
 pub(crate) fn draw_both<P, X: Drop, W: Work<P, X>, Q, Y: Drop, V: Work<Q, Y>>(
     alloc: Global,
-    pieces: &[P],
-    next: &AtomicUsize,
-    work: &W,
-    others: &[Q],
-    next_other: &AtomicUsize,
-    other_work: &V,
+    first: &Kind<'_, P, W>,
+    second: &Kind<'_, Q, V>,
 ) -> DrawnBoth<X, Y>
-    ensures pieces { IfOk result.first (λ all. All (λ made. IsMade (W.gives work.now) pieces.now made.place made.item) all.items) }
-    ensures others { IfOk result.second (λ all. All (λ made. IsMade (V.gives other_work.now) others.now made.place made.item) all.items) }
+    ensures first { IfOk result.first (λ all. All (λ made. IsMade (W.gives first.now.work.now) first.now.pieces.now made.place made.item) all.items) }
+    ensures second { IfOk result.second (λ all. All (λ made. IsMade (V.gives second.now.work.now) second.now.pieces.now made.place made.item) all.items) }
 {
-    let first = draw(alloc, pieces, next, work);
-    let second = draw(alloc, others, next_other, other_work);
-    DrawnBoth { first, second }
+    DrawnBoth {
+        first: draw(alloc, first),
+        second: draw(alloc, second),
+    }
 }
 
 /// What each of so many workers draws.
@@ -89,24 +89,20 @@ pub(crate) fn draw_all<
 >(
     rt: &R,
     alloc: Global,
-    pieces: &[P],
-    next: &AtomicUsize,
-    work: &W,
-    others: &[Q],
-    next_other: &AtomicUsize,
-    other_work: &V,
+    first: &Kind<'_, P, W>,
+    second: &Kind<'_, Q, V>,
     workers: usize,
 ) -> Result<Vec<DrawnBoth<X, Y>>, AllocError>
-    ensures pieces { IfOk result (λ drawn. All (λ both. IfOk both.first (λ all. All (λ made. IsMade (W.gives work.now) pieces.now made.place made.item) all.items)) drawn.items) }
-    ensures others { IfOk result (λ drawn. All (λ both. IfOk both.second (λ all. All (λ made. IsMade (V.gives other_work.now) others.now made.place made.item) all.items)) drawn.items) }
+    ensures first { IfOk result (λ drawn. All (λ both. IfOk both.first (λ all. All (λ made. IsMade (W.gives first.now.work.now) first.now.pieces.now made.place made.item) all.items)) drawn.items) }
+    ensures second { IfOk result (λ drawn. All (λ both. IfOk both.second (λ all. All (λ made. IsMade (V.gives second.now.work.now) second.now.pieces.now made.place made.item) all.items)) drawn.items) }
 {
     thread::map_indices(
         rt,
         alloc,
         workers,
         &|_| -> DrawnBoth<X, Y>
-            ensures pieces { IfOk result.first (λ all. All (λ made. IsMade (W.gives work.entry.now) pieces.entry.now made.place made.item) all.items) }
-            ensures others { IfOk result.second (λ all. All (λ made. IsMade (V.gives other_work.entry.now) others.entry.now made.place made.item) all.items) }
-        { draw_both(alloc, pieces, next, work, others, next_other, other_work) },
+            ensures first { IfOk result.first (λ all. All (λ made. IsMade (W.gives first.entry.now.work.now) first.entry.now.pieces.now made.place made.item) all.items) }
+            ensures second { IfOk result.second (λ all. All (λ made. IsMade (V.gives second.entry.now.work.now) second.entry.now.pieces.now made.place made.item) all.items) }
+        { draw_both(alloc, first, second) },
     )
 }
