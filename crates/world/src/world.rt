@@ -139,12 +139,12 @@ impl World {
         ensures err { OnErr result (self.new ≡ self.old) }
     {
         // all that may want memory
-        let batch = batch_of(self.alloc, delta.changes.as_slice())?;
-        let entries = share_entries(self.alloc, delta.entries.as_slice())?;
-        let block = delta.block.share()?;
-        self.history.reserve(entries.len())?;
+        self.history.reserve(delta.entries.len())?;
         self.ids.reserve(delta.uses.len())?;
         self.blocks.reserve(1)?;
+        let block = delta.block.share()?;
+        let entries = share_entries(self.alloc, delta.entries.as_slice())?;
+        let batch = batch_of(self.alloc, delta.changes.as_slice())?;
         self.state.apply_owned(batch)?;
         // from here on nothing does
         add_entries(&mut self.history, entries);
