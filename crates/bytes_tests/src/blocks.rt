@@ -1,9 +1,10 @@
+use crate::joined::joined;
 use block::{Block, BlockFault, Header, Previous, decode_block, encode_block};
 use std::alloc::{AllocError, Global};
 use std::process::Abort;
 use std::test::Fail;
 use transaction::EncodeFault;
-use values::{Items, Slice};
+use values::{Bytes, Items, Slice};
 
 // SHA-256 of no bytes (FIPS 180-4).
 const NO_DATA: [u8; 32] = [
@@ -13,100 +14,119 @@ const NO_DATA: [u8; 32] = [
 
 // The empty block 0: magic, number, no previous hash, data hash, no transactions.
 fn empty_block(alloc: Global) -> Result<Vec<u8>, AllocError> {
-    let mut bytes = Vec::from_slice(alloc, b"FBK1\0\0\0\0\0\0\0\0\0")?;
-    bytes.extend_from_slice(&NO_DATA)?;
-    bytes.extend_from_slice(&[0, 0, 0, 0])?;
-    Ok(bytes)
+    with_count(alloc, &[0, 0, 0, 0])
 }
 
-// The empty block 0 with other bytes from its count on.
+// The empty block 0 with these bytes from its count on.
 fn with_count(alloc: Global, from_count: &[u8]) -> Result<Vec<u8>, AllocError> {
-    let mut bytes = empty_block(alloc)?;
-    bytes.truncate(45);
-    bytes.extend_from_slice(from_count)?;
-    Ok(bytes)
+    joined(alloc, &[b"FBK1\0\0\0\0\0\0\0\0\0", &NO_DATA, from_count])
 }
 
 fn fault_of(alloc: Global, bytes: &[u8]) -> Option<BlockFault> {
     decode_block(alloc, bytes).err()
 }
 
-fn is_written_again(alloc: Global, bytes: &[u8]) -> bool {
-    let Ok(block) = decode_block(alloc, bytes) else {
-        return false;
-    };
-    match encode_block(alloc, &block) {
+fn is_spelled(alloc: Global, block: &Block<'_>, bytes: &[u8]) -> bool {
+    match encode_block(alloc, block) {
         Ok(written) => written.as_slice() == bytes,
         Err(_) => false,
     }
 }
 
-#[test]
-fn the_empty_block_both_ways(rt: HostRuntime) -> Result<(), Fail> {
-    let bytes = empty_block(rt.alloc())?;
-    assert!(rt; bytes.len() == 49);
-    assert!(rt; is_written_again(rt.alloc(), &bytes));
-    let block = decode_block(rt.alloc(), &bytes)?;
+fn is_written_again(alloc: Global, bytes: &[u8]) -> bool {
+    match decode_block(alloc, bytes) {
+        Ok(block) => is_spelled(alloc, &block, bytes),
+        Err(_) => false,
+    }
+}
+
+// Whether the bytes say a block with this header and these transactions.
+fn says(alloc: Global, bytes: &[u8], header: &Header, txs: &[&[u8]]) -> bool {
+    match decode_block(alloc, bytes) {
+        Ok(block) => block.header == *header && are_txs(block.txs.as_slice(), txs),
+        Err(_) => false,
+    }
+}
+
+fn are_txs(read: &[Slice<'_>], txs: &[&[u8]]) -> bool {
+    for (tx, bytes) in read.iter().zip(txs) {
+        if tx.as_slice() != *bytes {
+            return false;
+        }
+    }
+    read.len() == txs.len()
+}
+
+fn expect_empty_block(rt: &impl Abort, alloc: Global, bytes: &[u8]) {
     let header = Header {
         number: 0,
         previous: Previous::Empty,
         data_hash: NO_DATA,
     };
-    assert!(rt; block.header == header);
-    assert!(rt; block.txs.is_empty());
+    assert!(rt; bytes.len() == 49);
+    assert!(rt; is_written_again(alloc, bytes));
+    assert!(rt; says(alloc, bytes, &header, &[]));
+}
+
+#[test]
+fn the_empty_block_both_ways(rt: HostRuntime) -> Result<(), Fail> {
+    let bytes = empty_block(rt.alloc())?;
+    expect_empty_block(&rt, rt.alloc(), &bytes);
     Ok(())
 }
 
 // Three transactions: two bytes, none, one.
 fn three(alloc: Global) -> Result<Vec<u8>, AllocError> {
-    let mut bytes = Vec::from_slice(alloc, b"FBK1\xff\xfe\xfd\xfc\xfb\xfa\xf9\xf8\x20")?;
-    bytes.extend_from_slice(&[7; 32])?;
-    bytes.extend_from_slice(&[9; 32])?;
-    bytes.extend_from_slice(b"\0\0\0\x03\0\0\0\x02ab\0\0\0\0\0\0\0\x01c")?;
-    Ok(bytes)
+    let parts: [&[u8]; 4] = [
+        b"FBK1\xff\xfe\xfd\xfc\xfb\xfa\xf9\xf8\x20",
+        &[7; 32],
+        &[9; 32],
+        b"\0\0\0\x03\0\0\0\x02ab\0\0\0\0\0\0\0\x01c",
+    ];
+    joined(alloc, &parts)
 }
 
-fn expect_three(rt: &impl Abort, block: &Block<'_>) {
+fn expect_three(rt: &impl Abort, alloc: Global, bytes: &[u8]) {
     let header = Header {
         number: 0xfffe_fdfc_fbfa_f9f8,
         previous: Previous::Hash([7; 32]),
         data_hash: [9; 32],
     };
-    assert!(rt; block.header == header);
-    match block.txs.as_slice() {
-        [first, second, third] => {
-            assert!(rt; first.as_slice() == b"ab".as_slice());
-            assert!(rt; second.is_empty());
-            assert!(rt; third.as_slice() == b"c".as_slice());
-        }
-        _ => assert!(rt; false),
-    }
+    assert!(rt; is_written_again(alloc, bytes));
+    assert!(rt; says(alloc, bytes, &header, &[b"ab", b"", b"c"]));
 }
 
 #[test]
 fn a_block_with_transactions_both_ways(rt: HostRuntime) -> Result<(), Fail> {
     let bytes = three(rt.alloc())?;
-    assert!(rt; is_written_again(rt.alloc(), &bytes));
-    let block = decode_block(rt.alloc(), &bytes)?;
-    expect_three(&rt, &block);
+    expect_three(&rt, rt.alloc(), &bytes);
     Ok(())
+}
+
+fn fault_when_cut(len: usize) -> BlockFault {
+    if len < 4 {
+        BlockFault::BadMagic
+    } else {
+        BlockFault::Truncated
+    }
+}
+
+fn expect_faults_when_cut(rt: &impl Abort, alloc: Global, bytes: &[u8]) {
+    assert!(rt; bytes.len() == 49);
+    for len in 0..49usize {
+        assert!(rt;
+            fault_of(alloc, &bytes[..len]) == Some(fault_when_cut(len)),
+            "{len}"
+        );
+    }
 }
 
 #[test]
 fn cut_and_lengthened(rt: HostRuntime) -> Result<(), Fail> {
-    let alloc = rt.alloc();
-    let mut bytes = empty_block(alloc)?;
-    assert!(rt; bytes.len() == 49);
-    for len in 0..49usize {
-        let want = if len < 4 {
-            BlockFault::BadMagic
-        } else {
-            BlockFault::Truncated
-        };
-        assert!(rt; fault_of(alloc, &bytes[..len]) == Some(want), "{len}");
-    }
+    let mut bytes = empty_block(rt.alloc())?;
+    expect_faults_when_cut(&rt, rt.alloc(), &bytes);
     bytes.push(0)?;
-    assert!(rt; fault_of(alloc, &bytes) == Some(BlockFault::TrailingBytes));
+    assert!(rt; fault_of(rt.alloc(), &bytes) == Some(BlockFault::TrailingBytes));
     Ok(())
 }
 
@@ -123,6 +143,11 @@ fn the_first_fault_of_a_header(rt: HostRuntime) -> Result<(), Fail> {
     Ok(())
 }
 
+fn fault_from_count(alloc: Global, from_count: &[u8]) -> Result<Option<BlockFault>, AllocError> {
+    let bytes = with_count(alloc, from_count)?;
+    Ok(fault_of(alloc, &bytes))
+}
+
 #[test]
 fn the_first_fault_of_the_transactions(rt: HostRuntime) -> Result<(), Fail> {
     let rows: [(&[u8], BlockFault); 9] = [
@@ -137,28 +162,36 @@ fn the_first_fault_of_the_transactions(rt: HostRuntime) -> Result<(), Fail> {
         (b"\0\0\0\x01\0\0\0\x01ab", BlockFault::TrailingBytes),
     ];
     for (from_count, want) in &rows {
-        let bytes = with_count(rt.alloc(), from_count)?;
-        assert!(rt;
-            fault_of(rt.alloc(), &bytes) == Some(*want),
-            "{from_count:?}"
-        );
+        let fault = fault_from_count(rt.alloc(), from_count)?;
+        assert!(rt; fault == Some(*want), "{from_count:?}");
     }
     Ok(())
 }
 
-// A block of transactions without bytes, and one more behind them.
-fn block_of<'a>(alloc: Global, empty: usize, last: &'a [u8]) -> Result<Block<'a>, AllocError> {
+// Transactions without bytes, and one more behind them.
+fn txs_of<'a>(alloc: Global, empty: usize, last: &'a [u8]) -> Result<Items<Slice<'a>>, AllocError> {
     let mut txs = Items::new(alloc);
     for _ in 0..empty {
         txs.push(Slice::new(&[]))?;
     }
     txs.push(Slice::new(last))?;
-    let header = Header {
-        number: 1,
-        previous: Previous::Hash([1; 32]),
-        data_hash: [2; 32],
-    };
-    Ok(Block { header, txs })
+    Ok(txs)
+}
+
+fn block_of(txs: Items<Slice<'_>>) -> Block<'_> {
+    Block {
+        header: Header {
+            number: 1,
+            previous: Previous::Hash([1; 32]),
+            data_hash: [2; 32],
+        },
+        txs,
+    }
+}
+
+fn encoded(alloc: Global, empty: usize, last: &[u8]) -> Result<Bytes, EncodeFault> {
+    let block = block_of(txs_of(alloc, empty, last)?);
+    encode_block(alloc, &block)
 }
 
 fn tx_count(alloc: Global, bytes: &[u8]) -> Option<usize> {
@@ -171,23 +204,16 @@ fn tx_count(alloc: Global, bytes: &[u8]) -> Option<usize> {
 #[test]
 fn at_the_limits(rt: HostRuntime) -> Result<(), Fail> {
     let zeros = vec![in rt.alloc(); 0; 1_048_576]?;
-    let full = block_of(rt.alloc(), 4095, &zeros)?;
-    match encode_block(rt.alloc(), &full) {
-        Ok(bytes) => {
-            assert!(rt; bytes.len() == 81 + 4 * 4096 + 1_048_576);
-            assert!(rt; tx_count(rt.alloc(), bytes.as_slice()) == Some(4096));
-        }
-        Err(_) => assert!(rt; false),
-    }
+    let bytes = encoded(rt.alloc(), 4095, &zeros)?;
+    assert!(rt; bytes.len() == 81 + 4 * 4096 + 1_048_576);
+    assert!(rt; tx_count(rt.alloc(), bytes.as_slice()) == Some(4096));
     Ok(())
 }
 
 #[test]
 fn one_past_the_limits(rt: HostRuntime) -> Result<(), Fail> {
     let zeros = vec![in rt.alloc(); 0; 1_048_577]?;
-    for (empty, last) in [(4096, &[] as &[u8]), (0, zeros.as_slice())] {
-        let over = block_of(rt.alloc(), empty, last)?;
-        assert!(rt; encode_block(rt.alloc(), &over).err() == Some(EncodeFault::TooLarge));
-    }
+    assert!(rt; encoded(rt.alloc(), 4096, &[]).err() == Some(EncodeFault::TooLarge));
+    assert!(rt; encoded(rt.alloc(), 0, &zeros).err() == Some(EncodeFault::TooLarge));
     Ok(())
 }

@@ -50,12 +50,15 @@ fn data_hash(txs: &[&[u8]]) -> [u8; 32] {
 
 #[test]
 fn data_hashes(rt: HostRuntime) {
-    assert!(rt; data_hash(&[]) == NOTHING);
-    assert!(rt; data_hash(&[b""]) == NOTHING);
-    assert!(rt; data_hash(&[b"abc"]) == ABC);
-    assert!(rt; data_hash(&[b"a", b"bc"]) == ABC);
-    assert!(rt; data_hash(&[b"a", b"b", b"c"]) == ABC);
-    assert!(rt; data_hash(&[b"", b"ab", b"", b"c"]) == ABC);
+    let nothing: [&[&[u8]]; 2] = [&[], &[b""]];
+    assert!(rt; nothing.map(data_hash) == [NOTHING; 2]);
+    let abc: [&[&[u8]]; 4] = [
+        &[b"abc"],
+        &[b"a", b"bc"],
+        &[b"a", b"b", b"c"],
+        &[b"", b"ab", b"", b"c"],
+    ];
+    assert!(rt; abc.map(data_hash) == [ABC; 4]);
 }
 
 #[test]

@@ -6,6 +6,8 @@ mod blocks;
 #[cfg(test)]
 mod header_hashes;
 #[cfg(test)]
+mod joined;
+#[cfg(test)]
 mod told;
 #[cfg(test)]
 mod transactions;

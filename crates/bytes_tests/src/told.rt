@@ -1,4 +1,6 @@
 use block::BlockFault;
+use std::alloc::{AllocError, Global};
+use std::fmt::Display;
 use std::test::Fail;
 use transaction::{EncodeFault, TxFault};
 
@@ -28,11 +30,15 @@ static OF_BLOCKS: [(BlockFault, &str); 7] = [
     (BlockFault::Memory, "out of memory"),
 ];
 
+fn is_told(alloc: Global, fault: &impl Display, text: &str) -> Result<bool, AllocError> {
+    let told = format!(in alloc; "{fault}")?;
+    Ok(told.as_str() == text)
+}
+
 #[test]
 fn each_fault_of_a_block_is_told(rt: HostRuntime) -> Result<(), Fail> {
     for &(fault, text) in of_blocks() {
-        let told = format!(in rt.alloc(); "{fault}")?;
-        assert!(rt; told.as_str() == text);
+        assert!(rt; is_told(rt.alloc(), &fault, text)?);
     }
     Ok(())
 }
@@ -43,8 +49,7 @@ fn each_fault_of_a_transaction_is_told(rt: HostRuntime) -> Result<(), Fail> {
         (TxFault::Form, "the bytes have another form"),
         (TxFault::Memory, "out of memory"),
     ] {
-        let told = format!(in rt.alloc(); "{fault}")?;
-        assert!(rt; told.as_str() == text);
+        assert!(rt; is_told(rt.alloc(), &fault, text)?);
     }
     Ok(())
 }
@@ -55,8 +60,7 @@ fn each_fault_of_a_value_is_told(rt: HostRuntime) -> Result<(), Fail> {
         (EncodeFault::TooLarge, "too large to be spelled"),
         (EncodeFault::Memory, "out of memory"),
     ] {
-        let told = format!(in rt.alloc(); "{fault}")?;
-        assert!(rt; told.as_str() == text);
+        assert!(rt; is_told(rt.alloc(), &fault, text)?);
     }
     Ok(())
 }

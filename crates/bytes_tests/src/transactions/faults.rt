@@ -1,21 +1,39 @@
 //! What the bytes of a transaction can't be.
 
 use super::{example, fault_of};
+use crate::joined::joined;
 use std::alloc::{AllocError, Global};
 use std::test::Fail;
 use transaction::TxFault;
 
+fn fault_when_cut(alloc: Global, len: usize) -> Result<Option<TxFault>, AllocError> {
+    let mut bytes = example(alloc)?;
+    bytes.truncate(len);
+    Ok(fault_of(alloc, &bytes))
+}
+
+fn fault_when_lengthened(alloc: Global) -> Result<Option<TxFault>, AllocError> {
+    let mut bytes = example(alloc)?;
+    bytes.push(0)?;
+    Ok(fault_of(alloc, &bytes))
+}
+
+// The fault of the example with another byte at this place.
+fn fault_when_spoilt(alloc: Global, place: usize, byte: u8) -> Result<Option<TxFault>, AllocError> {
+    let mut bytes = example(alloc)?;
+    if place < bytes.len() {
+        bytes[place] = byte;
+    }
+    Ok(fault_of(alloc, &bytes))
+}
+
 #[test]
 fn cut_lengthened_and_spoilt(rt: HostRuntime) -> Result<(), Fail> {
-    let alloc = rt.alloc();
     for len in 0..200usize {
-        let mut bytes = example(alloc)?;
-        bytes.truncate(len);
-        assert!(rt; fault_of(alloc, &bytes) == Some(TxFault::Form), "{len}");
+        let fault = fault_when_cut(rt.alloc(), len)?;
+        assert!(rt; fault == Some(TxFault::Form), "{len}");
     }
-    let mut longer = example(alloc)?;
-    longer.push(0)?;
-    assert!(rt; fault_of(alloc, &longer) == Some(TxFault::Form));
+    assert!(rt; fault_when_lengthened(rt.alloc())? == Some(TxFault::Form));
     // The creator's role, a key's length, the flags of a version and a value, a value's length.
     let spoilt = [
         (72usize, 4u8),
@@ -26,19 +44,25 @@ fn cut_lengthened_and_spoilt(rt: HostRuntime) -> Result<(), Fail> {
         (122, 65),
     ];
     for (place, byte) in spoilt {
-        let mut bytes = example(alloc)?;
-        if place < bytes.len() {
-            bytes[place] = byte;
-        }
-        assert!(rt;
-            fault_of(alloc, &bytes) == Some(TxFault::Form),
-            "{byte} at {place}"
-        );
+        let fault = fault_when_spoilt(rt.alloc(), place, byte)?;
+        assert!(rt; fault == Some(TxFault::Form), "{byte} at {place}");
     }
     Ok(())
 }
 
-// The example with a field in place of its bytes from one place to before another.
+// The bytes with a field in place of those from one place to before another.
+fn with_field(
+    alloc: Global,
+    bytes: &[u8],
+    from: usize,
+    to: usize,
+    field: &[u8],
+) -> Result<Vec<u8>, AllocError> {
+    let head = bytes.get(..from).unwrap_or_default();
+    let tail = bytes.get(to..).unwrap_or_default();
+    joined(alloc, &[head, field, tail])
+}
+
 fn example_with(
     alloc: Global,
     from: usize,
@@ -46,43 +70,73 @@ fn example_with(
     field: &[u8],
 ) -> Result<Vec<u8>, AllocError> {
     let whole = example(alloc)?;
-    let mut bytes = Vec::new(alloc);
-    bytes.extend(whole.iter().copied().take(from))?;
-    bytes.extend_from_slice(field)?;
-    bytes.extend(whole.iter().copied().skip(to))?;
-    Ok(bytes)
+    with_field(alloc, &whole, from, to, field)
+}
+
+fn fault_with(
+    alloc: Global,
+    from: usize,
+    to: usize,
+    field: &[u8],
+) -> Result<Option<TxFault>, AllocError> {
+    let bytes = example_with(alloc, from, to, field)?;
+    Ok(fault_of(alloc, &bytes))
 }
 
 // So many letters behind their number, in two bytes.
 fn counted_letters(alloc: Global, len: u16) -> Result<Vec<u8>, AllocError> {
-    let mut bytes = Vec::from_slice(alloc, &len.to_be_bytes())?;
-    bytes.extend_from_slice(&vec![in alloc; b'k'; len as usize]?)?;
-    Ok(bytes)
+    let letters = vec![in alloc; b'k'; len as usize]?;
+    joined(alloc, &[&len.to_be_bytes(), &letters])
 }
 
 fn fault_unless(good: bool) -> Option<TxFault> {
     if good { None } else { Some(TxFault::Form) }
 }
 
+fn fault_with_key(
+    alloc: Global,
+    from: usize,
+    to: usize,
+    len: u16,
+) -> Result<Option<TxFault>, AllocError> {
+    let key = counted_letters(alloc, len)?;
+    fault_with(alloc, from, to, &key)
+}
+
 #[test]
 fn keys_at_their_limits(rt: HostRuntime) -> Result<(), Fail> {
-    let alloc = rt.alloc();
     // The key of the read, then that of the write.
     for (from, to) in [(89usize, 93usize), (110, 114)] {
         for (len, good) in [(0u16, false), (1, true), (1_024, true), (1_025, false)] {
-            let bytes = example_with(alloc, from, to, &counted_letters(alloc, len)?)?;
-            assert!(rt;
-                fault_of(alloc, &bytes) == fault_unless(good),
-                "{len} at {from}"
-            );
+            let fault = fault_with_key(rt.alloc(), from, to, len)?;
+            assert!(rt; fault == fault_unless(good), "{len} at {from}");
         }
     }
     Ok(())
 }
 
+// One range in place of none.
+fn fault_with_bounds(
+    alloc: Global,
+    start: &[u8],
+    end: &[u8],
+) -> Result<Option<TxFault>, AllocError> {
+    let ranges = joined(alloc, &[b"\0\x01", start, end, b"\x01\0\0"])?;
+    fault_with(alloc, 106, 108, &ranges)
+}
+
+fn fault_with_bounds_of(
+    alloc: Global,
+    start: u16,
+    end: u16,
+) -> Result<Option<TxFault>, AllocError> {
+    let start = counted_letters(alloc, start)?;
+    let end = counted_letters(alloc, end)?;
+    fault_with_bounds(alloc, &start, &end)
+}
+
 #[test]
 fn bounds_at_their_limits(rt: HostRuntime) -> Result<(), Fail> {
-    let alloc = rt.alloc();
     let rows = [
         (0u16, 0u16, true),
         (1_024, 0, true),
@@ -91,63 +145,60 @@ fn bounds_at_their_limits(rt: HostRuntime) -> Result<(), Fail> {
         (0, 1_025, false),
     ];
     for (start, end, good) in rows {
-        // One range in place of none.
-        let mut ranges = Vec::from_slice(alloc, b"\0\x01")?;
-        ranges.extend_from_slice(&counted_letters(alloc, start)?)?;
-        ranges.extend_from_slice(&counted_letters(alloc, end)?)?;
-        ranges.extend_from_slice(b"\x01\0\0")?;
-        let bytes = example_with(alloc, 106, 108, &ranges)?;
-        assert!(rt;
-            fault_of(alloc, &bytes) == fault_unless(good),
-            "{start} and {end}"
-        );
+        let fault = fault_with_bounds_of(rt.alloc(), start, end)?;
+        assert!(rt; fault == fault_unless(good), "{start} and {end}");
     }
     Ok(())
 }
 
+fn fault_with_name(
+    alloc: Global,
+    from: usize,
+    to: usize,
+    len: u8,
+) -> Result<Option<TxFault>, AllocError> {
+    let letters = vec![in alloc; b'a'; len as usize]?;
+    let name = joined(alloc, &[&[len], &letters])?;
+    fault_with(alloc, from, to, &name)
+}
+
 #[test]
 fn names_of_other_forms(rt: HostRuntime) -> Result<(), Fail> {
-    let alloc = rt.alloc();
     // The channel, the chaincode, the namespace.
     for (from, to) in [(0usize, 3usize), (79, 82), (84, 87)] {
         for (len, good) in [(64u8, true), (65, false)] {
-            let mut name = vec![in alloc; b'a'; len as usize]?;
-            name.insert(0, len)?;
-            let bytes = example_with(alloc, from, to, &name)?;
-            assert!(rt;
-                fault_of(alloc, &bytes) == fault_unless(good),
-                "{len} at {from}"
-            );
+            let fault = fault_with_name(rt.alloc(), from, to, len)?;
+            assert!(rt; fault == fault_unless(good), "{len} at {from}");
         }
-        let spaced = example_with(alloc, from, to, b"\x03a b")?;
-        assert!(rt; fault_of(alloc, &spaced) == Some(TxFault::Form), "{from}");
+        let spaced = fault_with(rt.alloc(), from, to, b"\x03a b")?;
+        assert!(rt; spaced == Some(TxFault::Form), "{from}");
     }
     Ok(())
 }
 
 #[test]
 fn counts_and_lengths_behind_which_too_little_stands(rt: HostRuntime) -> Result<(), Fail> {
-    let alloc = rt.alloc();
     // The length of the value, the greatest there is.
-    let value = example_with(alloc, 115, 119, &[0xff; 4])?;
-    assert!(rt; fault_of(alloc, &value) == Some(TxFault::Form));
+    let value = fault_with(rt.alloc(), 115, 119, &[0xff; 4])?;
+    assert!(rt; value == Some(TxFault::Form));
     // 65,535 namespaces, and none of them there.
-    let namespaces = example_with(alloc, 82, 200, &[0xff; 2])?;
+    let namespaces = example_with(rt.alloc(), 82, 200, &[0xff; 2])?;
     assert!(rt; namespaces.len() == 84);
-    assert!(rt; fault_of(alloc, &namespaces) == Some(TxFault::Form));
+    assert!(rt; fault_of(rt.alloc(), &namespaces) == Some(TxFault::Form));
     Ok(())
+}
+
+fn fault_with_endorsements(alloc: Global, count: u8) -> Result<Option<TxFault>, AllocError> {
+    let endorsements = b"\x01O\x02\0\0\0".repeat(alloc, count as usize)?;
+    let counted = joined(alloc, &[&[count], &endorsements])?;
+    fault_with(alloc, 122, 166, &counted)
 }
 
 #[test]
 fn sixty_five_endorsements_that_are_there(rt: HostRuntime) -> Result<(), Fail> {
-    let alloc = rt.alloc();
     for (count, good) in [(64u8, true), (65, false)] {
-        let mut endorsements = Vec::from_slice(alloc, &[count])?;
-        for _ in 0..count {
-            endorsements.extend_from_slice(b"\x01O\x02\0\0\0")?;
-        }
-        let bytes = example_with(alloc, 122, 166, &endorsements)?;
-        assert!(rt; fault_of(alloc, &bytes) == fault_unless(good), "{count}");
+        let fault = fault_with_endorsements(rt.alloc(), count)?;
+        assert!(rt; fault == fault_unless(good), "{count}");
     }
     Ok(())
 }

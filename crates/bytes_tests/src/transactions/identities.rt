@@ -1,12 +1,10 @@
+use crate::joined::joined;
 use std::alloc::{AllocError, Global};
 use std::test::Fail;
-use transaction::{Role, decode_identity, encode_identity};
+use transaction::{Identity, Role, decode_identity, encode_identity};
 
-fn is_written_again(alloc: Global, bytes: &[u8]) -> bool {
-    let Ok(identity) = decode_identity(bytes) else {
-        return false;
-    };
-    match encode_identity(alloc, &identity) {
+fn is_spelled(alloc: Global, identity: &Identity<'_>, bytes: &[u8]) -> bool {
+    match encode_identity(alloc, identity) {
         Ok(written) => written.as_slice() == bytes,
         Err(_) => false,
     }
@@ -16,10 +14,10 @@ fn is_written_again(alloc: Global, bytes: &[u8]) -> bool {
 fn an_identity_both_ways(rt: HostRuntime) -> Result<(), Fail> {
     let bytes = b"\x04Org1\x02\x02p0";
     let identity = decode_identity(bytes)?;
-    assert!(rt; identity.org.as_slice() == b"Org1".as_slice());
+    let texts = [identity.org.as_slice(), identity.label.as_slice()];
+    assert!(rt; texts == [b"Org1".as_slice(), b"p0".as_slice()]);
     assert!(rt; identity.role == Role::Peer);
-    assert!(rt; identity.label.as_slice() == b"p0".as_slice());
-    assert!(rt; is_written_again(rt.alloc(), bytes));
+    assert!(rt; is_spelled(rt.alloc(), &identity, bytes));
     Ok(())
 }
 
@@ -42,10 +40,8 @@ fn bytes_that_are_none(rt: HostRuntime) -> Result<(), Fail> {
 
 // An organization of so many letters.
 fn with_organization(alloc: Global, len: u8) -> Result<Vec<u8>, AllocError> {
-    let mut bytes = vec![in alloc; b'a'; len as usize]?;
-    bytes.insert(0, len)?;
-    bytes.extend_from_slice(b"\0\0")?;
-    Ok(bytes)
+    let letters = vec![in alloc; b'a'; len as usize]?;
+    joined(alloc, &[&[len], &letters, b"\0\0"])
 }
 
 #[test]

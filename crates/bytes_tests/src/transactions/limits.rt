@@ -119,12 +119,20 @@ fn sixty_four_endorsements(rt: HostRuntime) -> Result<(), Fail> {
     Ok(())
 }
 
+// What keeps its body, what is signed of it, and all of it from being written.
+fn encode_faults(tx: &Tx<'_>, alloc: Global) -> [Option<EncodeFault>; 3] {
+    [
+        encode_body(alloc, tx).err(),
+        encode_signed(alloc, tx).err(),
+        encode_tx(alloc, tx).err(),
+    ]
+}
+
 #[test]
 fn one_endorsement_more(rt: HostRuntime) -> Result<(), Fail> {
     let over = with_endorsements(&rt, rt.alloc(), 65)?;
-    assert!(rt; encode_tx(rt.alloc(), &over).err() == Some(EncodeFault::TooLarge));
-    assert!(rt; encode_signed(rt.alloc(), &over).err() == Some(EncodeFault::TooLarge));
-    assert!(rt; encode_body(rt.alloc(), &over).is_ok());
+    let too_large = Some(EncodeFault::TooLarge);
+    assert!(rt; encode_faults(&over, rt.alloc()) == [None, too_large, too_large]);
     Ok(())
 }
 
@@ -132,34 +140,33 @@ fn one_endorsement_more(rt: HostRuntime) -> Result<(), Fail> {
 // whole 107.
 fn with_value<'a>(rt: &impl Abort, alloc: Global, value: &'a [u8]) -> Result<Tx<'a>, AllocError> {
     assert!(rt; is_name(b"cc") && is_key(b"k3"));
-    let mut writes = Items::new(alloc);
-    writes.push(Write {
+    let write = Write {
         key: KeyRef::new(b"k3"),
         value: Some(Slice::new(value)),
-    })?;
-    let mut namespaces = Items::new(alloc);
-    namespaces.push(NsSet {
+    };
+    let set = NsSet {
         name: NameRef::new(b"cc"),
         reads: Items::new(alloc),
         ranges: Items::new(alloc),
-        writes,
+        writes: Items::from_vec(vec![in alloc; write]?),
         policy_writes: Items::new(alloc),
-    })?;
+    };
+    let namespaces = Items::from_vec(vec![in alloc; set]?);
     Ok(tx_with(rt, namespaces, Items::new(alloc)))
 }
 
-// Whether its body, what is signed of it, and all of it can be written.
-fn can_be_written(tx: &Tx<'_>, alloc: Global) -> [bool; 3] {
-    [
-        encode_body(alloc, tx).is_ok(),
-        encode_signed(alloc, tx).is_ok(),
-        encode_tx(alloc, tx).is_ok(),
-    ]
+fn can_value_be_written(
+    rt: &impl Abort,
+    alloc: Global,
+    len: usize,
+) -> Result<[bool; 3], AllocError> {
+    let value = vec![in alloc; 3; len]?;
+    let tx = with_value(rt, alloc, &value)?;
+    Ok(encode_faults(&tx, alloc).map(|fault| fault.is_none()))
 }
 
 #[test]
 fn each_part_at_its_limit(rt: HostRuntime) -> Result<(), Fail> {
-    let alloc = rt.alloc();
     let rows = [
         (1_048_576 - 107usize, [true, true, true]),
         (1_048_576 - 106, [true, true, false]),
@@ -168,9 +175,8 @@ fn each_part_at_its_limit(rt: HostRuntime) -> Result<(), Fail> {
         (1_048_576 - 103, [false, false, false]),
     ];
     for (len, good) in rows {
-        let value = vec![in alloc; 3; len]?;
-        let tx = with_value(&rt, alloc, &value)?;
-        assert!(rt; can_be_written(&tx, alloc) == good, "{len}");
+        let written = can_value_be_written(&rt, rt.alloc(), len)?;
+        assert!(rt; written == good, "{len}");
     }
     Ok(())
 }

@@ -1,9 +1,9 @@
 //! Where what a transaction writes stands in its bytes, which no clause says.
 
 use super::{everything, example};
-use std::process::Abort;
+use std::alloc::{AllocError, Global};
 use std::test::Fail;
-use transaction::{NsSet, SpelledTx, decode_tx};
+use transaction::{NsSet, SpelledTx, TxFault, decode_tx};
 use values::found_at;
 
 // Whether the keys and values that a namespace writes stand where it says, where it stands at this place itself.
@@ -41,11 +41,15 @@ fn is_all_found(bytes: &[u8], spelled: &SpelledTx<'_>) -> bool {
     place == spelled.body().len()
 }
 
+fn is_written_found(alloc: Global, bytes: Result<Vec<u8>, AllocError>) -> Result<bool, TxFault> {
+    let bytes = bytes?;
+    let spelled = decode_tx(alloc, &bytes)?;
+    Ok(is_all_found(&bytes, &spelled))
+}
+
 #[test]
 fn all_that_is_written_is_found(rt: HostRuntime) -> Result<(), Fail> {
-    let bytes = example(rt.alloc())?;
-    assert!(rt; is_all_found(&bytes, &decode_tx(rt.alloc(), &bytes)?));
-    let bytes = everything(rt.alloc())?;
-    assert!(rt; is_all_found(&bytes, &decode_tx(rt.alloc(), &bytes)?));
+    assert!(rt; is_written_found(rt.alloc(), example(rt.alloc()))?);
+    assert!(rt; is_written_found(rt.alloc(), everything(rt.alloc()))?);
     Ok(())
 }
