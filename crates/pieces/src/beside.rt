@@ -40,12 +40,12 @@ fn apart<X: Drop, Y: Drop>(
 {
     let mut drawn = drawn;
     drawn.push(own)?;
-    let mut firsts = Vec::new(alloc);
-    let mut seconds = Vec::new(alloc);
+    let mut firsts = Vec::with_capacity(alloc, drawn.len())?;
+    let mut seconds = Vec::with_capacity(alloc, drawn.len())?;
     for both in drawn {
         let DrawnBoth { first, second } = both;
-        firsts.push(first)?;
-        seconds.push(second)?;
+        firsts.push_reserved(first);
+        seconds.push_reserved(second);
     }
     Ok((firsts, seconds))
 }
