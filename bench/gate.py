@@ -1,0 +1,170 @@
+#!/usr/bin/env python3
+"""What each call of the prover costs in a whole merge gate, from nothing: processor time, time by the clock, largest process.
+
+gate.py [--commit REV] [--processors N] [--keep FILE] [WORD ..]: clones the repository's commit into a temporary folder and runs
+the words there, `rt ci` if none is given, by a copy of the kit's `rt` before whose prover a recorder stands. Prints what it said,
+and then a table. `gate.py --read FILE [--by-call]` prints the table of a run that was kept, and `gate.py --read FILE --shares` what
+`shares.txt` has: the seconds of each crate's first proof, by which the launcher tells how long it still takes.
+"""
+
+import argparse
+import collections
+import json
+import os
+import pathlib
+import shutil
+import subprocess
+import sys
+import tempfile
+import time
+
+import scratch
+
+# What stands in the prover's place: it runs the prover, and writes a line of what that took.
+RECORDER = """#!{python} -IS
+import json, os, resource, sys, time
+began = time.time()
+child = os.fork()
+if not child:
+    os.execv({real!r}, sys.argv)
+status = os.waitstatus_to_exitcode(os.waitpid(child, 0)[1])
+used = resource.getrusage(resource.RUSAGE_CHILDREN)
+line = dict(words=sys.argv[1:], folder=os.getcwd(), began=began, ended=time.time(), processor=used.ru_utime + used.ru_stime)
+line.update(megabytes=used.ru_maxrss // 1024, status=status, program={name!r})
+with open({record!r}, "a") as file:
+    file.write(json.dumps(line) + "\\n")
+sys.exit(status if status >= 0 else 128 - status)
+"""
+KINDS = ["proof", "tests", "edits: first", "edits: others", "builds", "runs"]
+
+
+def recording_kit(at, record):
+    """A kit like the machine's whose programs are recorded: links, but for what finds the kit by its own place."""
+    kit = pathlib.Path(shutil.which("rt")).resolve().parent.parent
+    (at / "bin").mkdir(parents=True)
+    for file in kit.iterdir():
+        if file.name != "bin":
+            (at / file.name).symlink_to(file)
+    for file in (kit / "bin").iterdir():
+        to = at / "bin" / file.name
+        if file.name in ("rattle", "rattle-link", "rattle-test"):
+            to.write_text(RECORDER.format(python=sys.executable, real=str(file), name=file.name, record=str(record)))
+            to.chmod(0o755)
+        elif file.suffix == ".py" or file.name == "rt":
+            shutil.copy2(file, to)
+        else:
+            to.symlink_to(file)
+    return at / "bin" / "rt"
+
+
+def crate_of(call):
+    """The crate that a call is about, none where it is about none, as a call that lays files out."""
+    words = call["words"]
+    if "--crate-name" in words:
+        return words[words.index("--crate-name") + 1]
+    if call["program"] == "rattle":
+        return None
+    file = words[-1] if call["program"] == "rattle-test" else words[words.index("-o") + 1]
+    # the tests of a crate `names_tests` are a program `names_tests_tests`
+    return pathlib.Path(file).name.removesuffix(".by-rattle").removesuffix("_tests")
+
+
+def kinds_of(calls):
+    """Each call with its crate and kind, in the order in which they began."""
+    seen = collections.Counter()
+    for call in sorted(calls, key=lambda call: call["began"]):
+        words, crate = call["words"], crate_of(call)
+        if not crate:
+            continue
+        if call["program"] == "rattle-test":
+            kind = "runs"
+        elif call["program"] == "rattle-link" or "--crate-checked" in words:
+            kind = "builds"
+        elif "rt-edit-" in call["folder"]:
+            # What an edit's check finds proved of the crate is kept for the next one: so the first proves all of it.
+            kind = "edits: others" if seen[crate] else "edits: first"
+            seen[crate] += 1
+        else:
+            kind = "tests" if "--test" in words else "proof"
+        yield crate, kind, call
+
+
+def shares(file):
+    for crate, kind, call in kinds_of(calls_in(file)):
+        if kind == "proof":
+            print(crate, round(call["processor"]))
+
+
+def calls_in(file):
+    return [json.loads(line) for line in file.read_text().splitlines()]
+
+
+def read(file, by_call):
+    calls = calls_in(file)
+    took = collections.defaultdict(lambda: collections.defaultdict(list))
+    for crate, kind, call in kinds_of(calls):
+        took[crate][kind].append(call)
+        if by_call:
+            print(f"{crate}\t{kind}\t{call['processor']:.1f}\t{call['ended'] - call['began']:.1f}\t{call['megabytes']}\t{call['status']}")
+    seconds = lambda crate, kind: sum(call["processor"] for call in took[crate][kind])
+    whole = lambda crate: sum(seconds(crate, kind) for kind in KINDS)
+    print(f"| crate | {' | '.join(KINDS)} | all | largest process, MB |")
+    print("|---" * (len(KINDS) + 3) + "|")
+    for crate in sorted(took, key=whole, reverse=True):
+        cells = [f"{seconds(crate, kind):.0f}" if took[crate][kind] else "" for kind in KINDS]
+        most = max(call["megabytes"] for calls in took[crate].values() for call in calls)
+        print(f"| {crate} | {' | '.join(cells)} | {whole(crate):.0f} | {most} |")
+    sums = [sum(seconds(crate, kind) for crate in took) for kind in KINDS]
+    print(f"| all | {' | '.join(f'{it:.0f}' for it in sums)} | {sum(sums):.0f} | |")
+    began, ended = min(call["began"] for call in calls), max(call["ended"] for call in calls)
+    print(f"\n{len(calls)} calls, {sum(sums) / 60:.1f} processor minutes in {(ended - began) / 60:.1f} minutes")
+
+
+def peak_of_all(stop_at):
+    """The most memory in use on the machine, sampled by the second by a process of its own, which writes it at the end."""
+    code = (
+        "import sys, time\n"
+        "most = 0\n"
+        "free = lambda: {a: int(b.split()[0]) for a, b in (l.split(':') for l in open('/proc/meminfo'))}\n"
+        "while True:\n"
+        "    it = free(); most = max(most, it['MemTotal'] - it['MemAvailable'])\n"
+        "    open(sys.argv[1], 'w').write(str(most // 1024))\n"
+        "    time.sleep(1)\n"
+    )
+    return subprocess.Popen([sys.executable, "-c", code, stop_at])
+
+
+def main():
+    words = argparse.ArgumentParser(description=__doc__, formatter_class=argparse.RawDescriptionHelpFormatter)
+    words.add_argument("--commit", default="HEAD")
+    words.add_argument("--processors", type=int)
+    words.add_argument("--keep", type=pathlib.Path)
+    words.add_argument("--read", type=pathlib.Path)
+    words.add_argument("--by-call", action="store_true")
+    words.add_argument("--shares", action="store_true")
+    words.add_argument("command", nargs="*", default=["rt", "ci"])
+    given = words.parse_args()
+    if given.read:
+        return shares(given.read) if given.shares else read(given.read, given.by_call)
+    with tempfile.TemporaryDirectory(prefix="gate-") as folder:
+        room = pathlib.Path(folder)
+        record = (given.keep or room / "record").absolute()
+        record.write_text("")
+        rt = recording_kit(room / "kit", record)
+        clone = room / "mittcoomb"
+        subprocess.run(["git", "clone", "-q", scratch.TOP, clone], check=True)
+        subprocess.run(["git", "checkout", "-q", given.commit], cwd=clone, check=True)
+        if given.processors:
+            os.sched_setaffinity(0, list(os.sched_getaffinity(0))[: given.processors])
+        environment = dict(os.environ, PATH=f"{rt.parent}:{os.environ['PATH']}")
+        machine, memory, began = scratch.Machine(), peak_of_all(str(room / "peak")), time.time()
+        status = subprocess.run(given.command, cwd=clone, env=environment).returncode
+        minutes = (time.time() - began) / 60
+        memory.terminate()
+        read(record, given.by_call)
+        print(f"{' '.join(given.command)}: status {status}, {minutes:.1f} minutes; most memory in use {(room / 'peak').read_text()} MB; {machine}")
+    return status
+
+
+if __name__ == "__main__":
+    sys.exit(main())
