@@ -15,10 +15,10 @@ use Rattle.rules.proofs.BlockFlags.{length-flags}
 use Rattle.rules.proofs.Candidates.{length-candidates_from}
 use Rattle.query.specs.declared.receipt.Receipt.{Receipt}
 use Rattle.query.specs.Published.{Publishing, applied_all, published_world}
-use Rattle.commit.specs.NextDelta.{IsNextDelta}
+use Rattle.ledger.specs.NextDelta.{IsNextDelta}
 use Rattle.commit.specs.Committing.{IsCommitted, accepted_in}
 use Rattle.commit.specs.Running.{committing}
-use Rattle.commit.proofs.NextDeltas.{next_delta-step}
+use Rattle.ledger.proofs.NextDeltas.{next_delta-step}
 
 -- what the world that is lent refuses, the deltas on the empty one refuse
 pub refused_by : (p : Publishing) (w : World) (bytes : List ℕ) (r : Refused) → p.base ≡ empty_world → w ≡ published_world p → IsRefused w bytes r → IsRefused (applied_all empty_world p.list) bytes r

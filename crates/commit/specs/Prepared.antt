@@ -10,21 +10,16 @@ use Rattle.intake.specs.Place.{taken_of, shown}
 use Rattle.intake_workers.specs.declared.handed.Handed.{Handed}
 use Rattle.intake_workers.specs.declared.taking.Hashed.{Hashed}
 use Rattle.intake_workers.specs.Pieces.{txs_in, all_taken}
+use Rattle.ledger.specs.Taken.{IsTaken}
 use Rattle.policy_eval.specs.Accepts.{Accepts}
 use Rattle.rules.specs.declared.answer.Refused.{Refused}
-use Rattle.rules.specs.Commit.{txs_of}
-use Rattle.rules.specs.Linked.{IsLinked, IsRefused}
+use Rattle.rules.specs.Linked.{IsRefused}
 use Rattle.rules.specs.World.{World}
 use Rattle.transaction.specs.Decoded.{tx_of}
 use Rattle.commit.specs.declared.prepared.Ahead.{Ahead}
 use Rattle.commit.specs.declared.prepared.Prepared.{Prepared}
 
--- the block that the bytes spell, and what can be said of each of its transactions
-pub record IsTaken (channel : Configuration) (accepts : Accepts) (bytes : List ℕ) (b : Block) (places : List Taken) : Type 0 where
-  pub spelled : Spells bytes b
-  pub taken : map shown places ≡ map (taken_of channel accepts) (txs_of b)
-
--- this, by workers
+-- taken in by workers
 pub record IsPrepared (channel : Configuration) (accepts : Accepts) (bytes : List ℕ) (p : Prepared) : Type 0 where
   pub is_taken : IsTaken channel accepts bytes p.block p.taken.items
   pub hash : p.data_hash ≡ data_hash_of p.block.txs
@@ -62,8 +57,3 @@ Waits channel accepts (bytes ∷ blocks) (h ∷ handed) (k ∷ hashed) taken =
 
 abbrev pub IsAhead : Configuration → Accepts → List (List ℕ) → Ahead → Type 0
 IsAhead channel accepts blocks ahead = Waits channel accepts blocks (into_iter_items ahead.handed) (into_iter_items ahead.hashed) (all_taken (into_iter_items ahead.lists))
-
--- a block that was taken in, and is the next one of the world
-pub record IsNext (channel : Configuration) (accepts : Accepts) (w : World) (bytes : List ℕ) (b : Block) (places : List Taken) : Type 0 where
-  pub is_taken : IsTaken channel accepts bytes b places
-  pub linked : IsLinked w b

@@ -1,18 +1,14 @@
-//! The ledger, which takes blocks on one thread, and the committer, whose workers check them while others query.
+//! The committer, whose workers check blocks while others query; and the ledger, which takes blocks on one thread.
 #![tactic(auto)]
 
 mod by_workers;
 mod committer;
-mod explaining;
 mod laws;
-mod ledger;
-mod next_delta;
 mod not_committed;
 mod opening;
 mod prepared;
 mod published;
 mod running;
-mod serial;
 mod workers;
 
 pub use channel::{Channel, ChannelFault};

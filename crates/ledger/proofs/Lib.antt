@@ -1,0 +1,5 @@
+mod Found
+mod Gathered
+pub mod NextDeltas
+mod Steps
+pub mod Taken

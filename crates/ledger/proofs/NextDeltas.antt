@@ -1,0 +1,72 @@
+-- What the candidates of the next block change is its delta, and a world with it applied is a step.
+use Rattle.std.proofs.Common.{◌≡◌, ℕ, List, [], length, map, Option, Ok, sym, ap, subst, ◌∙◌}
+use Rattle.std.proofs.lemmas.List.{length-map}
+use Rattle.block.specs.declared.block.Block.{Block}
+use Rattle.block.specs.Grammar.{Spells}
+use Rattle.channel.specs.Configuration.{Configuration}
+use Rattle.header_hash.specs.Hashes.{header_hash_of}
+use Rattle.policy_eval.specs.Accepts.{Accepts}
+use Rattle.rules.specs.declared.answer.Accepted.{Accepted}
+use Rattle.rules.specs.declared.committed.CommittedBlock.{CommittedBlock}
+use Rattle.rules.specs.declared.delta.Delta.{Delta}
+use Rattle.rules.specs.Candidate.{used_id}
+use Rattle.rules.specs.Commit.{txs_of, job_of, committed_of}
+use Rattle.rules.specs.Delta.{applied, IsDelta}
+use Rattle.rules.specs.FirstUses.{with_uses}
+use Rattle.rules.specs.Job.{Job}
+use Rattle.rules.specs.Linked.{IsLinked}
+use Rattle.rules.specs.Step.{Step}
+use Rattle.rules.specs.World.{World, height_of}
+use Rattle.rules.proofs.Candidates.{length-candidates_from}
+use Rattle.rules.proofs.Deltas.{committed-is_delta}
+use Rattle.ledger.specs.Changes.{Changes}
+use Rattle.ledger.specs.NextDelta.{IsDeltaOfJob, IsNextDelta}
+
+module _ (channel : Configuration) (accepts : Accepts) (w : World) where
+  -- one id or none for each candidate
+  count-ids : (b : Block) (ids : List (Option (List ℕ))) → ids ≡ map (used_id channel accepts) (txs_of b) → length ids ≡ length (job_of channel accepts w (txs_of b)).candidates
+  count-ids b ids are = ap length are ∙ length-map (txs_of b) _ ∙ sym (length-candidates_from channel accepts w.first_uses [] (txs_of b))
+
+  pub count-job : (b : Block) (j : Job) (ids : List (Option (List ℕ))) → j ≡ job_of channel accepts w (txs_of b) → ids ≡ map (used_id channel accepts) (txs_of b) → length ids ≡ length j.candidates
+  count-job b j ids job_is ids_are = count-ids b ids ids_are ∙ ap (λ (k : Job). length k.candidates) (sym job_is)
+
+  pub changes-is_delta : (bytes : List ℕ) (b : Block) (j : Job) (ids : List (Option (List ℕ))) (header_hash : List ℕ) (d : Delta)
+      → j ≡ job_of channel accepts w (txs_of b) → ids ≡ map (used_id channel accepts) (txs_of b) → header_hash ≡ header_hash_of b.header
+      → Changes j ids bytes header_hash d
+      → IsDelta channel accepts w (txs_of b) (committed_of bytes b (job_of channel accepts w (txs_of b))) d
+  changes-is_delta bytes b j ids header_hash d job_is ids_are hash_is changes =
+      let own = subst (λ (h : List ℕ). Changes (job_of channel accepts w (txs_of b)) (map (used_id channel accepts) (txs_of b)) bytes h d) hash_is (
+      subst (λ (us : List (Option (List ℕ))). Changes (job_of channel accepts w (txs_of b)) us bytes header_hash d) ids_are (
+      subst (λ (k : Job). Changes k ids bytes header_hash d) job_is changes)) in
+      record {
+        state = own.state;
+        history = own.history w.history;
+        first_uses = ap (with_uses w.first_uses) own.uses;
+        block = own.block;
+      }
+
+  -- the delta of a job is the next one where the job is that of the next block
+  pub is_next : (bytes kept : List ℕ) (b : Block) (j : Job) (ids : List (Option (List ℕ))) (d : Delta)
+      → kept ≡ bytes → Spells bytes b → IsLinked w b → j ≡ job_of channel accepts w (txs_of b) → ids ≡ map (used_id channel accepts) (txs_of b)
+      → IsDeltaOfJob j ids kept b d → IsNextDelta channel accepts w bytes d
+  is_next bytes kept b j ids d same spelled linked job_is ids_are is = record {
+    block = b;
+    spelled = spelled;
+    linked = linked;
+    delta = subst (λ (k : List ℕ). IsDelta channel accepts w (txs_of b) (committed_of k b (job_of channel accepts w (txs_of b))) d) same (is channel accepts w job_is ids_are);
+  }
+
+  -- a world to which the delta of its next block is applied, with the answer that the delta keeps, is a step
+  pub next_delta-step : (bytes : List ℕ) (d : Delta) (answer : Accepted) (new : World) → IsNextDelta channel accepts w bytes d
+      → answer ≡ record { number = height_of w; header_hash = d.block.header_hash; flags = d.block.flags } → new ≡ applied w d
+      → Step channel accepts w bytes (Ok answer) new
+  next_delta-step bytes d answer new next answer_is new_is =
+      let b = next.block in
+      let kept : CommittedBlock = committed_of bytes b (job_of channel accepts w (txs_of b)) in
+      let shown : (n : ℕ) → CommittedBlock → Accepted = λ n k. record { number = n; header_hash = k.header_hash; flags = k.flags } in (
+        b,
+        next.spelled,
+        next.linked,
+        answer_is ∙ ap (shown (height_of w)) next.delta.block ∙ ap (λ (n : ℕ). shown n kept) (sym next.linked.number),
+        new_is ∙ sym (committed-is_delta channel accepts w (txs_of b) kept d next.delta),
+      )

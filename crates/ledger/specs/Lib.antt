@@ -1,0 +1,6 @@
+pub mod Changes
+pub mod Contents
+pub mod NextDelta
+pub mod NextReasons
+pub mod Submissions
+pub mod Taken

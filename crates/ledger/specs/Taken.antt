@@ -1,0 +1,21 @@
+-- A block that was taken in: what can be said of its transactions without the world.
+use Rattle.std.specs.Prelude.{◌≡◌, ℕ, List, map}
+use Rattle.block.specs.declared.block.Block.{Block}
+use Rattle.block.specs.Grammar.{Spells}
+use Rattle.channel.specs.Configuration.{Configuration}
+use Rattle.intake.specs.declared.taking.Taken.{Taken}
+use Rattle.intake.specs.Place.{taken_of, shown}
+use Rattle.policy_eval.specs.Accepts.{Accepts}
+use Rattle.rules.specs.Commit.{txs_of}
+use Rattle.rules.specs.Linked.{IsLinked}
+use Rattle.rules.specs.World.{World}
+
+-- the block that the bytes spell, and what can be said of each of its transactions
+pub record IsTaken (channel : Configuration) (accepts : Accepts) (bytes : List ℕ) (b : Block) (places : List Taken) : Type 0 where
+  pub spelled : Spells bytes b
+  pub taken : map shown places ≡ map (taken_of channel accepts) (txs_of b)
+
+-- this, and the block is the next one of the world
+pub record IsNext (channel : Configuration) (accepts : Accepts) (w : World) (bytes : List ℕ) (b : Block) (places : List Taken) : Type 0 where
+  pub is_taken : IsTaken channel accepts bytes b places
+  pub linked : IsLinked w b

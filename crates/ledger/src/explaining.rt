@@ -1,0 +1,105 @@
+//! The reasons of the next block.
+ghost use Rattle.std.specs.Prelude.{◌≡◌, ◌≤◌, length, map, Ok, Some, IsSome, IfOk, MatchResult};
+ghost use Rattle.block.specs.Limits.{max_txs};
+ghost use Rattle.transaction.specs.Decoded.{tx_of};
+ghost use Rattle.rules.specs.declared.answer.Refused.TheVariants.{Memory};
+ghost use Rattle.rules.specs.Linked.{IsRefused};
+ghost use Rattle.serial_checks.specs.Shown.{Shows};
+ghost use Rattle.ledger.specs.NextReasons.{AreNextReasons, AreFound};
+
+use crate::next_delta::job_of;
+use crate::serial::take_in_next;
+use channel::Channel;
+use explanations::reason_of;
+use key_chains::{Job, PlainBoard};
+use policy_eval::Verify;
+use reasons::{Reason, each_place_has_one_reason};
+use rules::Refused;
+use serial_checks::verdicts;
+use std::alloc::{AllocError, Global};
+use transaction::TxId;
+use values::{Items, Slice};
+use world::World;
+
+/// The reason of each place of a block, of its job, its ids and all verdicts; none where one has none, which doesn't happen.
+fn all_reasons(
+    alloc: Global,
+    channel: &Channel,
+    world: &World,
+    txs: &[Slice<'_>],
+    job: &Job<'_>,
+    ids: &[Option<TxId>],
+    board: &mut PlainBoard,
+) -> Result<Option<Items<Reason>>, AllocError>
+    requires count { length txs.now ≡ length job.now.candidates }
+    requires ids { length ids.now ≡ length job.now.candidates }
+    requires few { length ids.now ≤ max_txs }
+    requires shown { Shows job.now board.old }
+    ensures { IfOk result (λ reasons. AreFound channel.now world.now (map tx_of txs.now) job.now ids.now reasons) }
+{
+    each_place_has_one_reason();
+    let mut reasons = Vec::with_capacity(alloc, txs.len())?;
+    for (i, bytes) in txs.iter().enumerate() {
+        let place = i as u32;
+        let found = reason_of(
+            alloc,
+            channel,
+            world,
+            job,
+            ids,
+            place,
+            bytes.as_slice(),
+            board,
+        )?;
+        let Some(reason) = found else {
+            return Ok(None);
+        };
+        reasons.push(reason)?;
+    }
+    Ok(Some(Items::from_vec(reasons)))
+}
+
+/// The reasons of a block's places, of its job and ids.
+fn found_reasons(
+    alloc: Global,
+    channel: &Channel,
+    world: &World,
+    txs: &[Slice<'_>],
+    job: &Job<'_>,
+    ids: &[Option<TxId>],
+) -> Result<Option<Items<Reason>>, AllocError>
+    requires count { length txs.now ≡ length job.now.candidates }
+    requires ids { length ids.now ≡ length job.now.candidates }
+    requires few { length ids.now ≤ max_txs }
+    ensures { IfOk result (λ reasons. AreFound channel.now world.now (map tx_of txs.now) job.now ids.now reasons) }
+{
+    let (mut board, _flags) = verdicts(alloc, job)?;
+    all_reasons(alloc, channel, world, txs, job, ids, &mut board)
+}
+
+/// Reasons of which it is known that they are there.
+fn there(found: Result<Option<Items<Reason>>, AllocError>) -> Result<Items<Reason>, Refused>
+    requires { IfOk found (λ reasons. IsSome reasons) }
+    ensures { MatchResult result (λ reasons. found ≡ Ok (Some reasons)) (λ refused. refused ≡ Memory) }
+{
+    let Some(reasons) = found? else {
+        unreachable!()
+    };
+    Ok(reasons)
+}
+
+/// Why each transaction of the block of these bytes would have its flag, or why the block would be refused.
+pub(crate) fn next_reasons<V: Verify>(
+    alloc: Global,
+    channel: &Channel,
+    world: &World,
+    bytes: &[u8],
+    verifier: &V,
+) -> Result<Items<Reason>, Refused>
+    ensures { MatchResult result (AreNextReasons channel.now (V.accepts verifier.now) world.now bytes.now) (IsRefused world.now bytes.now) }
+{
+    let (block, taken) = take_in_next(alloc, channel, world, bytes, verifier)?;
+    let (job, ids) = job_of(alloc, channel, world, taken)?;
+    let txs = block.txs.as_slice();
+    there(found_reasons(alloc, channel, world, txs, &job, ids.as_slice()))
+}

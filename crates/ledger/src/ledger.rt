@@ -1,0 +1,136 @@
+ghost use Rattle.std.specs.Prelude.{◌≡◌, IfOk, IfErr, OnOk, OnErr, MatchResult};
+ghost use Rattle.rules.specs.declared.answer.Refused.TheVariants.{Memory};
+ghost use Rattle.rules.specs.World.{empty_world, height_of};
+ghost use Rattle.rules.specs.Delta.{applied};
+ghost use Rattle.rules.specs.Linked.{IsRefused};
+ghost use Rattle.rules.specs.Step.{Step};
+ghost use Rattle.rules.specs.Chain.{Chain};
+ghost use Rattle.ledger.specs.NextDelta.{IsNextDelta};
+ghost use Rattle.ledger.specs.NextReasons.{AreNextReasons};
+ghost use Rattle.ledger.specs.Submissions.{submissions};
+
+use crate::explaining::next_reasons;
+use crate::serial::next_delta;
+use channel::Channel;
+use policy_eval::Verify;
+use reasons::Reason;
+use rules::{Accepted, CommittedBlock, Delta, Refused};
+use std::alloc::{AllocError, Global};
+use std::marker::Model;
+use values::{Bytes, Items};
+use world::World;
+
+/// The ledger of one channel, which takes blocks one by one, on one thread. A contract sees its channel and its
+/// world.
+#[derive(Drop)]
+pub struct Ledger {
+    alloc: Global,
+    channel: Channel,
+    world: World,
+}
+
+impl Model for Ledger {
+    ghost use Rattle.std.specs.Coded.{codes};
+    ghost use Rattle.policy.specs.Policies.{policies_code};
+    ghost use Rattle.rules.specs.Code.{world_code};
+    ghost use Rattle.ledger.specs.Contents.{Contents};
+
+    ghost Value = { Contents };
+
+    ghost coded = { Prim.hlevel (codes, policies_code, world_code) };
+
+    ghost view = { λ l. record { channel = l.channel; world = l.world } };
+}
+
+/// What is answered to the block of this number.
+fn accepted(alloc: Global, number: u64, block: &CommittedBlock) -> Result<Accepted, AllocError>
+    ensures { IfOk result (λ a. a ≡ record { number = number; header_hash = block.now.header_hash; flags = block.now.flags }) }
+{
+    Ok(Accepted {
+        number,
+        header_hash: block.header_hash,
+        flags: block.flags.copy(alloc)?,
+    })
+}
+
+impl Ledger {
+    /// The ledger of height 0. Takes no memory.
+    pub fn open(alloc: Global, channel: Channel) -> Ledger
+        ensures channel { result.channel ≡ channel }
+        ensures world { result.world ≡ empty_world }
+    {
+        Ledger {
+            alloc,
+            channel,
+            world: World::new(alloc),
+        }
+    }
+
+    /// What the ledger holds, in constant time.
+    pub fn view(&self) -> &World
+        ensures { result.now ≡ self.now.world }
+    {
+        &self.world
+    }
+
+    /// What the block of these bytes would change, or why it would be refused. Changes nothing itself. Costs what
+    /// `submit_one` does, but for what that adds to the ledger.
+    pub fn delta<V: Verify>(&self, bytes: &[u8], verifier: &V) -> Result<Delta, Refused>
+        ensures { MatchResult result (IsNextDelta self.now.channel (V.accepts verifier.now) self.now.world bytes.now) (IsRefused self.now.world bytes.now) }
+    {
+        next_delta(self.alloc, &self.channel, &self.world, bytes, verifier)
+    }
+
+    /// Why each transaction of the block of these bytes would have its flag, in block order, or why the block would be
+    /// refused. Changes nothing. Costs what `delta` does without making one, and besides what its reasons cost.
+    pub fn explain<V: Verify>(&self, bytes: &[u8], verifier: &V) -> Result<Items<Reason>, Refused>
+        ensures { MatchResult result (AreNextReasons self.now.channel (V.accepts verifier.now) self.now.world bytes.now) (IsRefused self.now.world bytes.now) }
+    {
+        next_reasons(self.alloc, &self.channel, &self.world, bytes, verifier)
+    }
+
+    /// Takes the bytes of the next block: accepts them, or refuses them and changes nothing.
+    ///
+    /// Linear in the block, with a logarithm of its keys and of the rows of the state: its bytes are hashed, the
+    /// signatures of its creators and endorsers verified, the keys that it writes sorted, each that it reads or writes
+    /// looked up. A read costs besides a step for each earlier transaction of the block that operates on its key, up to
+    /// the first valid one that decides; a range the rows and written keys in its bounds. Memory for the block and what it
+    /// changes, and for what it adds to the ledger.
+    pub fn submit_one<V: Verify>(&mut self, bytes: &[u8], verifier: &V) -> Result<Accepted, Refused>
+        ensures step { Step self.old.channel (V.accepts verifier.now) self.old.world bytes.now result self.new.world }
+        ensures channel { self.new.channel ≡ self.old.channel }
+    {
+        let delta = self.delta(bytes, verifier)?;
+        self.apply(&delta)
+    }
+
+    /// Applies the delta of the next block, and answers to that block. An `Err` has changed nothing.
+    fn apply(&mut self, delta: &Delta) -> Result<Accepted, Refused>
+        ensures accepted { IfOk result (λ a. a ≡ record { number = height_of self.old.world; header_hash = delta.now.block.header_hash; flags = delta.now.block.flags }) }
+        ensures applied { OnOk result (self.new ≡ record self.old { world = applied self.old.world delta.now }) }
+        ensures refused { IfErr result (λ refused. refused ≡ Memory) }
+        ensures err { OnErr result (self.new ≡ self.old) }
+    {
+        let accepted = accepted(self.alloc, self.world.height(), delta.block.get())?;
+        self.world.apply(delta)?;
+        Ok(accepted)
+    }
+
+    /// Takes the bytes of blocks one after the other, each as `submit_one` does, and answers to all.
+    /// An `Err` means that no block was handed in.
+    pub fn submit_all<V: Verify>(
+        &mut self,
+        blocks: &[Bytes],
+        verifier: &V,
+    ) -> Result<Items<Result<Accepted, Refused>>, AllocError>
+        ensures chain { IfOk result (λ answers. Chain self.old.channel self.old.world (submissions (V.accepts verifier.now) blocks.now) answers self.new.world) }
+        ensures channel { self.new.channel ≡ self.old.channel }
+        ensures err { OnErr result (self.new ≡ self.old) }
+    {
+        let mut answers = Vec::with_capacity(self.alloc, blocks.len())?;
+        for bytes in blocks {
+            answers.push_reserved(self.submit_one(bytes.as_slice(), verifier));
+        }
+        Ok(Items::from_vec(answers))
+    }
+}
