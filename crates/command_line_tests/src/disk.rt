@@ -1,22 +1,32 @@
 // The files of the system.
+use crate::limits::place;
 use command_line::{DiskFiles, FileFault, Files};
 use std::io::ErrorKind;
+use std::process::Abort;
 use std::test::Fail;
-use std::{env, fs, io, process};
+use std::{fs, io};
+
+fn is_written_and_read(rt: &HostRuntime, path: &str) -> Result<bool, FileFault> {
+    let files = DiskFiles::new(rt);
+    files.write(path, b"\0 longer")?;
+    files.write(path, b"\xff\n")?;
+    Ok(files.read(rt.alloc(), path)?.as_slice() == b"\xff\n".as_slice())
+}
+
+fn is_inaccessible(rt: &HostRuntime, path: &str) -> bool {
+    DiskFiles::new(rt).read(rt.alloc(), path).err() == Some(FileFault::Inaccessible)
+}
+
+fn expect_file_of_its_own(rt: &impl Abort, host: &HostRuntime, path: &str) {
+    assert!(rt; is_written_and_read(host, path) == Ok(true));
+    assert!(rt; fs::remove_file(host, path).is_ok());
+    assert!(rt; is_inaccessible(host, path));
+}
 
 #[test]
 fn a_file_is_written_anew_and_read(rt: HostRuntime) -> Result<(), Fail> {
-    let alloc = rt.alloc();
-    let files = DiskFiles::new(&rt);
-    let id = process::id(rt.process());
-    let name = format!(in alloc; "fabcommit-{id}")?;
-    let place = env::temp_dir(&rt)?.join(alloc, name.as_str())?;
-    let path = place.as_str();
-    files.write(path, b"\0 longer")?;
-    files.write(path, b"\xff\n")?;
-    assert!(rt; files.read(alloc, path)?.as_slice() == b"\xff\n".as_slice());
-    fs::remove_file(&rt, path)?;
-    assert!(rt; files.read(alloc, path).err() == Some(FileFault::Inaccessible));
+    let place = place(&rt, "disk")?;
+    expect_file_of_its_own(&rt, &rt, place.as_str());
     Ok(())
 }
 

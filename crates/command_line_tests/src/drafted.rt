@@ -1,11 +1,11 @@
 // Scripts, from their texts to what their blocks leave behind.
 use crate::drafted::vectors::{answers, first_block, first_script, second_block, second_script};
-use crate::fixture::{CHANNEL, File, MemoryFiles, OneOut, expect_rows};
+use crate::fixture::{CHANNEL, File, MemoryFiles, OneOut, expect, expect_rows};
 use crate::signatures::keys;
+use std::alloc::AllocError;
 use std::cell::Cell;
 use std::process::Abort;
 use std::sync::Wait;
-use std::test::Fail;
 use std::thread::Threads;
 
 mod vectors;
@@ -14,35 +14,46 @@ mod vectors;
 fn expect_block<'a>(
     rt: &(impl Abort + AllocGlobal + Threads + Wait + Sync),
     files: &'a [File<'a>],
-    after: &str,
+    words: &[&str],
     block: &'a [u8],
-) -> Result<(), Fail> {
+) {
     let files = OneOut {
         files: MemoryFiles(files),
         out: ("out", block),
         written: Cell::new(0),
     };
-    let words = format!(in rt.alloc(); "draft {after}s out")?;
-    expect_rows(rt, &files, &[(words.as_str(), 0, "", "")])?;
+    expect(rt, &files, words, 0, "", "");
     assert!(rt; files.written.get() == 1);
-    Ok(())
 }
 
+const WORDS: [&str; 10] = [
+    "fabcommit",
+    "draft",
+    "s",
+    "out",
+    "--channel",
+    "c",
+    "--keys",
+    "k",
+    "--after",
+    "b0",
+];
+
 #[test]
-fn scripts_become_blocks(rt: HostRuntime) -> Result<(), Fail> {
+fn scripts_become_blocks(rt: HostRuntime) {
     let files = [("c", CHANNEL), ("k", keys()), ("s", first_script())];
-    expect_block(&rt, &files, "", first_block())?;
+    expect_block(&rt, &files, &WORDS[..8], first_block());
     let files = [
         ("c", CHANNEL),
         ("k", keys()),
         ("s", second_script()),
         ("b0", first_block()),
     ];
-    expect_block(&rt, &files, "--after b0 ", second_block())
+    expect_block(&rt, &files, &WORDS, second_block());
 }
 
 #[test]
-fn what_the_blocks_leave_behind(rt: HostRuntime) -> Result<(), Fail> {
+fn what_the_blocks_leave_behind(rt: HostRuntime) -> Result<(), AllocError> {
     let files = [
         ("c", CHANNEL),
         ("k", keys()),

@@ -1,13 +1,14 @@
 // Why transactions have their flags, from the scripts that they are drafted of.
 use crate::explained::vectors::{block0, block1, block2, every_flag, lines};
-use crate::fixture::{CHANNEL, File, MemoryFiles, ended, expect_rows, words_of};
+use crate::failed::Failed;
+use crate::fixture::{CHANNEL, End, File, MemoryFiles, Row, ended, expect_rows, words_of};
 use crate::signatures::keys;
 use command_line::{FileFault, Files};
 use std::alloc::{AllocError, Global};
 use std::cell::Cell;
 use std::process::Abort;
+use std::str::from_utf8;
 use std::sync::Wait;
-use std::test::Fail;
 use std::thread::Threads;
 use values::Bytes;
 
@@ -41,16 +42,12 @@ impl Files for Desk<'_> {
 
 // How the program ends that is called with these words, and what it says.
 fn answered<F: Files>(
-    rt: &(impl Abort + AllocGlobal + Threads + Wait + Sync),
+    rt: &(impl AllocGlobal + Threads + Wait + Sync),
     files: &F,
     words: &str,
-) -> Result<(u8, String, String), Fail> {
+) -> Result<End, AllocError> {
     let words = words_of(rt.alloc(), words)?;
-    // the first is the program's name
-    let Some((_, words)) = words.split_first() else {
-        panic!(rt; "no words")
-    };
-    Ok(ended(rt, files, words)?)
+    Ok(ended(rt, files, &words))
 }
 
 // The block of the script `s`, drafted by these words.
@@ -58,35 +55,48 @@ pub(crate) fn drafted(
     rt: &(impl Abort + AllocGlobal + Threads + Wait + Sync),
     files: &[File<'_>],
     words: &str,
-) -> Result<Bytes, Fail> {
+) -> Result<Bytes, Failed> {
     let desk = Desk {
         alloc: rt.alloc(),
         files: MemoryFiles(files),
         written: Cell::new(None),
     };
-    let (status, _, _) = answered(rt, &desk, words)?;
-    assert!(rt; status == 0);
-    let Some(block) = desk.written.take() else {
-        panic!(rt; "nothing drafted")
-    };
-    Ok(block)
+    match status(rt, &desk, words) {
+        Ok(0) => desk.written.take().ok_or(Failed::NotDrafted),
+        Ok(_) => Err(Failed::NotDrafted),
+        Err(AllocError) => Err(Failed::Memory),
+    }
+}
+
+fn status<F: Files>(
+    rt: &(impl AllocGlobal + Threads + Wait + Sync),
+    files: &F,
+    words: &str,
+) -> Result<u8, AllocError> {
+    Ok(answered(rt, files, words)?.status)
+}
+
+// Whether a line with this front stands before these.
+fn is_behind(said: &[u8], front: &str, lines: &str) -> bool {
+    match from_utf8(said) {
+        Ok(said) => match said.split_once('\n') {
+            Some((first, rest)) => first.starts_with(front) && rest == lines,
+            None => false,
+        },
+        Err(_) => false,
+    }
 }
 
 // What explaining the last of these says behind the line of the block, whose front is this.
-pub(crate) fn expect_reasons(
+fn expect_reasons(
     rt: &(impl Abort + AllocGlobal + Threads + Wait + Sync),
     files: &[File<'_>],
     words: &str,
     front: &str,
     lines: &str,
-) -> Result<(), Fail> {
-    let (status, said, _) = answered(rt, &MemoryFiles(files), words)?;
-    assert!(rt; status == 0);
-    let Some((first, rest)) = said.as_str().split_once('\n') else {
-        panic!(rt; "no line")
-    };
-    assert!(rt; first.starts_with(front));
-    assert!(rt; rest == lines);
+) -> Result<(), AllocError> {
+    let ended = answered(rt, &MemoryFiles(files), words)?;
+    assert!(rt; ended.status == 0 && is_behind(&ended.out, front, lines));
     Ok(())
 }
 
@@ -229,7 +239,7 @@ fn of_script_behind<'a>(keys: &'a [u8], script: &'a [u8], block: &'a [u8]) -> [F
 }
 
 // The files of one block, and of two.
-pub(crate) fn of_block<'a>(keys: &'a [u8], block: &'a [u8]) -> [File<'a>; 3] {
+fn of_block<'a>(keys: &'a [u8], block: &'a [u8]) -> [File<'a>; 3] {
     [("c", CHANNEL), ("k", keys), ("b0", block)]
 }
 
@@ -240,81 +250,84 @@ fn of_blocks<'a>(keys: &'a [u8], first: &'a [u8], second: &'a [u8]) -> [File<'a>
 fn second_block(
     rt: &(impl Abort + AllocGlobal + Threads + Wait + Sync),
     first: &[u8],
-) -> Result<Bytes, Fail> {
+) -> Result<Bytes, Failed> {
     let files = of_script_behind(keys(), SECOND, first);
     drafted(rt, &files, "draft --after b0 s out")
 }
 
-fn expect_ended(
-    rt: &(impl Abort + AllocGlobal + Threads + Wait + Sync),
-    files: &[File<'_>],
-    words: &str,
-    wanted: (u8, &str, &str),
-) -> Result<(), Fail> {
-    let (status, said, faults) = answered(rt, &MemoryFiles(files), words)?;
-    assert!(rt; (status, said.as_str(), faults.as_str()) == wanted);
-    Ok(())
-}
+const ROWS: [Row; 2] = [
+    ("explain --tx 23 b0 b1", 2, "", "no transaction 23\n"),
+    ("explain b0 b1 b1", 1, "refused 3 C2 want 2 got 1\n", ""),
+];
 
 fn expect_all(
     rt: &(impl Abort + AllocGlobal + Threads + Wait + Sync),
     files: &[File<'_>],
-) -> Result<(), Fail> {
+) -> Result<(), AllocError> {
     expect_reasons(rt, files, "explain b0 b1", "block 1 ", REASONS)?;
     let one = "4 11 MVCC_READ_CONFLICT read cc a was 0 1 is 1 2 by 2\n";
     expect_reasons(rt, files, "explain --tx 4 b0 b1", "block 1 ", one)?;
-    expect_ended(
-        rt,
-        files,
-        "explain --tx 23 b0 b1",
-        (2, "", "no transaction 23\n"),
-    )?;
-    expect_ended(
-        rt,
-        files,
-        "explain b0 b1 b1",
-        (1, "refused 3 C2 want 2 got 1\n", ""),
-    )
+    expect_rows(rt, &MemoryFiles(files), &ROWS)
 }
 
 fn expect_all_of<'a>(
     rt: &(impl Abort + AllocGlobal + Threads + Wait + Sync),
     first: &'a [u8],
     second: &'a [u8],
-) -> Result<(), Fail> {
+) -> Result<(), AllocError> {
     let files = of_blocks(keys(), first, second);
     expect_all(rt, &files)
 }
 
 #[test]
-fn each_kind_of_reason(rt: HostRuntime) -> Result<(), Fail> {
+fn each_kind_of_reason(rt: HostRuntime) -> Result<(), Failed> {
     let files = of_script(CHANNEL, keys(), FIRST);
     let first = drafted(&rt, &files, "draft s out")?;
     let second = second_block(&rt, first.as_slice())?;
-    expect_all_of(&rt, first.as_slice(), second.as_slice())
+    expect_all_of(&rt, first.as_slice(), second.as_slice())?;
+    Ok(())
+}
+
+// Drafts the first script for this channel and by these keys, and wants what explaining it says.
+fn expect_reasons_elsewhere<'a>(
+    rt: &(impl Abort + AllocGlobal + Threads + Wait + Sync),
+    channel: &'a [u8],
+    signing: &'a [u8],
+    words: &str,
+    lines: &str,
+) -> Result<(), Failed> {
+    let block = drafted(rt, &of_script(channel, signing, FIRST), "draft s out")?;
+    expect_reasons_of(rt, block.as_slice(), words, lines)?;
+    Ok(())
+}
+
+pub(crate) fn expect_reasons_of<'a>(
+    rt: &(impl Abort + AllocGlobal + Threads + Wait + Sync),
+    block: &'a [u8],
+    words: &str,
+    lines: &str,
+) -> Result<(), AllocError> {
+    let files = of_block(keys(), block);
+    expect_reasons(rt, &files, words, "block 0 ", lines)
 }
 
 // The channel that transactions name, and the keys that creators sign with, are none of the block's.
 #[test]
-fn reasons_of_the_origin(rt: HostRuntime) -> Result<(), Fail> {
-    let files = of_script(b"channel other\nchaincode cc 'Org1.peer'\n", keys(), FIRST);
-    let elsewhere = drafted(&rt, &files, "draft s out")?;
-    let files = of_block(keys(), elsewhere.as_slice());
+fn reasons_of_the_origin(rt: HostRuntime) -> Result<(), Failed> {
+    let channel = b"channel other\nchaincode cc 'Org1.peer'\n";
     let lines = "0 14 TARGET_CHAIN_NOT_FOUND channel other
 1 14 TARGET_CHAIN_NOT_FOUND channel other
 2 14 TARGET_CHAIN_NOT_FOUND channel other
 ";
-    expect_reasons(&rt, &files, "explain b0", "block 0 ", lines)?;
-    let files = of_script(CHANNEL, b"Org1:client:c0 00\nOrg1:peer:p0 01\n", FIRST);
-    let forged = drafted(&rt, &files, "draft s out")?;
-    let files = of_block(keys(), forged.as_slice());
+    expect_reasons_elsewhere(&rt, channel, keys(), "explain b0", lines)?;
+    let forging = b"Org1:client:c0 00\nOrg1:peer:p0 01\n";
     let lines = "1 4 BAD_CREATOR_SIGNATURE\n";
-    expect_reasons(&rt, &files, "explain --tx 1 b0", "block 0 ", lines)
+    expect_reasons_elsewhere(&rt, CHANNEL, forging, "explain --tx 1 b0", lines)
 }
 
 // The sample's blocks. The last of them shows every flag, and was made outside of the crates.
 #[test]
-fn a_reason_of_each_flag(rt: HostRuntime) -> Result<(), Fail> {
+fn a_reason_of_each_flag(rt: HostRuntime) -> Result<(), AllocError> {
     let files = [
         ("c", CHANNEL),
         ("k", keys()),

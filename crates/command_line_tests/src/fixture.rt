@@ -7,7 +7,6 @@ use std::io::{ErrorKind, Write};
 use std::process::Abort;
 use std::str::from_utf8;
 use std::sync::Wait;
-use std::test::Fail;
 use std::thread::Threads;
 use values::Bytes;
 
@@ -21,12 +20,9 @@ pub(crate) const NO_DATA: [u8; 32] = [
     0x27, 0xae, 0x41, 0xe4, 0x64, 0x9b, 0x93, 0x4c, 0xa4, 0x95, 0x99, 0x1b, 0x78, 0x52, 0xb8, 0x55,
 ];
 
-// The header hashes of the chain of the empty blocks 0, 1 and 2.
-pub(crate) const HASH_0: &str = "9cae6f5c10756febc407bba95fc23853774c1f65f10354895bfdab6443d66ed3";
-
-pub(crate) const HASH_1: &str = "91832d32531bdfd1a285dd117422f8d77eea07ca7f937b91b55deda9e63d726e";
-
-pub(crate) const HASH_2: &str = "c999c319890c8582d934c4fd3ea3e2846eb4987165f638401a5a33be2177b295";
+/// The line of the empty block 0, with its header hash.
+pub(crate) const ACCEPTED_0: &str =
+    "accepted 0 9cae6f5c10756febc407bba95fc23853774c1f65f10354895bfdab6443d66ed3\n";
 
 /// A path, and the bytes that lie there.
 pub(crate) type File<'a> = (&'a str, &'a [u8]);
@@ -120,19 +116,73 @@ impl Write for Full {
     }
 }
 
-/// Runs the program on these words behind its name, and wants this status and these texts of
-/// standard output and standard error.
-pub(crate) fn expect(
+/// Runs the program on these words, the first of which is its name, and wants this status and this
+/// text of standard error.
+pub(crate) fn expect_into<F: Files>(
     rt: &(impl Abort + AllocGlobal + Threads + Wait + Sync),
-    files: &[File<'_>],
+    files: &F,
+    words: &[&str],
+    out: &mut Full,
+    status: u8,
+    err: &str,
+) {
+    let mut faults = Vec::new(rt.alloc());
+    let got = program(rt, words, files, out, &mut faults);
+    assert!(rt; (got, shown(&faults)) == (status, err));
+}
+
+/// How a run ends, and what it writes.
+#[derive(Drop)]
+pub(crate) struct End {
+    pub(crate) status: u8,
+    pub(crate) out: Vec<u8>,
+    pub(crate) err: Vec<u8>,
+}
+
+/// Runs the program on these words, the first of which is its name.
+pub(crate) fn ended<R: AllocGlobal + Threads + Wait + Sync, F: Files>(
+    rt: &R,
+    files: &F,
+    words: &[&str],
+) -> End {
+    let (mut out, mut err) = (Vec::new(rt.alloc()), Vec::new(rt.alloc()));
+    let status = program(rt, words, files, &mut out, &mut err);
+    End { status, out, err }
+}
+
+/// The bytes as a text, which tests show.
+pub(crate) fn shown(bytes: &[u8]) -> &str {
+    from_utf8(bytes).unwrap_or("what is no text")
+}
+
+/// Wants this status and these texts of standard output and standard error.
+pub(crate) fn expect_end(
+    rt: &impl Abort,
+    ended: &End,
     words: &[&str],
     status: u8,
     out: &str,
     err: &str,
-) -> Result<(), Fail> {
-    let (got, said, faults) = ended(rt, &MemoryFiles(files), words)?;
-    assert!(rt; (got, said.as_str(), faults.as_str()) == (status, out, err));
-    Ok(())
+) {
+    let (said, faults) = (shown(&ended.out), shown(&ended.err));
+    assert!(rt;
+        (ended.status, said, faults) == (status, out, err),
+        "{words:?}: {said}{faults}"
+    );
+}
+
+/// Runs the program on these words, the first of which is its name, and wants this status and these
+/// texts of standard output and standard error.
+pub(crate) fn expect<F: Files>(
+    rt: &(impl Abort + AllocGlobal + Threads + Wait + Sync),
+    files: &F,
+    words: &[&str],
+    status: u8,
+    out: &str,
+    err: &str,
+) {
+    let ended = ended(rt, files, words);
+    expect_end(rt, &ended, words, status, out, err);
 }
 
 /// A run: its words but for those of the channel `c` and the keys `k`, apart by spaces, what it has to
@@ -149,97 +199,69 @@ pub(crate) fn words_of<'a>(alloc: Global, text: &'a str) -> Result<Vec<&'a str>,
     Ok(words)
 }
 
-/// Runs the program as the rows say, and wants what they say.
+/// Runs the program as a row says, and wants what it says.
+pub(crate) fn expect_row<F: Files>(
+    rt: &(impl Abort + AllocGlobal + Threads + Wait + Sync),
+    files: &F,
+    row: &Row<'_>,
+) -> Result<(), AllocError> {
+    let (words, status, out, err) = *row;
+    let words = words_of(rt.alloc(), words)?;
+    expect(rt, files, &words, status, out, err);
+    Ok(())
+}
+
+/// The same of each of these rows.
 pub(crate) fn expect_rows<F: Files>(
     rt: &(impl Abort + AllocGlobal + Threads + Wait + Sync),
     files: &F,
     rows: &[Row<'_>],
-) -> Result<(), Fail> {
-    for (words, status, out, err) in rows {
-        let words = words_of(rt.alloc(), words)?;
-        let (got, said, faults) = end_of(rt, files, &words)?;
-        assert!(rt;
-            (got, said.as_str(), faults.as_str()) == (*status, *out, *err),
-            "{words:?}: {said}{faults}"
-        );
+) -> Result<(), AllocError> {
+    for row in rows {
+        expect_row(rt, files, row)?;
     }
     Ok(())
 }
 
-/// Hands these blocks in, of those that there are, and wants this status and these lines.
-pub(crate) fn expect_lines(
-    rt: &(impl Abort + AllocGlobal + Threads + Wait + Sync),
-    blocks: &[File<'_>],
-    handed_in: &[&str],
-    status: u8,
-    lines: &str,
-) -> Result<(), Fail> {
-    let mut files = vec![in rt.alloc(); ("c", CHANNEL), ("k", KEYS)]?;
-    files.extend_from_slice(blocks)?;
-    let mut words = vec![in rt.alloc(); "run", "--channel", "c", "--keys", "k"]?;
-    words.extend_from_slice(handed_in)?;
-    expect(rt, &files, &words, status, lines, "")
-}
-
-/// What the program ends with and writes to standard output and standard error, on these words
-/// behind its name.
-pub(crate) fn ended<R: AllocGlobal + Threads + Wait + Sync, F: Files>(
-    rt: &R,
-    files: &F,
-    words: &[&str],
-) -> Result<(u8, String, String), Fail> {
-    let mut all = vec![in rt.alloc(); "/usr/bin/anything"]?;
-    all.extend_from_slice(words)?;
-    end_of(rt, files, &all)
-}
-
-// The same of words of which the first is the program's name.
-fn end_of<R: AllocGlobal + Threads + Wait + Sync, F: Files>(
-    rt: &R,
-    files: &F,
-    words: &[&str],
-) -> Result<(u8, String, String), Fail> {
-    let alloc = rt.alloc();
-    let (mut out, mut err) = (Vec::new(alloc), Vec::new(alloc));
-    let status = program(rt, words, files, &mut out, &mut err);
-    Ok((
-        status,
-        String::from_str(alloc, from_utf8(&out)?)?,
-        String::from_str(alloc, from_utf8(&err)?)?,
-    ))
-}
-
-/// The transactions' part of a block with so many transactions without bytes.
-pub(crate) fn empty_ones(alloc: Global, count: u32) -> Result<Vec<u8>, AllocError> {
-    let mut txs = Vec::from_slice(alloc, &count.to_be_bytes())?;
-    for _ in 0..count {
-        txs.extend_from_slice(b"\0\0\0\0")?;
-    }
-    Ok(txs)
-}
-
-/// The bytes of a block with this previous hash, data hash and transactions' part.
-pub(crate) fn block(
-    alloc: Global,
+/// The bytes of a block with this previous hash, data hash and transactions' part, which are so many.
+pub(crate) fn block<const N: usize>(
     number: u8,
     previous: &[u8],
     data_hash: &[u8],
     txs: &[u8],
-) -> Result<Vec<u8>, AllocError> {
-    let mut bytes = Vec::from_slice(alloc, b"FBK1\0\0\0\0\0\0\0")?;
-    bytes.push(number)?;
-    bytes.push(previous.len().min(255) as u8)?;
-    bytes.extend_from_slice(previous)?;
-    bytes.extend_from_slice(data_hash)?;
-    bytes.extend_from_slice(txs)?;
-    Ok(bytes)
+) -> [u8; N] {
+    let mut bytes = [0; N];
+    let data = previous.len().saturating_add(13);
+    fill(&mut bytes, 0, b"FBK1");
+    fill(&mut bytes, 11, &[number, previous.len().min(255) as u8]);
+    fill(&mut bytes, 13, previous);
+    fill(&mut bytes, data, data_hash);
+    fill(&mut bytes, data.saturating_add(data_hash.len()), txs);
+    bytes
 }
 
-/// The bytes of a block without transactions.
-pub(crate) fn empty_block(
+fn fill(bytes: &mut [u8], place: usize, part: &[u8]) {
+    for (to, byte) in bytes.iter_mut().skip(place).zip(part) {
+        *to = *byte;
+    }
+}
+
+/// The bytes of the block 0 without transactions.
+pub(crate) fn first_block() -> [u8; 49] {
+    block(0, b"", &NO_DATA, b"\0\0\0\0")
+}
+
+/// The bytes of a block 0 with this data hash and this transactions' part.
+pub(crate) fn large_block(
     alloc: Global,
-    number: u8,
-    previous: &[u8],
+    data_hash: &[u8],
+    txs: &[u8],
 ) -> Result<Vec<u8>, AllocError> {
-    block(alloc, number, previous, &NO_DATA, b"\0\0\0\0")
+    [b"FBK1\0\0\0\0\0\0\0\0\0".as_slice(), data_hash, txs].concat(alloc)
+}
+
+/// The transactions' part of a block with so many transactions without bytes.
+pub(crate) fn empty_ones(alloc: Global, count: u32) -> Result<Vec<u8>, AllocError> {
+    let txs = b"\0\0\0\0".repeat(alloc, count as usize)?;
+    [count.to_be_bytes().as_slice(), &txs].concat(alloc)
 }

@@ -1,13 +1,12 @@
 // What is wrong with words, files and scripts, for each subcommand but `run`.
 use crate::fixture::{
-    CHANNEL, File, Full, KEYS, MemoryFiles, Row, empty_block, expect_rows, words_of,
+    CHANNEL, File, Full, KEYS, MemoryFiles, Row, expect_into, expect_row, expect_rows, first_block,
+    words_of,
 };
-use command_line::{FileFault, Files, program};
-use std::alloc::Global;
+use command_line::{FileFault, Files};
+use std::alloc::{AllocError, Global};
 use std::process::Abort;
-use std::str::from_utf8;
 use std::sync::Wait;
-use std::test::Fail;
 use std::thread::Threads;
 use values::Bytes;
 
@@ -68,7 +67,7 @@ fn expect_all_rows<'a>(
     rt: &(impl Abort + AllocGlobal + Threads + Wait + Sync),
     block: &'a [u8],
     last: &'a [u8],
-) -> Result<(), Fail> {
+) -> Result<(), AllocError> {
     let files = [
         ("c", CHANNEL),
         ("k", KEYS),
@@ -81,14 +80,13 @@ fn expect_all_rows<'a>(
 }
 
 #[test]
-fn words_and_files(rt: HostRuntime) -> Result<(), Fail> {
-    let alloc = rt.alloc();
-    let block = empty_block(alloc, 0, b"")?;
-    let mut last = empty_block(alloc, 0, b"")?;
+fn words_and_files(rt: HostRuntime) -> Result<(), AllocError> {
+    let block = first_block();
+    let mut last = first_block();
     for byte in last.iter_mut().skip(4).take(8) {
         *byte = 255;
     }
-    expect_all_rows(&rt, block.as_slice(), last.as_slice())
+    expect_all_rows(&rt, &block, &last)
 }
 
 // Scripts, and the line that is at fault.
@@ -142,13 +140,13 @@ fn expect_fault(
     rt: &(impl Abort + AllocGlobal + Threads + Wait + Sync),
     script: &str,
     err: &str,
-) -> Result<(), Fail> {
+) -> Result<(), AllocError> {
     let files = [("c", CHANNEL), ("k", KEYS), ("s", script.as_bytes())];
-    expect_rows(rt, &MemoryFiles(&files), &[("draft s out", 3, "", err)])
+    expect_row(rt, &MemoryFiles(&files), &("draft s out", 3, "", err))
 }
 
 #[test]
-fn faulty_lines(rt: HostRuntime) -> Result<(), Fail> {
+fn faulty_lines(rt: HostRuntime) -> Result<(), AllocError> {
     for (script, err) in &SCRIPTS {
         expect_fault(&rt, script, err)?;
     }
@@ -161,15 +159,18 @@ fn expect_long(
     bytes: usize,
     more: &str,
     err: &str,
-) -> Result<(), Fail> {
-    let alloc = rt.alloc();
-    let value = "v".repeat(alloc, bytes)?;
-    let script = format!(in alloc; "tx Org1:peer:p0 n cc\nns cc\nwrite k {value}\n{more}")?;
+) -> Result<(), AllocError> {
+    let script = long_script(rt.alloc(), bytes, more)?;
     expect_fault(rt, script.as_str(), err)
 }
 
+fn long_script(alloc: Global, bytes: usize, more: &str) -> Result<String, AllocError> {
+    let value = "v".repeat(alloc, bytes)?;
+    format!(in alloc; "tx Org1:peer:p0 n cc\nns cc\nwrite k {value}\n{more}")
+}
+
 #[test]
-fn a_transaction_one_byte_too_long(rt: HostRuntime) -> Result<(), Fail> {
+fn a_transaction_one_byte_too_long(rt: HostRuntime) -> Result<(), AllocError> {
     // The longest is drafted, and then can't be written.
     expect_long(&rt, 1_048_439, "", "cannot write out\n")?;
     expect_long(&rt, 1_048_440, "", "s line 1\n")?;
@@ -193,12 +194,12 @@ impl Files for NoRoom<'_> {
 }
 
 #[test]
-fn a_block_for_which_memory_is_missing(rt: HostRuntime) -> Result<(), Fail> {
+fn a_block_for_which_memory_is_missing(rt: HostRuntime) -> Result<(), AllocError> {
     let files = [("c", CHANNEL), ("k", KEYS), ("s", b"".as_slice())];
-    expect_rows(
+    expect_row(
         &rt,
         &NoRoom(MemoryFiles(&files)),
-        &[("draft s out", 4, "", "out of memory\n")],
+        &("draft s out", 4, "", "out of memory\n"),
     )
 }
 
@@ -206,41 +207,41 @@ fn a_block_for_which_memory_is_missing(rt: HostRuntime) -> Result<(), Fail> {
 fn expect_cut(
     rt: &(impl Abort + AllocGlobal + Threads + Wait + Sync),
     files: &[File<'_>],
-    words: &str,
+    words: &[&str],
     lines: &str,
     room: usize,
-) -> Result<(), Fail> {
-    let words = words_of(rt.alloc(), words)?;
+) {
     let mut out = Full::after(rt.alloc(), room);
-    let mut err = Vec::new(rt.alloc());
-    let status = program(rt, &words, &MemoryFiles(files), &mut out, &mut err);
-    assert!(rt; from_utf8(&err)? == "cannot write standard output\n");
-    assert!(rt; (status, out.taken.len()) == (3, room));
-    assert!(rt; lines.as_bytes().starts_with(&out.taken));
+    let err = "cannot write standard output\n";
+    expect_into(rt, &MemoryFiles(files), words, &mut out, 3, err);
+    assert!(rt; Some(out.taken.as_slice()) == lines.as_bytes().get(..room));
+}
+
+// The same of each room of less than eight bytes.
+fn expect_cuts(
+    rt: &(impl Abort + AllocGlobal + Threads + Wait + Sync),
+    files: &[File<'_>],
+    words: &str,
+    lines: &str,
+) -> Result<(), AllocError> {
+    let words = words_of(rt.alloc(), words)?;
+    for room in 0..8 {
+        expect_cut(rt, files, &words, lines, room);
+    }
     Ok(())
 }
 
 #[test]
-fn standard_output_that_fails(rt: HostRuntime) -> Result<(), Fail> {
-    let block = empty_block(rt.alloc(), 0, b"")?;
+fn standard_output_that_fails(rt: HostRuntime) -> Result<(), AllocError> {
+    let block = first_block();
     let files = [("c", CHANNEL), ("k", KEYS), ("b0", block.as_slice())];
-    for room in 0..8 {
-        expect_cut(
-            &rt,
-            &files,
-            "get --ns cc --key k b0",
-            "height 1\nabsent\n",
-            room,
-        )?;
-        expect_cut(&rt, &files, "scan --ns cc b0", "height 1\n", room)?;
-        expect_cut(&rt, &files, "explain b0", BLOCK_0, room)?;
-        expect_cut(
-            &rt,
-            &files,
-            "history --ns cc --key k b0",
-            "height 1\n",
-            room,
-        )?;
+    for (words, lines) in [
+        ("get --ns cc --key k b0", "height 1\nabsent\n"),
+        ("scan --ns cc b0", "height 1\n"),
+        ("explain b0", BLOCK_0),
+        ("history --ns cc --key k b0", "height 1\n"),
+    ] {
+        expect_cuts(&rt, &files, words, lines)?;
     }
     Ok(())
 }

@@ -14,6 +14,8 @@ mod drafted;
 #[cfg(test)]
 mod explained;
 #[cfg(test)]
+mod failed;
+#[cfg(test)]
 mod fixture;
 #[cfg(test)]
 mod hostile;

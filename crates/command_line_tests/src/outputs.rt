@@ -1,14 +1,13 @@
 // Writers that fail.
 use crate::fixture::{
-    CHANNEL, File, Full, HASH_0, KEYS, MemoryFiles, NO_DATA, block, empty_block, empty_ones,
+    CHANNEL, File, Full, KEYS, MemoryFiles, NO_DATA, empty_ones, expect_into, first_block,
+    large_block,
 };
 use command_line::program;
-use std::alloc::AllocError;
+use std::alloc::{AllocError, Global};
 use std::io::ErrorKind;
 use std::process::Abort;
-use std::str::from_utf8;
 use std::sync::Wait;
-use std::test::Fail;
 use std::thread::Threads;
 
 const WORDS: [&str; 10] = [
@@ -31,44 +30,54 @@ fn expect_end(
     taken: &str,
     status: u8,
     err: &str,
-) -> Result<(), Fail> {
-    let block = empty_block(rt.alloc(), 0, b"")?;
+) {
+    let block = first_block();
     let files = [("c", CHANNEL), ("k", KEYS), ("b0", block.as_slice())];
-    let mut faults = Vec::new(rt.alloc());
-    let got = program(rt, &WORDS, &MemoryFiles(&files), &mut out, &mut faults);
-    assert!(rt; from_utf8(&faults)? == err);
-    assert!(rt; from_utf8(&out.taken)? == taken);
-    assert!(rt; got == status);
-    Ok(())
+    expect_into(rt, &MemoryFiles(&files), &WORDS, &mut out, status, err);
+    assert!(rt; out.taken.as_slice() == taken.as_bytes());
+}
+
+const FAULT: &str = "cannot write standard output\n";
+
+const ALL: &str = "\
+accepted 0 9cae6f5c10756febc407bba95fc23853774c1f65f10354895bfdab6443d66ed3
+refused 2 C2 want 1 got 0
+reader 1 height 1
+";
+
+// What is taken of them before the first line, and in the middle of each other.
+const FRONTS: [&str; 3] = [
+    "",
+    "accepted 0 9cae6f5c10756febc407bba95fc23853774c1f65f10354895bfdab6443d66ed3\nrefused",
+    "accepted 0 9cae6f5c10756febc407bba95fc23853774c1f65f10354895bfdab6443d66ed3\n\
+    refused 2 C2 want 1 got 0\nreader 1",
+];
+
+fn unflushed(alloc: Global) -> Full {
+    Full {
+        flushes: false,
+        ..Full::after(alloc, 1000)
+    }
+}
+
+fn without_memory(alloc: Global) -> Full {
+    Full {
+        kind: ErrorKind::OutOfMemory,
+        ..Full::after(alloc, 0)
+    }
 }
 
 #[test]
-fn standard_output_that_fails(rt: HostRuntime) -> Result<(), Fail> {
+fn standard_output_that_fails(rt: HostRuntime) {
     let alloc = rt.alloc();
-    let fault = "cannot write standard output\n";
-    let first = format!(in alloc; "accepted 0 {HASH_0}\n")?;
-    let both = format!(in alloc; "{first}refused 2 C2 want 1 got 0\nreader 1 height 1\n")?;
-    // at the first line, and in the middle of each other
-    expect_end(&rt, Full::after(alloc, 0), "", 3, fault)?;
-    for rest in ["refused", "refused 2 C2 want 1 got 0\nreader 1"] {
-        let front = format!(in alloc; "{first}{rest}")?;
-        expect_end(
-            &rt,
-            Full::after(alloc, front.len()),
-            front.as_str(),
-            3,
-            fault,
-        )?;
+    for front in FRONTS {
+        expect_end(&rt, Full::after(alloc, front.len()), front, 3, FAULT);
     }
     // when all is written
-    let mut unflushed = Full::after(alloc, 1000);
-    unflushed.flushes = false;
-    expect_end(&rt, unflushed, both.as_str(), 3, fault)?;
+    expect_end(&rt, unflushed(alloc), ALL, 3, FAULT);
     // for want of memory
-    let mut large = Full::after(alloc, 0);
-    large.kind = ErrorKind::OutOfMemory;
-    expect_end(&rt, large, "", 4, "out of memory\n")?;
-    expect_end(&rt, Full::after(alloc, 1000), both.as_str(), 1, "")
+    expect_end(&rt, without_memory(alloc), "", 4, "out of memory\n");
+    expect_end(&rt, Full::after(alloc, 1000), ALL, 1, "");
 }
 
 // To a writer that takes nothing at first and all later.
@@ -79,21 +88,16 @@ fn expect_nothing_behind_a_failure(
 ) {
     let mut out = Full::after(rt.alloc(), 0);
     out.failures = 1;
-    let mut faults = Vec::new(rt.alloc());
-    let status = program(rt, words, &MemoryFiles(files), &mut out, &mut faults);
-    assert!(rt; faults.as_slice() == b"cannot write standard output\n".as_slice());
+    expect_into(rt, &MemoryFiles(files), words, &mut out, 3, FAULT);
     assert!(rt; out.taken.is_empty());
-    assert!(rt; status == 3);
 }
 
 // More lines than a buffer holds.
 #[test]
 fn nothing_is_written_behind_a_failure(rt: HostRuntime) -> Result<(), AllocError> {
     let files = [("c", CHANNEL), ("k", KEYS), ("b", b"".as_slice())];
-    let mut words = Vec::from_slice(rt.alloc(), &WORDS[..7])?;
-    for _ in 0..5000 {
-        words.push("b")?;
-    }
+    let blocks = vec![in rt.alloc(); "b"; 5000]?;
+    let words = [&WORDS[..7], &blocks].concat(rt.alloc())?;
     expect_nothing_behind_a_failure(&rt, &files, &words);
     Ok(())
 }
@@ -102,24 +106,38 @@ fn nothing_is_written_behind_a_failure(rt: HostRuntime) -> Result<(), AllocError
 #[test]
 fn nothing_is_written_behind_a_failed_line(rt: HostRuntime) -> Result<(), AllocError> {
     let txs = empty_ones(rt.alloc(), 4096)?;
-    let block = block(rt.alloc(), 0, b"", &NO_DATA, &txs)?;
+    let block = large_block(rt.alloc(), &NO_DATA, &txs)?;
     let files = [("c", CHANNEL), ("k", KEYS), ("b0", block.as_slice())];
     expect_nothing_behind_a_failure(&rt, &files, &WORDS[..8]);
     Ok(())
 }
 
+fn expect_no_help(
+    rt: &(impl Abort + AllocGlobal + Threads + Wait + Sync),
+    room: usize,
+    flushes: bool,
+) {
+    let mut out = Full::after(rt.alloc(), room);
+    out.flushes = flushes;
+    let words = ["fabcommit", "--help"];
+    expect_into(rt, &MemoryFiles(&[]), &words, &mut out, 3, FAULT);
+}
+
 #[test]
-fn help_that_cannot_be_written(rt: HostRuntime) -> Result<(), Fail> {
+fn help_that_cannot_be_written(rt: HostRuntime) {
     for (room, flushes) in [(10, true), (10_000, false)] {
-        let mut faults = Vec::new(rt.alloc());
-        let mut out = Full::after(rt.alloc(), room);
-        out.flushes = flushes;
-        let words = ["fabcommit", "--help"];
-        let status = program(&rt, &words, &MemoryFiles(&[]), &mut out, &mut faults);
-        assert!(rt; from_utf8(&faults)? == "cannot write standard output\n");
-        assert!(rt; status == 3);
+        expect_no_help(&rt, room, flushes);
     }
-    Ok(())
+}
+
+// How the program ends whose standard error takes three bytes, and what it writes to standard output.
+fn status_without_error<R: AllocGlobal + Threads + Wait + Sync>(
+    rt: &R,
+    words: &[&str],
+    out: &mut Full,
+) -> u8 {
+    let mut err = Full::after(rt.alloc(), 3);
+    program(rt, words, &MemoryFiles(&[]), out, &mut err)
 }
 
 #[test]
@@ -127,9 +145,7 @@ fn standard_error_that_fails(rt: HostRuntime) {
     let mut out = Full::after(rt.alloc(), 1000);
     let rows: [(&[&str], u8); 2] = [(&WORDS, 3), (&["fabcommit", "run"], 2)];
     for (words, want) in rows {
-        let mut err = Full::after(rt.alloc(), 3);
-        let status = program(&rt, words, &MemoryFiles(&[]), &mut out, &mut err);
-        assert!(rt; status == want);
+        assert!(rt; status_without_error(&rt, words, &mut out) == want);
     }
     assert!(rt; out.taken.len() == 0);
 }

@@ -1,17 +1,17 @@
 // Which bytes a creator and an endorser have to sign.
-use crate::fixture::{CHANNEL, expect};
+use crate::fixture::{CHANNEL, MemoryFiles, expect};
 use crate::signatures::vectors::{LINE, block};
-use std::test::Fail;
 
 mod vectors;
 
 pub(crate) use vectors::keys;
 
 #[test]
-fn signatures_over_this_and_that(rt: HostRuntime) -> Result<(), Fail> {
+fn signatures_over_this_and_that(rt: HostRuntime) {
     let files = [("c", CHANNEL), ("k", keys()), ("b", block())];
     for workers in ["1", "5"] {
         let words = [
+            "fabcommit",
             "run",
             "--workers",
             workers,
@@ -21,7 +21,6 @@ fn signatures_over_this_and_that(rt: HostRuntime) -> Result<(), Fail> {
             "k",
             "b",
         ];
-        expect(&rt, &files, &words, 0, LINE, "")?;
+        expect(&rt, &MemoryFiles(&files), &words, 0, LINE, "");
     }
-    Ok(())
 }

@@ -1,16 +1,25 @@
 // Faults of the files, each of which ends the program before any block is handed in.
-use crate::fixture::{CHANNEL, KEYS, MemoryFiles, empty_block, expect};
-use command_line::{FileFault, Files, program};
-use std::alloc::Global;
-use std::str::from_utf8;
-use std::test::Fail;
+use crate::fixture::{CHANNEL, File, KEYS, MemoryFiles, expect, first_block};
+use command_line::{FileFault, Files};
+use std::alloc::{AllocError, Global};
+use std::process::Abort;
+use std::sync::Wait;
+use std::thread::Threads;
 use values::Bytes;
 
-const WORDS: [&str; 6] = ["run", "--channel", "c.txt", "--keys", "k.txt", "b0"];
+const WORDS: [&str; 7] = [
+    "fabcommit",
+    "run",
+    "--channel",
+    "c.txt",
+    "--keys",
+    "k.txt",
+    "b0",
+];
 
 #[test]
-fn faults_of_the_channel_text(rt: HostRuntime) -> Result<(), Fail> {
-    let block = empty_block(rt.alloc(), 0, b"")?;
+fn faults_of_the_channel_text(rt: HostRuntime) {
+    let block = first_block();
     let rows: [(&[u8], &str); 10] = [
         // A line that isn't UTF-8 goes before the fault of an earlier one.
         (b"nonsense\n\xffchannel ch\n", "c.txt line 2\n"),
@@ -35,30 +44,31 @@ fn faults_of_the_channel_text(rt: HostRuntime) -> Result<(), Fail> {
             ("k.txt", b"\xff".as_slice()),
             ("b0", block.as_slice()),
         ];
-        expect(&rt, &files, &WORDS, 3, "", err)?;
+        expect(&rt, &MemoryFiles(&files), &WORDS, 3, "", err);
     }
+}
+
+// A channel text of so many chaincodes.
+fn channel_of(alloc: Global, chaincodes: u16) -> Result<String, AllocError> {
+    let mut channel = String::from_str(alloc, "channel ch\n")?;
+    for i in 0..chaincodes {
+        let line = format!(in alloc; "chaincode c{i} 'A.peer'\n")?;
+        channel.push_str(line.as_str())?;
+    }
+    Ok(channel)
+}
+
+#[test]
+fn too_many_chaincodes(rt: HostRuntime) -> Result<(), AllocError> {
+    let channel = channel_of(rt.alloc(), 257)?;
+    let files = [("c.txt", channel.as_bytes())];
+    let err = "c.txt line 258\n";
+    expect(&rt, &MemoryFiles(&files), &WORDS, 3, "", err);
     Ok(())
 }
 
 #[test]
-fn too_many_chaincodes(rt: HostRuntime) -> Result<(), Fail> {
-    let mut channel = String::from_str(rt.alloc(), "channel ch\n")?;
-    for i in 0..257u16 {
-        let line = format!(in rt.alloc(); "chaincode c{i} 'A.peer'\n")?;
-        channel.push_str(line.as_str())?;
-    }
-    expect(
-        &rt,
-        &[("c.txt", channel.as_bytes())],
-        &WORDS,
-        3,
-        "",
-        "c.txt line 258\n",
-    )
-}
-
-#[test]
-fn faults_of_the_key_book(rt: HostRuntime) -> Result<(), Fail> {
+fn faults_of_the_key_book(rt: HostRuntime) {
     let rows: [(&[u8], &str); 4] = [
         (b"# keys\nOrg1:peer:p0 0b0\n", "k.txt line 2\n"),
         (
@@ -70,28 +80,31 @@ fn faults_of_the_key_book(rt: HostRuntime) -> Result<(), Fail> {
     ];
     for (keys, err) in &rows {
         // No block can be read.
-        expect(
-            &rt,
-            &[("c.txt", CHANNEL), ("k.txt", *keys)],
-            &WORDS,
-            3,
-            "",
-            err,
-        )?;
+        let files = [("c.txt", CHANNEL), ("k.txt", *keys)];
+        expect(&rt, &MemoryFiles(&files), &WORDS, 3, "", err);
     }
-    Ok(())
+}
+
+fn expect_unread(
+    rt: &(impl Abort + AllocGlobal + Threads + Wait + Sync),
+    files: &[File<'_>],
+    words: &[&str],
+    err: &str,
+) {
+    expect(rt, &MemoryFiles(files), words, 3, "", err);
 }
 
 #[test]
-fn files_that_cannot_be_read(rt: HostRuntime) -> Result<(), Fail> {
-    let block = empty_block(rt.alloc(), 0, b"")?;
+fn files_that_cannot_be_read(rt: HostRuntime) {
+    let block = first_block();
     let (channel, keys) = (("c.txt", CHANNEL), ("k.txt", KEYS));
-    expect(&rt, &[], &WORDS, 3, "", "cannot read c.txt\n")?;
-    expect(&rt, &[channel], &WORDS, 3, "", "cannot read k.txt\n")?;
-    expect(&rt, &[channel, keys], &WORDS, 3, "", "cannot read b0\n")?;
-    // The third block of three, and nothing is said of the two before it.
+    expect_unread(&rt, &[], &WORDS, "cannot read c.txt\n");
+    expect_unread(&rt, &[channel], &WORDS, "cannot read k.txt\n");
+    expect_unread(&rt, &[channel, keys], &WORDS, "cannot read b0\n");
     let files = [channel, keys, ("b0", block.as_slice())];
+    // The third block of three, and nothing is said of the two before it.
     let words = [
+        "fabcommit",
         "run",
         "--workers=2",
         "--readers=2",
@@ -103,7 +116,7 @@ fn files_that_cannot_be_read(rt: HostRuntime) -> Result<(), Fail> {
         "b0",
         "no such/b 1",
     ];
-    expect(&rt, &files, &words, 3, "", "cannot read no such/b 1\n")
+    expect_unread(&rt, &files, &words, "cannot read no such/b 1\n");
 }
 
 // Files in memory, but that memory runs out at one of them.
@@ -126,33 +139,26 @@ impl Files for TooLarge<'_> {
     }
 }
 
+fn expect_want_of_memory(
+    rt: &(impl Abort + AllocGlobal + Threads + Wait + Sync),
+    files: &TooLarge<'_>,
+) {
+    expect(rt, files, &WORDS, 4, "", "out of memory\n");
+}
+
 #[test]
-fn a_file_for_which_memory_is_missing(rt: HostRuntime) -> Result<(), Fail> {
-    let alloc = rt.alloc();
-    let block = empty_block(alloc, 0, b"")?;
+fn a_file_for_which_memory_is_missing(rt: HostRuntime) {
+    let block = first_block();
     let files = [
         ("c.txt", CHANNEL),
         ("k.txt", KEYS),
         ("b0", block.as_slice()),
-    ];
-    let words = [
-        "fabcommit",
-        "run",
-        "--channel",
-        "c.txt",
-        "--keys",
-        "k.txt",
-        "b0",
     ];
     for path in ["c.txt", "k.txt", "b0"] {
         let files = TooLarge {
             files: MemoryFiles(&files),
             path,
         };
-        let (mut out, mut err) = (Vec::new(alloc), Vec::new(alloc));
-        let status = program(&rt, &words, &files, &mut out, &mut err);
-        let got = (status, out.len(), from_utf8(&err)?);
-        assert!(rt; got == (4, 0, "out of memory\n"), "at {path}");
+        expect_want_of_memory(&rt, &files);
     }
-    Ok(())
 }

@@ -1,10 +1,13 @@
 // The words of the command.
-use crate::fixture::{CHANNEL, HASH_0, KEYS, MemoryFiles, empty_block, ended, expect};
+use crate::fixture::{CHANNEL, End, KEYS, MemoryFiles, ended, expect, first_block, shown};
 use command_line::without_words;
+use std::alloc::{AllocError, Global};
 use std::io;
 use std::io::ErrorKind;
+use std::process::Abort;
 use std::str::from_utf8;
-use std::test::Fail;
+use std::sync::Wait;
+use std::thread::Threads;
 
 const COMMAND: &str = "Usage: fabcommit <COMMAND>\n";
 
@@ -211,56 +214,118 @@ const HELP: [Row; 10] = [
     ),
 ];
 
-fn says(said: &str, front: &str, text: &str, usage: &str) -> bool {
-    said.starts_with(front) && said.contains(text) && said.contains(usage)
+fn says(said: &[u8], front: &str, text: &str, usage: &str) -> bool {
+    match from_utf8(said) {
+        Ok(said) => said.starts_with(front) && said.contains(text) && said.contains(usage),
+        Err(_) => false,
+    }
+}
+
+// How a run on these words behind the program's name ends.
+fn ended_of<R: AllocGlobal + Threads + Wait + Sync>(
+    rt: &R,
+    alloc: Global,
+    words: &[&'static str],
+) -> Result<End, AllocError> {
+    let mut all = vec![in alloc; "/usr/bin/anything"]?;
+    all.extend_from_slice(words)?;
+    Ok(ended(rt, &MemoryFiles(&[]), &all))
+}
+
+fn is_mistake(ended: &End, text: &str, usage: &str) -> bool {
+    ended.status == 2 && ended.out.is_empty() && says(&ended.err, "error: ", text, usage)
+}
+
+fn expect_mistake(rt: &impl Abort, ended: &End, row: &Row) {
+    let (words, text, usage) = *row;
+    let said = shown(&ended.err);
+    assert!(rt; is_mistake(ended, text, usage), "{words:?}: {said}");
 }
 
 #[test]
-fn mistakes(rt: HostRuntime) -> Result<(), Fail> {
-    for (words, text, usage) in &MISTAKES {
-        let (status, out, err) = ended(&rt, &MemoryFiles(&[]), words)?;
-        assert!(rt; (status, out.as_str()) == (2, ""));
-        assert!(rt;
-            says(err.as_str(), "error: ", text, usage),
-            "{words:?}: {err}"
-        );
+fn mistakes(rt: HostRuntime) -> Result<(), AllocError> {
+    for row in &MISTAKES {
+        expect_mistake(&rt, &ended_of(&rt, rt.alloc(), row.0)?, row);
+    }
+    Ok(())
+}
+
+fn is_help(ended: &End, text: &str, usage: &str) -> bool {
+    ended.status == 0 && ended.err.is_empty() && says(&ended.out, "", text, usage)
+}
+
+fn expect_help(rt: &impl Abort, ended: &End, row: &Row) {
+    let (words, text, usage) = *row;
+    let said = shown(&ended.out);
+    assert!(rt; is_help(ended, text, usage), "{words:?}: {said}");
+}
+
+#[test]
+fn help(rt: HostRuntime) -> Result<(), AllocError> {
+    for row in &HELP {
+        expect_help(&rt, &ended_of(&rt, rt.alloc(), row.0)?, row);
     }
     Ok(())
 }
 
 #[test]
-fn help(rt: HostRuntime) -> Result<(), Fail> {
-    for (words, text, usage) in &HELP {
-        let (status, out, err) = ended(&rt, &MemoryFiles(&[]), words)?;
-        assert!(rt; (status, err.as_str()) == (0, ""));
-        assert!(rt; says(out.as_str(), "", text, usage), "{words:?}: {out}");
-    }
-    Ok(())
-}
-
-#[test]
-fn options_between_and_behind_blocks(rt: HostRuntime) -> Result<(), Fail> {
-    let block = empty_block(rt.alloc(), 0, b"")?;
+fn options_between_and_behind_blocks(rt: HostRuntime) {
+    let block = first_block();
     let files = [
         ("c", CHANNEL),
         ("k", KEYS),
         ("b", block.as_slice()),
         ("-x", b"".as_slice()),
     ];
-    let lines = format!(in rt.alloc(); "accepted 0 {HASH_0}\nrefused 2 C1 B1\n")?;
-    let rows: [&[&str]; 3] = [
-        &["run", "b", "--channel", "c", "--keys=k", "--", "-x"],
-        &["run", "--keys", "k", "--channel=c", "--", "b", "-x"],
-        &["run", "b", "--keys", "k", "c", "--channel", "c"],
+    let lines = "accepted 0 9cae6f5c10756febc407bba95fc23853774c1f65f10354895bfdab6443d66ed3\n\
+        refused 2 C1 B1\n";
+    let rows = [
+        [
+            "fabcommit",
+            "run",
+            "b",
+            "--channel",
+            "c",
+            "--keys=k",
+            "--",
+            "-x",
+        ],
+        [
+            "fabcommit",
+            "run",
+            "--keys",
+            "k",
+            "--channel=c",
+            "--",
+            "b",
+            "-x",
+        ],
+        [
+            "fabcommit",
+            "run",
+            "b",
+            "--keys",
+            "k",
+            "c",
+            "--channel",
+            "c",
+        ],
     ];
-    for words in rows {
-        expect(&rt, &files, words, 1, lines.as_str(), "")?;
+    for words in &rows {
+        expect(&rt, &MemoryFiles(&files), words, 1, lines, "");
     }
-    Ok(())
+}
+
+// Whether the program that has no words of this kind ends with this status and this beginning of what is wrong.
+fn is_told(rt: &impl AllocGlobal, kind: ErrorKind, status: u8, text: &str) -> bool {
+    let (mut out, mut err) = (Vec::new(rt.alloc()), Vec::new(rt.alloc()));
+    let error = io::Error::from(kind);
+    let got = without_words(rt, &error, &mut out, &mut err);
+    got == status && out.is_empty() && says(&err, text, "", "")
 }
 
 #[test]
-fn no_words(rt: HostRuntime) -> Result<(), Fail> {
+fn no_words(rt: HostRuntime) {
     let rows = [
         (
             ErrorKind::InvalidData,
@@ -269,13 +334,7 @@ fn no_words(rt: HostRuntime) -> Result<(), Fail> {
         ),
         (ErrorKind::OutOfMemory, 4, "out of memory\n"),
     ];
-    for (kind, want, text) in rows {
-        let (mut out, mut err) = (Vec::new(rt.alloc()), Vec::new(rt.alloc()));
-        let error = io::Error::from(kind);
-        let status = without_words(&rt, &error, &mut out, &mut err);
-        let err = from_utf8(&err)?;
-        assert!(rt; err.starts_with(text));
-        assert!(rt; (status, out.len()) == (want, 0));
+    for (kind, status, text) in rows {
+        assert!(rt; is_told(&rt, kind, status, text));
     }
-    Ok(())
 }

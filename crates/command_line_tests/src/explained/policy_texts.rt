@@ -1,10 +1,10 @@
 //! Policies that are written and can't be read, each with one that can just be.
 
-use crate::explained::{drafted, expect_reasons, of_block, of_script};
+use crate::explained::{drafted, expect_reasons_of, of_script};
+use crate::failed::Failed;
 use crate::fixture::CHANNEL;
 use crate::signatures::keys;
 use std::alloc::{AllocError, Global};
-use std::test::Fail;
 
 // A gate inside so many others less one.
 fn nested(alloc: Global, gates: usize) -> Result<String, AllocError> {
@@ -32,18 +32,31 @@ fn add(alloc: Global, script: &mut String, place: u8, text: &str) -> Result<(), 
     script.push_str(tx.as_str())
 }
 
+fn policy(alloc: Global, place: u8) -> Result<String, AllocError> {
+    match place {
+        0 => String::from_str(alloc, "AND('Org1.boss'"),
+        1 => String::from_str(alloc, "OutOf(0,'A.peer'"),
+        2 => String::from_str(alloc, "OutOf(0,'A.peer')"),
+        3 => String::from_str(alloc, "OutOf(3,'A.peer','B.peer')"),
+        4 => nested(alloc, 33),
+        5 => nested(alloc, 32),
+        6 => spaced(alloc, 4085),
+        7 => spaced(alloc, 4084),
+        8 => listed(alloc, 256),
+        _ => listed(alloc, 255),
+    }
+}
+
+fn add_policy(alloc: Global, script: &mut String, place: u8) -> Result<(), AllocError> {
+    let text = policy(alloc, place)?;
+    add(alloc, script, place, text.as_str())
+}
+
 fn script(alloc: Global) -> Result<String, AllocError> {
     let mut script = String::new(alloc);
-    add(alloc, &mut script, 0, "AND('Org1.boss'")?;
-    add(alloc, &mut script, 1, "OutOf(0,'A.peer'")?;
-    add(alloc, &mut script, 2, "OutOf(0,'A.peer')")?;
-    add(alloc, &mut script, 3, "OutOf(3,'A.peer','B.peer')")?;
-    add(alloc, &mut script, 4, nested(alloc, 33)?.as_str())?;
-    add(alloc, &mut script, 5, nested(alloc, 32)?.as_str())?;
-    add(alloc, &mut script, 6, spaced(alloc, 4085)?.as_str())?;
-    add(alloc, &mut script, 7, spaced(alloc, 4084)?.as_str())?;
-    add(alloc, &mut script, 8, listed(alloc, 256)?.as_str())?;
-    add(alloc, &mut script, 9, listed(alloc, 255)?.as_str())?;
+    for place in 0..10 {
+        add_policy(alloc, &mut script, place)?;
+    }
     Ok(script)
 }
 
@@ -60,10 +73,10 @@ const LINES: &str = "0 22 BAD_RWSET policy cc k0 role
 ";
 
 #[test]
-fn policies_that_cannot_be_read(rt: HostRuntime) -> Result<(), Fail> {
+fn policies_that_cannot_be_read(rt: HostRuntime) -> Result<(), Failed> {
     let script = script(rt.alloc())?;
     let files = of_script(CHANNEL, keys(), script.as_bytes());
     let block = drafted(&rt, &files, "draft s out")?;
-    let files = of_block(keys(), block.as_slice());
-    expect_reasons(&rt, &files, "explain b0", "block 0 ", LINES)
+    expect_reasons_of(&rt, block.as_slice(), "explain b0", LINES)?;
+    Ok(())
 }
