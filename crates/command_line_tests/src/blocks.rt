@@ -225,7 +225,7 @@ const AB: [u8; 32] = [
 // The header's hash is of that data hash.
 #[test]
 fn a_flag_for_each_transaction(rt: HostRuntime) {
-    let two: [u8; 55] = block(0, b"", &AB, b"\0\0\0\x02\0\0\0\x02ab\0\0\0\0");
+    let two: [u8; 59] = block(0, b"", &AB, b"\0\0\0\x02\0\0\0\x02ab\0\0\0\0");
     let files = [("c", CHANNEL), ("k", KEYS), ("b", two.as_slice())];
     let words = ["fabcommit", "run", "--channel", "c", "--keys", "k", "b"];
     let line = "accepted 0 a852b3f80de4474b202ef7be14c3aa53fdddcca389bbca2f6c702447fbab6e4a 2 2\n";
