@@ -28,7 +28,7 @@ use Rattle.reasons.specs.Reason.{flag_of, tx_at, OfTx, Explains, IsReason}
 use Rattle.explanations.specs.Found.{stale_in, IsFoundInSets}
 use Rattle.explanations.specs.Told.{is_told_by_state, IsTheReason}
 use Rattle.explanations.proofs.Conflicts.{stale_read_is_first, found_phantom}
-use Rattle.explanations.proofs.Inverted.{of_flag}
+use Rattle.transaction_reasons.proofs.Inverted.{of_flag}
 use Rattle.explanations.proofs.Places.{opened_at, flagged_at}
 
 -- a place has one reason

@@ -1,6 +1,5 @@
-pub mod Writers
-pub mod Touchers
 pub mod Differences
 pub mod Found
 pub mod Told
-pub mod Labels
+pub mod Touchers
+pub mod Writers

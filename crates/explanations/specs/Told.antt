@@ -1,23 +1,15 @@
--- Which reasons a transaction tells without the state, and which with it. No public contract cites this.
+-- Which reasons the state tells, and when what is told is the reason. No public contract cites this.
 use Rattle.std.specs.Prelude.{◌≡◌, ℕ, List, Bool, true, false, Option, Some}
 use Rattle.transaction.specs.declared.transaction.Tx.{Tx}
 use Rattle.policy_eval.specs.Accepts.{Accepts}
 use Rattle.channel.specs.Configuration.{Configuration}
 use Rattle.rules.specs.declared.flag.Flag.{Flag}
-use Rattle.rules.specs.declared.flag.Flag.TheVariants.{BadProposalTxId, DuplicateTxId, EndorsementPolicyFailure, MvccReadConflict, PhantomReadConflict, TargetChainNotFound, BadRwset, InvalidChaincode}
+use Rattle.rules.specs.declared.flag.Flag.TheVariants.{EndorsementPolicyFailure, MvccReadConflict, PhantomReadConflict}
 use Rattle.rules.specs.Job.{Job}
 use Rattle.rules.specs.Commit.{job_of}
 use Rattle.rules.specs.World.{World}
 use Rattle.reasons.specs.declared.reason.Reason.{Reason}
 use Rattle.reasons.specs.Reason.{flag_of, IsReason}
-
-abbrev pub is_told_by_tx : Flag → Bool
-is_told_by_tx BadProposalTxId = true
-is_told_by_tx DuplicateTxId = true
-is_told_by_tx TargetChainNotFound = true
-is_told_by_tx BadRwset = true
-is_told_by_tx InvalidChaincode = true
-is_told_by_tx _ = false
 
 abbrev pub is_told_by_state : Flag → Bool
 is_told_by_state EndorsementPolicyFailure = true

@@ -10,7 +10,6 @@ ghost use Rattle.reasons.specs.Endorsement.{touches, first_barred, IsEndorsement
 ghost use Rattle.serial_checks.specs.Shown.{Shows};
 
 use crate::touchers::first_toucher;
-use crate::written::written_keys;
 use endorsement_check::{governing, meets, own_policy};
 use key_chains::{Job, PlainBoard, StateKey};
 use policy::Policy;
@@ -18,6 +17,7 @@ use policy_eval::Signers;
 use reasons::{EndorsementFault, PolicyOwner, touched_keys_have_a_toucher};
 use std::alloc::{AllocError, Global};
 use transaction::{Identity, OwnedIdentity, Tx};
+use transaction_reasons::written_keys;
 use values::{Items, NameRef};
 
 fn owned(alloc: Global, identity: &Identity<'_>) -> Result<OwnedIdentity, AllocError>

@@ -10,13 +10,13 @@ ghost use Rattle.explanations.specs.Differences.{differs_at, is_ahead, least_whe
 ghost use Rattle.explanations.specs.Found.{IsFoundInRange, IsFoundFirst, IsFoundInSet, IsFoundInSets};
 ghost use Rattle.serial_checks.specs.Shown.{Shows};
 
-use crate::ranges_in_form::queried_range;
 use crate::versions::version_at;
 use key_chains::{Job, PlainBoard, StateKey};
 use mvcc::{compared_keys, is_compared, version_found};
 use reasons::PhantomKey;
 use std::alloc::{AllocError, Global};
 use transaction::{KeyVersion, NsSet, Range, Version};
+use transaction_reasons::queried_range;
 use values::{KeyRef, NameRef};
 
 /// The version of a key of the compared part.

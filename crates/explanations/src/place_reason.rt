@@ -10,10 +10,10 @@ ghost use Rattle.reasons.specs.declared.reason.Reason as reason_spec;
 ghost use Rattle.reasons.specs.Reason as spec;
 ghost use Rattle.reasons.specs.Reason.{tx_at, IsReason};
 ghost use Rattle.serial_checks.specs.Shown.{Shows};
-ghost use Rattle.explanations.specs.Told as told;
+ghost use Rattle.transaction_reasons.specs.Told.{is_told_by_tx};
+ghost use Rattle.explanations.specs.Told.{is_told_by_state};
 
 use crate::state_reasons::state_reason;
-use crate::tx_reasons::reason_in_bytes;
 use crate::verdicts::flag_of;
 use channel::Channel;
 use key_chains::{Job, PlainBoard};
@@ -21,10 +21,11 @@ use reasons::Reason;
 use rules::Flag;
 use std::alloc::{AllocError, Global};
 use transaction::TxId;
+use transaction_reasons::reason_in_bytes;
 use world::World;
 
 fn is_told_by_tx(flag: Flag) -> bool
-    ensures { result ≡ told.is_told_by_tx flag }
+    ensures { result ≡ is_told_by_tx flag }
 {
     matches!(
         flag,
@@ -37,7 +38,7 @@ fn is_told_by_tx(flag: Flag) -> bool
 }
 
 fn is_told_by_state(flag: Flag) -> bool
-    ensures { result ≡ told.is_told_by_state flag }
+    ensures { result ≡ is_told_by_state flag }
 {
     matches!(
         flag,
@@ -47,7 +48,7 @@ fn is_told_by_state(flag: Flag) -> bool
 
 /// The reason that says no more than the flag.
 fn bare_reason(flag: Flag) -> Option<Reason>
-    ensures { (r : reason_spec.Reason) → spec.flag_of r ≡ flag → told.is_told_by_tx flag ≡ false → told.is_told_by_state flag ≡ false → result ≡ Some r }
+    ensures { (r : reason_spec.Reason) → spec.flag_of r ≡ flag → is_told_by_tx flag ≡ false → is_told_by_state flag ≡ false → result ≡ Some r }
 {
     match flag {
         Flag::Valid => Some(Reason::NoFault),

@@ -4,7 +4,7 @@ use Rattle.rules.specs.Fold.{running}
 use Rattle.rules.specs.Reads.{read_holds}
 use Rattle.reasons.specs.Reads.{stale_read}
 use Rattle.explanations.specs.Found.{stale_in}
-use Rattle.explanations.proofs.FirstThere.{first_is}
+use Rattle.transaction_reasons.proofs.FirstThere.{first_is}
 use Rattle.explanations.proofs.stale_reads.read_conflict.Goals as goal
 
 pub returns-in-Some-clause-value : goal.returns-in-Some-clause-value

@@ -1,0 +1,13 @@
+-- Which reasons a transaction tells without the state.
+use Rattle.std.specs.Prelude.{Bool, true, false}
+use Rattle.rules.specs.declared.flag.Flag.{Flag}
+use Rattle.rules.specs.declared.flag.Flag.TheVariants.{BadProposalTxId, DuplicateTxId, TargetChainNotFound, BadRwset, InvalidChaincode}
+
+-- of these flags
+abbrev pub is_told_by_tx : Flag → Bool
+is_told_by_tx BadProposalTxId = true
+is_told_by_tx DuplicateTxId = true
+is_told_by_tx TargetChainNotFound = true
+is_told_by_tx BadRwset = true
+is_told_by_tx InvalidChaincode = true
+is_told_by_tx _ = false
