@@ -168,8 +168,8 @@ impl<'t, 'a> VerdictSeat<'t, 'a> {
     /// Tries to find a task's verdict and to store it for all workers. Task 2 i is the endorsement check of candidate i,
     /// and task 2 i + 1 its read check.
     ///
-    /// `Blocked` names a smaller task that it waits for, whose verdict was unknown when it was looked at last: the
-    /// endorsement check of the same candidate, or a check of the same kind that this one depends on. Takes no memory;
+    /// `Blocked` names a smaller task that it waits for, whose verdict this seat doesn't know: the endorsement check of
+    /// the same candidate, or a check of the same kind that this one depends on. Takes no memory;
     /// costs what the check costs.
     pub fn settle(&mut self, job: &Job<'_>, task: u32) -> Decision<()>
         requires job { self.old.job ≡ job.now }

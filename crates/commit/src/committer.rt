@@ -141,7 +141,7 @@ impl Committer {
         ))
     }
 
-    /// Ends it, and lets its handles go on with what was published.
+    /// Ends it, and waits for queries that have begun. Its handles get no entry from then on.
     pub fn close<R: Wait>(self, rt: &R) {
         let Committer {
             alloc: _,

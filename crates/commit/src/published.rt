@@ -145,7 +145,7 @@ impl Published {
         }
     }
 
-    /// Ends it, and lets its handles go on with what was published.
+    /// Ends it, and waits for queries that have begun. Its handles get no entry from then on.
     pub(crate) fn close<R: Wait>(self, rt: &R) {
         let Published {
             publisher,

@@ -20,7 +20,7 @@ use values::{Bytes, Shared};
 /// What a block changes, but for the ids that it uses.
 #[derive(Drop)]
 pub struct Effects {
-    /// One for each key that a valid transaction writes, in the keys' order, with what the key has behind all of them.
+    /// One for each key that some valid transaction writes, in the keys' order, with what the key has behind all of them.
     pub changes: Vec<Change>,
     /// One for each value write or delete of a valid transaction: transaction by transaction, and in each in the keys'
     /// order.

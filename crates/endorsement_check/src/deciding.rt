@@ -46,10 +46,12 @@ fn open_passes<B: Board>(
 
 /// Whether candidate i passes the endorsement rule; a flagged one doesn't.
 ///
-/// `Sure` where that is the same whatever the unknown endorsements before i will be. `Blocked(h)` where it isn't known
-/// yet: h is before i, writes the policy of a key that i writes, and whether h passes is unknown. Where all before i are
-/// known at the call, the answer is `Sure`. For each key that i writes, the cost is that of evaluating the policy that
-/// governs it, and of a look at the earlier candidates that write its policy, down to the newest that passed.
+/// `Sure` only with the answer that holds whatever the unknown endorsements before i will be. `Blocked(h)`: h is before
+/// i, writes the policy of a key that i writes, and whether h passes is unknown; the answer may be the same either way.
+/// Where all before i are known at the call, it is `Sure`.
+///
+/// For each key that i writes, the cost is that of evaluating the policy that governs it, and of a look at the earlier
+/// candidates that write its policy, down to the newest that passed.
 pub fn decide<B: Board>(job: &Job<'_>, i: u32, board: &mut B) -> Decision<bool>
     requires place { i < length job.now.candidates }
     requires board { B.count board.old ≡ length job.now.candidates }

@@ -12,7 +12,7 @@ use Rattle.rules.proofs.Bridge.{valid, state_under-valid}
 use Rattle.key_chains.specs.declared.plain_board.Cells.{Cells}
 use Rattle.key_chains.specs.Known.{valid_in}
 use Rattle.key_chains.specs.Cells.{known_of}
-use Rattle.serial_checks.specs.Shown.{Shows}
+use Rattle.key_chains.specs.Shown.{Shows}
 
 some_same : {X : Type 0} (o : Option X) (x y : X) → o ≡ Some x → o ≡ Some y → x ≡ y
 some_same None x y e f = absurd cc

@@ -7,7 +7,7 @@ ghost use Rattle.reasons.specs.declared.endorsement_fault.EndorsementFault as fa
 ghost use Rattle.reasons.specs.declared.endorsement_fault.EndorsementFault.TheVariants.{Touched, Unsatisfied};
 ghost use Rattle.reasons.specs.First.{first_below};
 ghost use Rattle.reasons.specs.Endorsement.{touches, first_barred, IsEndorsementFault};
-ghost use Rattle.serial_checks.specs.Shown.{Shows};
+ghost use Rattle.key_chains.specs.Shown.{Shows};
 
 use crate::touchers::first_toucher;
 use endorsement_check::{governing, meets, own_policy};

@@ -6,9 +6,9 @@ ghost use Rattle.std.specs.Ordering.{is_lt};
 ghost use Rattle.rules.specs.Fold.{running};
 ghost use Rattle.rules.specs.ReadWriteSets.{has_results_in_form, is_set_in_form};
 ghost use Rattle.reasons.specs.Ranges as spec;
+ghost use Rattle.key_chains.specs.Shown.{Shows};
 ghost use Rattle.explanations.specs.Differences.{differs_at, is_ahead, least_where};
 ghost use Rattle.explanations.specs.Found.{IsFoundInRange, IsFoundFirst, IsFoundInSet, IsFoundInSets};
-ghost use Rattle.serial_checks.specs.Shown.{Shows};
 
 use crate::versions::version_at;
 use key_chains::{Job, PlainBoard, StateKey};

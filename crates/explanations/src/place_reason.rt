@@ -9,7 +9,7 @@ ghost use Rattle.rules.specs.Commit.{job_of};
 ghost use Rattle.reasons.specs.declared.reason.Reason as reason_spec;
 ghost use Rattle.reasons.specs.Reason as spec;
 ghost use Rattle.reasons.specs.Reason.{tx_at, IsReason};
-ghost use Rattle.serial_checks.specs.Shown.{Shows};
+ghost use Rattle.key_chains.specs.Shown.{Shows};
 ghost use Rattle.transaction_reasons.specs.Told.{is_told_by_tx};
 ghost use Rattle.explanations.specs.Told.{is_told_by_state};
 

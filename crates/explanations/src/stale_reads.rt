@@ -4,8 +4,8 @@ ghost use Rattle.rules.specs.Fold.{running};
 ghost use Rattle.rules.specs.Reads.{read_holds};
 ghost use Rattle.reasons.specs.First.{first_there};
 ghost use Rattle.reasons.specs.Reads as spec;
+ghost use Rattle.key_chains.specs.Shown.{Shows};
 ghost use Rattle.explanations.specs.Found.{stale_in};
-ghost use Rattle.serial_checks.specs.Shown.{Shows};
 
 use crate::versions::version_at;
 use crate::writers::last_writer;

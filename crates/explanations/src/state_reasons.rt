@@ -3,7 +3,7 @@ ghost use Rattle.std.specs.Prelude.{◌≡◌, ◌<◌, IsTrue, length, option_m
 ghost use Rattle.reasons.specs.declared.reason.Reason.TheVariants.{NotEndorsed, ReadConflict, PhantomConflict};
 ghost use Rattle.rules.specs.declared.flag.Flag.TheVariants.{EndorsementPolicyFailure, MvccReadConflict, PhantomReadConflict};
 ghost use Rattle.key_chains.specs.Job.{IsOpened};
-ghost use Rattle.serial_checks.specs.Shown.{Shows};
+ghost use Rattle.key_chains.specs.Shown.{Shows};
 ghost use Rattle.explanations.specs.Told.{is_told_by_state, IsTheReason};
 
 use crate::endorsement::endorsement_fault;

@@ -2,7 +2,7 @@
 ghost use Rattle.std.specs.Prelude.{◌≡◌, ◌≤◌, length};
 ghost use Rattle.reasons.specs.First.{first_below};
 ghost use Rattle.reasons.specs.Endorsement.{touches};
-ghost use Rattle.serial_checks.specs.Shown.{Shows};
+ghost use Rattle.key_chains.specs.Shown.{Shows};
 
 use crate::verdicts::has_passed;
 use key_chains::{Job, PlainBoard, StateKey};

@@ -1,7 +1,7 @@
 //! The known verdicts of one candidate.
 ghost use Rattle.std.specs.Prelude.{◌≡◌, ◌<◌, length};
 ghost use Rattle.rules.specs.Fold.{endorsed, flag};
-ghost use Rattle.serial_checks.specs.Shown.{Shows};
+ghost use Rattle.key_chains.specs.Shown.{Shows};
 
 use key_chains::{Job, PlainBoard};
 use rules::Flag;

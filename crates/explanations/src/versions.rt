@@ -2,7 +2,7 @@
 ghost use Rattle.std.specs.Prelude.{◌≡◌, ◌≤◌, length};
 ghost use Rattle.rules.specs.State.{version_in};
 ghost use Rattle.rules.specs.Fold.{running};
-ghost use Rattle.serial_checks.specs.Shown.{Shows};
+ghost use Rattle.key_chains.specs.Shown.{Shows};
 
 use key_chains::{Decision, Job, PlainBoard, StateKey};
 use transaction::Version;

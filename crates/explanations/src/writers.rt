@@ -5,7 +5,7 @@ ghost use Rattle.rules.specs.Flags.{is_valid};
 ghost use Rattle.rules.specs.Fold.{running, flag};
 ghost use Rattle.reasons.specs.First.{last_below};
 ghost use Rattle.reasons.specs.Reads.{writes_row};
-ghost use Rattle.serial_checks.specs.Shown.{Shows};
+ghost use Rattle.key_chains.specs.Shown.{Shows};
 ghost use Rattle.explanations.specs.Writers.{is_policy, sets, last_setter};
 
 use crate::verdicts::flag_of;

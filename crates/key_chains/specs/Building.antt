@@ -1,7 +1,9 @@
 -- The chains of a block on the way: behind the candidates before one, and the first of the keys that it writes. No public
 -- contract cites this.
-use Rattle.std.specs.Prelude.{◌≡◌, ℕ, zero, suc, List, [], ◌∷◌, ◌++◌, length, map, flat_map, take, Option, Some, None, if◌then◌else◌, All}
-use Rattle.rules.specs.State.{StateKey, is_among}
+use Rattle.std.specs.Prelude.{◌≡◌, ℕ, zero, suc, Bool, List, [], ◌∷◌, ◌++◌, length, map, flat_map, take, Option, Some, None, if◌then◌else◌, All}
+use Rattle.std.specs.Ordering.{is_lt, is_le}
+use Rattle.values.specs.Order.{bytes_cmp}
+use Rattle.rules.specs.State.{StateKey, key_cmp, is_among}
 use Rattle.rules.specs.Candidate.{Candidate}
 use Rattle.candidates.specs.Written.{keys_in_order}
 use Rattle.key_chains.specs.declared.operation.Operation.{Operation}
@@ -14,6 +16,11 @@ use Rattle.key_chains.specs.Job.{read_by, written_by}
 -- the keys that a block writes, in order, each once
 abbrev pub block_keys : List Candidate → List StateKey
 block_keys cs = keys_in_order (flat_map written_by cs)
+
+-- the key stands before an end in a namespace, an empty end being that of the namespace
+abbrev pub stands_below : List ℕ → List ℕ → StateKey → Bool
+stands_below namespace [] k = is_le (bytes_cmp k.0 namespace)
+stands_below namespace (b ∷ bs) k = is_lt (key_cmp k (namespace, b ∷ bs))
 
 -- ---- lists of keys
 

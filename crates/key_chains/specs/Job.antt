@@ -1,5 +1,6 @@
 -- What the calls of a job speak of.
-use Rattle.std.specs.Prelude.{◌≡◌, ℕ, List, [], map, flat_map}
+use Rattle.std.specs.Prelude.{◌≡◌, ℕ, List, [], ◌&&◌, Bool, map, filter, flat_map}
+use Rattle.std.specs.Str.{bytes_eq}
 use Rattle.transaction.specs.declared.identity.Identity.{Identity}
 use Rattle.transaction.specs.declared.transaction.Tx.{Tx}
 use Rattle.rules.specs.declared.flag.Flag.{Flag}
@@ -34,3 +35,7 @@ written_by c = keys_in_order (operated_by c)
 -- the keys that the block writes, in their order, each once
 abbrev pub keys_of : Job → List StateKey
 keys_of j = keys_in_order (flat_map written_by j.candidates)
+
+-- of these keys, those of a namespace that pass a test
+abbrev pub keys_where : List StateKey → List ℕ → (List ℕ → Bool) → List StateKey
+keys_where ks namespace test = filter (λ k. bytes_eq namespace k.0 && test k.1) ks

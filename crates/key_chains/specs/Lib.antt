@@ -12,3 +12,4 @@ pub mod Built
 pub mod Older
 pub mod Cells
 pub mod WrittenRows
+pub mod Shown

@@ -5,7 +5,7 @@ ghost use Rattle.block.specs.Limits.{max_txs};
 ghost use Rattle.rules.specs.State.{StateKey, is_among};
 ghost use Rattle.rules.specs.Ranges.{is_within, rows_where};
 ghost use Rattle.rules.specs.Job.{candidate_at};
-ghost use Rattle.key_chains.specs.Job.{IsOpened, IsOpen, IsFlagged, read_by, written_by, keys_of};
+ghost use Rattle.key_chains.specs.Job.{IsOpened, IsOpen, IsFlagged, read_by, written_by, keys_of, keys_where};
 ghost use Rattle.rules.specs.Candidate.{flagged};
 ghost use Rattle.candidates.specs.Seen.{seen};
 ghost use Rattle.key_chains.specs.Operations.{operations};
@@ -230,7 +230,8 @@ impl<'a> Job<'a> {
         start: &BoundRef<'_>,
         end: &BoundRef<'_>,
     ) -> &[StateKey<'a>]
-        ensures { (k : StateKey) (i : ℕ) → k.0 ≡ namespace.now → IsTrue (is_within start.now end.now k.1) → operations self.now.candidates k i ≢ [] → IsTrue (is_among k result.now) }
+        ensures keys { result.now ≡ keys_where (keys_of self.now) namespace.now (is_within start.now end.now) }
+        ensures operated { (k : StateKey) (i : ℕ) → k.0 ≡ namespace.now → IsTrue (is_within start.now end.now k.1) → operations self.now.candidates k i ≢ [] → IsTrue (is_among k result.now) }
     {
         self.chains.keys.between(namespace, start, end)
     }

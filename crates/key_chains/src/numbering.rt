@@ -1,12 +1,13 @@
 //! The keys that a block writes, numbered.
-ghost use Rattle.std.specs.Prelude.{◌≡◌, ◌<◌, ◌≤◌, ◌^◌, ℕ, true, false, length, IfOk, IfSome, IsTrue, slice_index_or};
+ghost use Rattle.std.specs.Prelude.{◌≡◌, ◌<◌, ◌≤◌, ◌^◌, true, false, length, IfOk, IfSome};
 ghost use Rattle.std.specs.List.Sorted.{IsStrictlySortedBy, IsPartitionPoint};
-ghost use Rattle.rules.specs.State as state;
-ghost use Rattle.rules.specs.State.{is_among, key_cmp};
+ghost use Rattle.rules.specs.State.{key_cmp};
 ghost use Rattle.std.specs.Ordering.{is_lt, is_le};
 ghost use Rattle.values.specs.Order.{bytes_cmp};
-ghost use Rattle.rules.specs.Ranges.{is_within, is_below};
+ghost use Rattle.rules.specs.Ranges.{is_within};
 ghost use Rattle.candidates.specs.Written.{keys_in_order};
+ghost use Rattle.key_chains.specs.Job.{keys_where};
+ghost use Rattle.key_chains.specs.Building.{stands_below};
 ghost use Rattle.key_chains.specs.Numbers.{number_in};
 
 use candidates::{StateKey, keys_in_order};
@@ -93,7 +94,7 @@ fn count_through(keys: &[StateKey<'_>], namespace: &NameRef<'_>) -> usize
 fn count_below(keys: &[StateKey<'_>], namespace: &NameRef<'_>, end: &[u8]) -> usize
     requires { IsStrictlySortedBy key_cmp keys.now }
     ensures bound { result ≤ length keys.now }
-    ensures below { (n : ℕ) (d : state.StateKey) → n < length keys.now → (slice_index_or keys.now n d).0 ≡ namespace.now → IsTrue (is_below (slice_index_or keys.now n d).1 end.now) → n < result }
+    ensures point { IsPartitionPoint (λ k. stands_below namespace.now end.now k ≡ true) (λ k. stands_below namespace.now end.now k ≡ false) keys.now result }
 {
     if end.is_empty() {
         count_through(keys, namespace)
@@ -138,7 +139,7 @@ impl<'a> Numbering<'a> {
         start: &BoundRef<'_>,
         end: &BoundRef<'_>,
     ) -> &[StateKey<'a>]
-        ensures { (k : state.StateKey) → k.0 ≡ namespace.now → IsTrue (is_within start.now end.now k.1) → IsTrue (is_among k self.now) → IsTrue (is_among k result.now) }
+        ensures { result.now ≡ keys_where self.now namespace.now (is_within start.now end.now) }
     {
         let keys = self.keys.as_slice();
         let high = count_below(keys, namespace, end.as_slice());

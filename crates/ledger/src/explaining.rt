@@ -4,7 +4,7 @@ ghost use Rattle.block.specs.Limits.{max_txs};
 ghost use Rattle.transaction.specs.Decoded.{tx_of};
 ghost use Rattle.rules.specs.declared.answer.Refused.TheVariants.{Memory};
 ghost use Rattle.rules.specs.Linked.{IsRefused};
-ghost use Rattle.serial_checks.specs.Shown.{Shows};
+ghost use Rattle.key_chains.specs.Shown.{Shows};
 ghost use Rattle.ledger.specs.NextReasons.{AreNextReasons, AreFound};
 
 use crate::next_delta::job_of;

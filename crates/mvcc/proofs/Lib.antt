@@ -2,6 +2,7 @@ pub mod Agreeing
 pub mod ByOperations
 pub mod Walking
 pub mod SureVersions
+mod Beyond
 pub mod EachTested
 pub mod LookedAt
 pub mod NumberedReads

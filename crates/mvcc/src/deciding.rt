@@ -78,9 +78,9 @@ fn sets_verdict<B: Board>(
 
 /// What the reads and ranges of candidate i find first; of a flagged one that all is good.
 ///
-/// `Sure` where that is the same whatever the unknown flags before i will be. `Blocked(h)` where it isn't known yet: h is
-/// before i, writes a key that i looks at, and its flag is unknown. Where all before i are known at the call, the answer
-/// is `Sure`.
+/// `Sure` only with the answer that holds whatever the unknown flags before i will be. `Blocked(h)`: h is before i,
+/// writes a key that i looks at, and its flag is unknown; the answer may be the same either way. Where all before i are
+/// known at the call, it is `Sure`.
 ///
 /// Namespaces go in order, and in each the reads before the ranges. A read costs a walk over the operations on its key
 /// before i, and a look-up of its row where they leave the version open. A range costs the same and a search for the

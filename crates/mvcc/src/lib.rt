@@ -1,6 +1,6 @@
 //! The read check of one candidate, from what is known of the earlier ones' flags: walks over the operations on keys.
 //!
-//! No call takes memory, and none waits: where a flag that it needs is unknown, it says whose.
+//! No check takes memory, and none waits: where a flag that it needs is unknown, it says whose.
 #![tactic(auto)]
 
 mod bounds;

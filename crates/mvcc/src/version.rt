@@ -46,10 +46,11 @@ pub(crate) fn version_over<B: Board>(
     }
 }
 
-/// The version that a key has once the valid candidates before i are applied in order, or none where it is absent then.
+/// The version that a key has once the valid candidates before i are applied in order, or none where it is absent then. From
+/// the number of candidates on, that is the version behind the block.
 ///
-/// `Sure` where that is the same whatever the unknown flags before i will be. `Blocked(h)` where it isn't known yet: h is
-/// before i, writes the key, and its flag is unknown. Where all before i are known at the call, the answer is `Sure`. The
+/// `Sure` only with the version that holds whatever the unknown flags before i will be. `Blocked(h)`: h is before i,
+/// writes the key, and its flag is unknown. Where all before i are known at the call, the answer is `Sure`. The
 /// search for the key's operations and, where they leave it open, for its row before the block is logarithmic; beside
 /// that the cost is linear in the operations down to the newest that counts and writes or deletes the value.
 pub fn version_at<B: Board>(
@@ -58,8 +59,7 @@ pub fn version_at<B: Board>(
     key: &StateKey<'_>,
     board: &mut B,
 ) -> Decision<Option<Version>>
-    requires place { i ≤ length job.now.candidates }
-    requires board { B.count board.old ≡ length job.now.candidates }
+    requires { B.count board.old ≡ length job.now.candidates }
     ensures moves { B.moves board.old board.new }
     ensures grows { Grows (B.known board.old) (B.known board.new) }
     ensures decision { MatchDecision result
@@ -67,5 +67,6 @@ pub fn version_at<B: Board>(
         (λ h. VersionDepends job.now key.now i h × ((B.known board.new).flag h ≡ None)) }
     ensures decided { ((h : ℕ) → h < i → IsSome ((B.known board.old).flag h)) → MatchDecision result (λ _. Unit {0}) (λ _. ⊥) }
 {
+    let i = i.min(job.len());
     version_over(job, i, key, job.operations_before(i, key), board)
 }

@@ -1,5 +1,5 @@
--- What is known of a publisher, of a handle and of a receipt: each knows a beginning of one list, that of the deltas which
--- were published.
+-- What is known of a publisher, of a handle and of a receipt: each knows a beginning of one list of deltas. That this list is
+-- what was published is the rule of what readers take (Rule.antt): what is shown is the world after its list, at each step.
 use Rattle.std.specs.Prelude.{◌≡◌, Bool, List, [], ◌∷◌, fold}
 use mathlib.Core.List.{IsPrefix}
 use Rattle.logbook.specs.Pages.{Book}

@@ -46,8 +46,8 @@ pub fn named_policies_are_not_satisfied()
         → IsReason channel accepts w txs i (NotEndorsed (ChaincodeUnsatisfied chaincode policy signers)) → is_satisfied policy signers ≡ false }
 {}
 
-/// A law, and no work: what a read that doesn't hold finds is what the writer that the reason names left there; where it
-/// names none, it is what was there before the block.
+/// A law, and no work: where the key of a read that doesn't hold is there, its version is that of the writer that the
+/// reason names; where it names none, what is there is what was there before the block.
 pub fn named_writers_left_what_is_there()
     ensures written { (channel : Configuration) (accepts : Accepts) (w : World) (txs : List (Option Tx)) (i h : ℕ) (read : StaleRead)
         → IsReason channel accepts w txs i (ReadConflict read) → read.writer ≡ Some h → IfSome read.there (λ v. v ≡ record { block = height_of w; tx = h }) }

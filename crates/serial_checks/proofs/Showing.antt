@@ -14,7 +14,7 @@ use Rattle.rules.proofs.Bridge.{valid, endorsement_under-endorsed, reads_under-v
 use Rattle.key_chains.specs.declared.plain_board.Cells.{Cells}
 use Rattle.key_chains.specs.Known.{Known, valid_in}
 use Rattle.key_chains.specs.Cells.{no_cells, cells_at, known_of}
-use Rattle.serial_checks.specs.Shown.{ShowsBefore}
+use Rattle.key_chains.specs.Shown.{ShowsBefore}
 
 some_same : {X : Type 0} (o : Option X) (x y : X) → o ≡ Some x → o ≡ Some y → x ≡ y
 some_same None x y e f = absurd cc

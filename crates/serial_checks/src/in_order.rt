@@ -2,7 +2,7 @@ ghost use Rattle.std.specs.Prelude.{◌≡◌, ◌<◌, suc, length, IfOk};
 ghost use Rattle.rules.specs.Job as rule;
 ghost use Rattle.rules.specs.Fold as fold;
 ghost use Rattle.key_chains.specs.Cells.{known_of};
-ghost use Rattle.serial_checks.specs.Shown.{ShowsBefore, Shows};
+ghost use Rattle.key_chains.specs.Shown.{ShowsBefore, Shows};
 
 use key_chains::{Cells, Decision, Job, PlainBoard};
 use rules::{Flag, ReadVerdict};

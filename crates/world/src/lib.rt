@@ -1,5 +1,5 @@
 //! What a ledger holds: its state, the history of each key, the first use of each id, its blocks. A block's delta is
-//! applied at the cost of the delta, whatever the ledger's length.
+//! applied at the cost of the delta and of a search for each key and id that it has, which is logarithmic in what is there.
 #![tactic(auto)]
 
 mod deltas;

@@ -2,7 +2,7 @@ use Rattle.std.proofs.Common.{◌≡◌, length, map}
 use Rattle.std.specs.List.{range_with_len}
 use Rattle.rules.specs.Fold.{flag}
 use Rattle.key_chains.specs.Cells.{known_of}
-use Rattle.serial_checks.specs.Shown.{ShowsBefore}
+use Rattle.key_chains.specs.Shown.{ShowsBefore}
 use Rattle.serial_checks.proofs.in_order.verdicts.Given as goal
 
 abbrev pub invariant-loop-i : goal.invariant-loop-i

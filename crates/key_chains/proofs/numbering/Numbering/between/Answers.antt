@@ -1,13 +1,14 @@
-use Rattle.std.proofs.Common.{ℕ, List, sym, subst, arith, ◌∙◌}
-use Rattle.std.specs.Prelude.{IsTrue}
-use Rattle.rules.specs.State.{StateKey, is_among}
+use Rattle.std.proofs.Common.{◌≡◌, ◌-◌, ℕ, List, take, drop, sym, ap, arith, ◌∙◌}
+use Rattle.rules.specs.State.{StateKey}
 use Rattle.rules.specs.Ranges.{is_within}
-use Rattle.key_chains.proofs.Bounds.{among_between}
+use Rattle.key_chains.specs.Job.{keys_where}
+use Rattle.key_chains.proofs.Bounds.{between_points}
 use Rattle.key_chains.proofs.numbering.Numbering.between.Goals as goal
 
 pub returns : goal.returns
-returns c k same within among =
-    among_between c.as_slice-keys.result.now k c.args.namespace.now c.as_slice-2.result.now c.as_slice.result.now c.min.result c.count_below-high.result c.count_before-low.result same
-    (subst (λ (start : List ℕ). IsTrue (is_within start c.as_slice.result.now k.1)) (sym c.as_slice-2.ensures.value) (subst (λ (end : List ℕ). IsTrue (is_within c.args.start.now end k.1)) (sym c.as_slice.ensures.value) within))
-    (subst (λ (ks : List StateKey). IsTrue (is_among k ks)) (sym (c.as_slice-keys.ensures.value ∙ c.self.view_is)) among)
-    c.count_before-low.ensures.point (omega (arith, c.min.ensures)) c.count_below-high.ensures.below
+returns c =
+    between_points c.as_slice-keys.result.now c.args.namespace.now c.as_slice-2.result.now c.as_slice.result.now c.count_before-low.result c.min.result c.count_below-high.result
+    c.count_before-low.ensures.point c.count_below-high.ensures.point c.min.ensures
+    ∙ ap (λ (start : List ℕ). keys_where c.as_slice-keys.result.now c.args.namespace.now (is_within start c.as_slice.result.now)) c.as_slice-2.ensures.value
+    ∙ ap (λ (end : List ℕ). keys_where c.as_slice-keys.result.now c.args.namespace.now (is_within c.args.start.now end)) c.as_slice.ensures.value
+    ∙ ap (λ (ks : List StateKey). keys_where ks c.args.namespace.now (is_within c.args.start.now c.args.end.now)) (c.as_slice-keys.ensures.value ∙ c.self.view_is)
