@@ -1,12 +1,11 @@
 //! Blocks handed in to a committer, some at a time, and a line for each.
 ghost use Rattle.std.specs.Prelude.{◌≡◌, All, IfOk, IfSome};
 
-use crate::fault::Fault;
 use crate::lines::write_answer;
-use crate::status::ACCEPTED;
 use commit::{Committer, NotCommitted, Receipt};
 use gates::Open;
 use key_book::KeyBook;
+use ledger_commands::{ACCEPTED, Fault};
 use std::alloc::{AllocError, Global};
 use std::io::Write;
 use std::sync::Wait;

@@ -1,9 +1,7 @@
-use crate::fault::Fault;
-use crate::files::Files;
 use crate::performing::perform;
-use crate::status::{ACCEPTED, USAGE};
 use clap::error::ErrorKind;
 use command_words::{Asked, not_text};
+use ledger_commands::{ACCEPTED, Fault, Files, USAGE};
 use std::alloc::Global;
 use std::convert::AsStr;
 use std::io;

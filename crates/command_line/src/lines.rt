@@ -1,16 +1,15 @@
-//! The lines for blocks, and how lines are written.
+//! The lines for blocks.
 
 ghost use Rattle.std.specs.Prelude.{◌≡◌, ◌↔◌, ◌⊎◌, IsErr};
 ghost use Rattle.block.specs.declared.fault.BlockFault.TheVariants as block_fault;
 ghost use Rattle.commit.specs.declared.not_committed.NotCommitted.TheVariants as not_committed;
 ghost use Rattle.rules.specs.declared.answer.Refused.TheVariants as refused_as;
 
-use crate::fault::Fault;
-use crate::status::{ACCEPTED, REFUSED};
 use answer_lines::{Refusal, write_accepted};
 use commit::{NotCommitted, Receipt};
+use ledger_commands::{ACCEPTED, Fault, REFUSED};
 use std::alloc::{AllocError, Global};
-use std::io::{BufWriter, Write};
+use std::io::Write;
 
 /// The refusal, unless it is want of memory, for which alone a committer stops.
 fn refusal_of(why: NotCommitted) -> Result<Refusal, AllocError>
@@ -46,20 +45,4 @@ pub fn write_answer<'a, W: Write>(
             Ok(REFUSED)
         }
     }
-}
-
-/// Ends lines that were written through a buffer: what is left in it is written, unless a write has
-/// failed. Behind a failed write nothing is written.
-pub(crate) fn finish<'a, T: Drop, W: Write + Drop>(
-    mut lines: BufWriter<W>,
-    ended: Result<T, Fault<'a>>,
-) -> Result<T, Fault<'a>> {
-    let written = match ended {
-        Err(Fault::Output) => Ok(()),
-        _ => lines.flush(),
-    };
-    // To drop the buffer would write what a failed write left in it.
-    let (_, _) = lines.into_parts();
-    written?;
-    ended
 }

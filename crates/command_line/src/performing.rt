@@ -1,12 +1,8 @@
-use crate::draft::draft_block;
-use crate::explain::print_reasons;
-use crate::fault::Fault;
-use crate::files::Files;
-use crate::get::print_row;
-use crate::history::print_history;
 use crate::run::run_blocks;
-use crate::scan::print_rows;
 use command_words::Asked;
+use ledger_commands::{
+    Fault, Files, draft_block, print_history, print_reasons, print_row, print_rows,
+};
 use std::io::Write;
 use std::sync::Wait;
 use std::thread::Threads;

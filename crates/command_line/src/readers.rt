@@ -1,8 +1,8 @@
 //! Readers: threads that query while blocks are handed in.
 ghost use Rattle.std.specs.Prelude.{◌≡◌, All, IfOk, IfSome};
 
-use crate::fault::Fault;
 use commit::{Committer, QueryFault, QueryHandle, Receipt};
+use ledger_commands::Fault;
 use std::alloc::{AllocError, Global};
 use std::io::Write;
 use std::snapshot::Snapshot;

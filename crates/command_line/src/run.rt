@@ -1,15 +1,12 @@
 ghost use Rattle.std.specs.Prelude.{◌≡◌, All, IfOk, IfSome};
 
 use crate::committing::{Committed, commit_each};
-use crate::fault::Fault;
-use crate::files::Files;
-use crate::inputs::{Configuration, Inputs};
-use crate::lines::finish;
 use crate::readers::{Reader, start, write_heights};
 use channel::Channel;
 use command_words::{Parallelism, Run};
 use commit::{Committer, OpenFault, QueryHandle};
 use key_book::KeyBook;
+use ledger_commands::{Configuration, Fault, Files, Inputs, finish};
 use std::alloc::{AllocError, Global};
 use std::io::{BufWriter, Write};
 use std::sync::Wait;

@@ -84,7 +84,7 @@ fn rows_of<'a>(alloc: Global, words: &Scan<'a>) -> Result<RowsOf, Fault<'a>> {
 
 /// Reads the bounds and the files, hands the blocks in, and writes the rows as they are met. Beside
 /// what the blocks take, the memory is the bounds, a policy's text and a buffer of a fixed size.
-pub(crate) fn print_rows<'a, F: Files, W: Write>(
+pub fn print_rows<'a, F: Files, W: Write>(
     alloc: Global,
     files: &F,
     words: &Scan<'a>,

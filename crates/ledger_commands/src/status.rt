@@ -1,13 +1,13 @@
 //! What the process ends with.
 
 /// Every block was accepted, a block was drafted, or help was asked for.
-pub(crate) const ACCEPTED: u8 = 0;
+pub const ACCEPTED: u8 = 0;
 
 /// A block was refused.
-pub(crate) const REFUSED: u8 = 1;
+pub const REFUSED: u8 = 1;
 
 /// The words are no command.
-pub(crate) const USAGE: u8 = 2;
+pub const USAGE: u8 = 2;
 
 /// A file or standard output is at fault.
 pub(crate) const FILE_FAULT: u8 = 3;

@@ -28,7 +28,7 @@ impl Question for RowOf {
 
 /// Reads the key and the files, hands the blocks in, and writes the row. Beside what the blocks
 /// take, the memory is the key, its policy's text and a buffer of a fixed size.
-pub(crate) fn print_row<'a, F: Files, W: Write>(
+pub fn print_row<'a, F: Files, W: Write>(
     alloc: Global,
     files: &F,
     words: &KeyedQuery<'a>,

@@ -10,16 +10,16 @@ use values::Bytes;
 
 /// What each subcommand begins with.
 #[derive(Drop)]
-pub(crate) struct Configuration {
-    pub(crate) channel: Channel,
-    pub(crate) keys: KeyBook,
+pub struct Configuration {
+    pub channel: Channel,
+    pub keys: KeyBook,
 }
 
 /// What a ledger is made of.
 #[derive(Drop)]
-pub(crate) struct Inputs {
-    pub(crate) configuration: Configuration,
-    pub(crate) blocks: Vec<Bytes>,
+pub struct Inputs {
+    pub configuration: Configuration,
+    pub blocks: Vec<Bytes>,
 }
 
 pub(crate) fn read_file<'a, F: Files>(
@@ -66,7 +66,7 @@ impl Configuration {
 
 impl Inputs {
     /// Reads the channel, the keys and the blocks. The memory is linear in the files' bytes.
-    pub(crate) fn read<'a, F: Files>(
+    pub fn read<'a, F: Files>(
         alloc: Global,
         files: &F,
         paths: &LedgerPaths<'a>,

@@ -27,7 +27,7 @@ impl Question for HistoryOf {
 
 /// Reads the key and the files, hands the blocks in, and writes the entries as they are met.
 /// Beside what the blocks take, the memory is the key and a buffer of a fixed size.
-pub(crate) fn print_history<'a, F: Files, W: Write>(
+pub fn print_history<'a, F: Files, W: Write>(
     alloc: Global,
     files: &F,
     words: &KeyedQuery<'a>,

@@ -65,7 +65,7 @@ fn block<'a, F: Files>(alloc: Global, files: &F, words: &Draft<'a>) -> Result<By
 
 /// Reads the files, and writes the block that the script drafts. Nothing is written where there is
 /// a fault before. The memory is linear in the files' bytes and the block.
-pub(crate) fn draft_block<'a, F: Files>(
+pub fn draft_block<'a, F: Files>(
     alloc: Global,
     files: &F,
     words: &Draft<'a>,

@@ -1,15 +1,17 @@
+use crate::buffered::finish;
 use crate::fault::Fault;
 use crate::files::Files;
 use crate::inputs::{Configuration, Inputs};
-use crate::lines::finish;
 use crate::question::hand_in;
 use crate::status::REFUSED;
 use answer_lines::{Refusal, write_block, write_reason};
 use block::{Header, decode_block};
 use command_words::Explain;
-use commit::{Ledger, Reason, Refused};
 use header_hash::header_hash;
 use key_book::KeyBook;
+use ledger::Ledger;
+use reasons::Reason;
+use rules::Refused;
 use std::alloc::Global;
 use std::io::{BufWriter, Write};
 
@@ -103,7 +105,7 @@ fn explain_last<'a, W: Write>(
 
 /// Reads the files, hands all blocks but the last in, and writes the last one's lines. The memory is that of `run`,
 /// with the reasons, and a buffer of a fixed size.
-pub(crate) fn print_reasons<'a, F: Files, W: Write>(
+pub fn print_reasons<'a, F: Files, W: Write>(
     alloc: Global,
     files: &F,
     words: &Explain<'a>,

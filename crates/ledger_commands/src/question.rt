@@ -1,12 +1,12 @@
+use crate::buffered::finish;
 use crate::fault::Fault;
 use crate::files::Files;
 use crate::inputs::{Configuration, Inputs};
-use crate::lines::finish;
 use crate::status::{ACCEPTED, REFUSED};
 use answer_lines::{Refusal, write_height};
 use command_words::LedgerPaths;
-use commit::Ledger;
 use key_book::KeyBook;
+use ledger::Ledger;
 use std::alloc::Global;
 use std::io::{BufWriter, Write};
 use values::Bytes;

@@ -1,0 +1,26 @@
+//! The subcommands that one thread does: they draft a block, or ask the ledger behind some blocks. And what all
+//! subcommands have: files, faults, and what the process ends with.
+#![tactic(auto)]
+
+mod buffered;
+mod draft;
+mod explain;
+mod fault;
+mod files;
+mod get;
+mod history;
+mod inputs;
+mod question;
+mod scan;
+mod status;
+
+pub use buffered::finish;
+pub use draft::draft_block;
+pub use explain::print_reasons;
+pub use fault::Fault;
+pub use files::{DiskFiles, FileFault, Files};
+pub use get::print_row;
+pub use history::print_history;
+pub use inputs::{Configuration, Inputs};
+pub use scan::print_rows;
+pub use status::{ACCEPTED, REFUSED, USAGE};
