@@ -80,7 +80,10 @@ pub(crate) fn take_in_next<'b, R: Threads + Sync, V: Verify + Sync, G: Gate + Sy
         gate,
         &mut || (),
     );
-    ahead.next(alloc)
+    match ahead.next(alloc) {
+        Some(prepared) => prepared,
+        None => Err(Refused::Memory),
+    }
 }
 
 /// Whether the block is the next one of the world, of which this is the data hash.

@@ -116,7 +116,8 @@ impl Committer {
     ///
     /// While the calling thread commits blocks, the other workers take in those behind them, so that many blocks are done
     /// sooner than by as many calls of `submit`. What was taken in of a block that isn't the next one goes for nothing. Beside
-    /// the answers it takes memory for what waits: some 8 MiB of blocks, and what was taken in of them.
+    /// the answers it takes memory for what waits: some 8 MiB of blocks, and what was taken in of them. Where that is refused,
+    /// these blocks are taken in once more, one by one.
     pub fn run<R: Threads + Wait + Sync, V: Verify + Sync, G: Gate + Sync>(
         &mut self,
         rt: &R,

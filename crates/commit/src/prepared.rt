@@ -1,6 +1,5 @@
 //! Blocks that were taken in, whatever the world before them.
-ghost use Rattle.std.specs.Prelude.{◌≡◌, ◌∷◌, [], ℕ, List, take, drop, Err, IfOk, IfSome, OnSome};
-ghost use Rattle.rules.specs.declared.answer.Refused.TheVariants.{Memory};
+ghost use Rattle.std.specs.Prelude.{◌≡◌, ◌∷◌, [], ℕ, List, take, drop, None, IfOk, IfSome, OnSome};
 ghost use Rattle.std.specs.Vec.Iter.{into_iter_items};
 ghost use Rattle.channel.specs.Configuration.{Configuration};
 ghost use Rattle.intake_workers.specs.Pieces.{all_taken};
@@ -86,17 +85,17 @@ impl<'b> Ahead<'b> {
     }
 
     /// Drops what waits.
-    fn stop(&mut self, alloc: Global) -> Result<Prepared<'b>, Refused>
+    fn stop(&mut self, alloc: Global) -> Option<Result<Prepared<'b>, Refused>>
         ensures none { into_iter_items self.new.handed ≡ [] }
-        ensures memory { result ≡ Err Memory }
+        ensures nothing { result ≡ None }
     {
         *self = Ahead::none(alloc);
-        Err(Refused::Memory)
+        None
     }
 
-    /// The next one. Where memory was refused, neither it nor those behind it were taken in.
-    pub(crate) fn next(&mut self, alloc: Global) -> Result<Prepared<'b>, Refused>
-        ensures next { (channel : Configuration) (accepts : Accepts) (bytes : List ℕ) (blocks : List (List ℕ)) → IsAhead channel accepts (bytes ∷ blocks) self.old → (w : World) → IsTakenIn channel accepts w bytes result }
+    /// The next one, if it waits. Where memory was refused, neither it nor those behind it do.
+    pub(crate) fn next(&mut self, alloc: Global) -> Option<Result<Prepared<'b>, Refused>>
+        ensures next { (channel : Configuration) (accepts : Accepts) (bytes : List ℕ) (blocks : List (List ℕ)) → IsAhead channel accepts (bytes ∷ blocks) self.old → (w : World) → IfSome result (IsTakenIn channel accepts w bytes) }
         ensures behind { (channel : Configuration) (accepts : Accepts) (bytes : List ℕ) (blocks : List (List ℕ)) → IsAhead channel accepts (bytes ∷ blocks) self.old → IsAhead channel accepts blocks self.new }
     {
         let Some(handed) = self.handed.next() else {
@@ -105,17 +104,20 @@ impl<'b> Ahead<'b> {
         let Some(hashed) = self.hashed.next() else {
             return self.stop(alloc);
         };
-        let block = handed.block?;
+        let block = match handed.block {
+            Ok(block) => block,
+            Err(refused) => return Some(Err(refused)),
+        };
         let Some(taken) = next_taken(alloc, &mut self.lists, block.txs.len()) else {
             return self.stop(alloc);
         };
         let Hashed { data_hash, bytes } = hashed;
-        Ok(Prepared {
+        Some(Ok(Prepared {
             block,
             taken,
             data_hash,
             bytes,
-        })
+        }))
     }
 }
 

@@ -1,5 +1,5 @@
 //! What a committer has published, which it checks the next block against.
-ghost use Rattle.std.specs.Prelude.{◌≡◌, ◌<◌, ◌↔◌, [], false, length, Err, IfOk};
+ghost use Rattle.std.specs.Prelude.{◌≡◌, ◌<◌, ◌↔◌, [], false, length, Err, IfOk, IfSome};
 ghost use Rattle.std.specs.List.{All};
 ghost use Rattle.query.specs.Published.{published_world};
 ghost use Rattle.query.specs.declared.opening.OpenFault.TheVariants as open_fault;
@@ -105,6 +105,28 @@ impl Published {
             verifier,
             gate,
         )
+    }
+
+    /// The next block, where it was taken in together with others. Where it wasn't, for want of memory, it is now, alone.
+    pub(crate) fn prepared<'b, R: Threads + Sync, V: Verify + Sync, G: Gate + Sync>(
+        &self,
+        rt: &R,
+        alloc: Global,
+        channel: &Channel,
+        workers: Workers,
+        bytes: &'b [u8],
+        ahead: Option<Result<Prepared<'b>, Refused>>,
+        verifier: &V,
+        gate: &G,
+    ) -> Result<Prepared<'b>, Refused>
+        requires { IfSome ahead (IsTakenIn channel.now (V.accepts verifier.now) (published_world self.now) bytes.now) }
+        ensures { IsTakenIn channel.now (V.accepts verifier.now) (published_world self.now) bytes.now result }
+    {
+        match ahead {
+            Some(prepared) => prepared,
+            None if self.publisher.failed() => Err(Refused::Memory),
+            None => self.take_in_next(rt, alloc, channel, workers, bytes, verifier, gate),
+        }
     }
 
     /// Commits and publishes the block that was taken in, or refuses it.

@@ -1,19 +1,21 @@
 //! Blocks one after the other, some of which are committed while workers take in those behind them.
-ghost use Rattle.std.specs.Prelude.{◌≡◌, ◌++◌, ◌+◌, ◌≤◌, ◌<◌, ℕ, List, [], length};
+ghost use Rattle.std.specs.Prelude.{◌≡◌, ◌++◌, ◌+◌, ◌≤◌, ◌<◌, ℕ, List, [], length, IfSome};
 ghost use Rattle.std.specs.Thread.{IsSync};
 ghost use Rattle.std.specs.Vec.{vec_len, vec_capacity};
-ghost use Rattle.commit.specs.Committing.{Committing, Runs};
-ghost use Rattle.commit.specs.Prepared.{IsAhead};
+ghost use Rattle.rules.specs.World.{World};
+ghost use Rattle.commit.specs.Committing.{Committing, Submits, Runs};
+ghost use Rattle.commit.specs.Prepared.{IsAhead, IsTakenIn};
 ghost use Rattle.commit.specs.Running.{committing};
 
 use crate::not_committed::NotCommitted;
-use crate::prepared::{Ahead, take_in_ahead};
+use crate::prepared::{Ahead, Prepared, take_in_ahead};
 use crate::published::Published;
 use crate::workers::Workers;
 use channel::Channel;
 use gates::Gate;
 use policy_eval::Verify;
 use query::Receipt;
+use rules::Refused;
 use std::alloc::Global;
 use std::sync::Wait;
 use std::thread::Threads;
@@ -49,8 +51,9 @@ fn next_count(blocks: &[Bytes], most_bytes: usize, workers: Workers) -> usize
     blocks.len()
 }
 
-/// Commits blocks that were taken in. Few workers check them where the others take in those behind them.
-fn commit_all<R: Threads + Wait + Sync, V: Verify, G: Gate + Sync>(
+/// Commits the next block, where it was taken in together with others. Where it wasn't, for want of memory, it is now, alone,
+/// so that none is refused for what another one took. Few workers check it where the others take in those behind it.
+fn commit_next<'b, R: Threads + Wait + Sync, V: Verify + Sync, G: Gate + Sync>(
     rt: &R,
     alloc: Global,
     channel: &Channel,
@@ -59,8 +62,34 @@ fn commit_all<R: Threads + Wait + Sync, V: Verify, G: Gate + Sync>(
     verifier: &V,
     gate: &G,
     published: &mut Published,
-    blocks: &[Bytes],
-    ahead: &mut Ahead<'_>,
+    bytes: &'b [u8],
+    ahead: Option<Result<Prepared<'b>, Refused>>,
+) -> Answer
+    requires { (w : World) → IfSome ahead (IsTakenIn channel.now (V.accepts verifier.now) w bytes.now) }
+    ensures { Submits (V.accepts verifier.now) (committing channel.now published.old) bytes.now result (committing channel.now published.new) }
+{
+    let prepared = published.prepared(rt, alloc, channel, workers, bytes, ahead, verifier, gate);
+    let checkers = match &prepared {
+        Ok(prepared) if is_beside => workers.beside_intake(prepared.taken.len()),
+        _ => workers,
+    };
+    published.commit(
+        rt, alloc, channel, checkers, bytes, prepared, verifier, gate,
+    )
+}
+
+/// Commits blocks that were taken in.
+fn commit_all<'b, R: Threads + Wait + Sync, V: Verify + Sync, G: Gate + Sync>(
+    rt: &R,
+    alloc: Global,
+    channel: &Channel,
+    workers: Workers,
+    is_beside: bool,
+    verifier: &V,
+    gate: &G,
+    published: &mut Published,
+    blocks: &'b [Bytes],
+    ahead: &mut Ahead<'b>,
     answers: &mut Vec<Answer>,
 )
     requires ahead { IsAhead channel.now (V.accepts verifier.now) blocks.now ahead.old }
@@ -70,20 +99,18 @@ fn commit_all<R: Threads + Wait + Sync, V: Verify, G: Gate + Sync>(
     ensures room { vec_capacity answers.old ≤ vec_capacity answers.new }
 {
     for bytes in blocks {
-        let prepared = ahead.next(alloc);
-        let checkers = match &prepared {
-            Ok(prepared) if is_beside => workers.beside_intake(prepared.taken.len()),
-            _ => workers,
-        };
-        answers.push_reserved(published.commit(
+        let next = ahead.next(alloc);
+        answers.push_reserved(commit_next(
             rt,
             alloc,
             channel,
-            checkers,
-            bytes.as_slice(),
-            prepared,
+            workers,
+            is_beside,
             verifier,
             gate,
+            published,
+            bytes.as_slice(),
+            next,
         ));
     }
 }
@@ -97,7 +124,7 @@ fn commit_beside_intake<'b, R: Threads + Wait + Sync, V: Verify + Sync, G: Gate 
     verifier: &V,
     gate: &G,
     published: &mut Published,
-    blocks: &[Bytes],
+    blocks: &'b [Bytes],
     ahead: Ahead<'b>,
     behind: &'b [Bytes],
     answers: &mut Vec<Answer>,

@@ -1,8 +1,8 @@
 use Rattle.std.proofs.Common.{List, ℕ, ◌≡◌, ◌+◌, ◌<◌, ◌∷◌, ◌∙◌, length, drop, subst, sym, ap, get_or, arith}
+use Rattle.std.specs.Prelude.{IfSome}
 use Rattle.std.proofs.lemmas.List.{drop_more}
 use Rattle.channel.specs.Configuration.{Configuration}
 use Rattle.policy_eval.specs.Accepts.{Accepts}
-use Rattle.query.specs.Published.{published_world}
 use Rattle.commit.specs.declared.prepared.Ahead.{Ahead}
 use Rattle.commit.specs.Committing.{Submits}
 use Rattle.commit.specs.Prepared.{IsTakenIn, IsAhead}
@@ -15,14 +15,13 @@ first_of : (channel : Configuration) (accepts : Accepts) (blocks : List (List �
 first_of channel accepts blocks i item ahead lt at waits =
     subst (λ (bs : List (List ℕ)). IsAhead channel accepts bs ahead) (drop_more blocks i item lt ∙ ap (λ (x : List ℕ). x ∷ drop (i + 1) blocks) (sym at)) waits
 
-pub commit-requires-after_bounds : goal.commit-requires-after_bounds
-commit-requires-after_bounds g c κs within =
+pub commit_next-requires-after_bounds : goal.commit_next-requires-after_bounds
+commit_next-requires-after_bounds g c κs within w =
     let channel = c.args.channel.now in
     let accepts = g.V.Verify.accepts c.args.verifier.now in
-    let w = published_world c.loop-bytes.published in
     let waits = first_of channel accepts c.args.blocks.now c.loop-bytes.bytes-index c.bytes-item.result c.loop-bytes.ahead (omega (arith, c.loop-bytes-test.true)) c.bytes-item.is c.loop-bytes.invariant.ahead in
-    subst (λ (b : List ℕ). IsTakenIn channel accepts w b c.next-prepared.result) (sym c.as_slice.ensures)
-    (c.next-prepared.ensures.next channel accepts c.bytes-item.result (drop (c.loop-bytes.bytes-index + 1) c.args.blocks.now) waits w)
+    subst (λ (b : List ℕ). IfSome c.next-next.result (IsTakenIn channel accepts w b)) (sym c.as_slice.ensures)
+    (c.next-next.ensures.next channel accepts c.bytes-item.result (drop (c.loop-bytes.bytes-index + 1) c.args.blocks.now) waits w)
 
 pub loop-bytes-preserved : goal.loop-bytes-preserved
 loop-bytes-preserved g c =
@@ -35,11 +34,11 @@ loop-bytes-preserved g c =
     let lt = c.loop-bytes-test.true in
     let waits = first_of channel accepts blocks i item c.loop-bytes.ahead (omega (arith, lt)) c.bytes-item.is before.ahead in
     record {
-      runs = λ old earlier so_far. Runs-more accepts old (committing channel c.loop-bytes.published) (committing channel c.commit.new.self) earlier blocks i item c.loop-bytes.answers.items c.push_reserved.new.self.items c.commit.result
+      runs = λ old earlier so_far. Runs-more accepts old (committing channel c.loop-bytes.published) (committing channel c.commit_next.new.published) earlier blocks i item c.loop-bytes.answers.items c.push_reserved.new.self.items c.commit_next.result
           (omega (arith, lt)) c.bytes-item.is (before.runs old earlier so_far)
-          (subst (λ (b : List ℕ). Submits accepts (committing channel c.loop-bytes.published) b c.commit.result (committing channel c.commit.new.self)) c.as_slice.ensures c.commit.ensures)
+          (subst (λ (b : List ℕ). Submits accepts (committing channel c.loop-bytes.published) b c.commit_next.result (committing channel c.commit_next.new.published)) c.as_slice.ensures c.commit_next.ensures)
           c.push_reserved.ensures.items;
-      ahead = c.next-prepared.ensures.behind channel accepts item (drop (i + 1) blocks) waits;
+      ahead = c.next-next.ensures.behind channel accepts item (drop (i + 1) blocks) waits;
       count = omega (arith, before.count, c.push_reserved.ensures.len);
       room = omega (arith, before.room, c.push_reserved.ensures.capacity);
     }

@@ -20,8 +20,7 @@ returns-in_default-next_taken-clause-behind c channel accepts bytes blocks ahead
     let ended = c.stop-in_default-next_taken in
     subst (λ hs. Waits channel accepts blocks hs (into_iter_items ended.new.self.hashed) (all_taken (into_iter_items ended.new.self.lists))) (sym ended.ensures.none) (none_waits channel accepts blocks _ _)
 
-pub returns-in_err-block-clause-next : goal.returns-in_err-block-clause-next
-returns-in_err-block-clause-next c channel accepts bytes blocks ahead w =
-    let p = err_from_is_err_and c.from_residual.result c.from_residual.ensures.1 in
+pub returns-in-Err-clause-next : goal.returns-in-Err-clause-next
+returns-in-Err-clause-next c channel accepts bytes blocks ahead w =
     let here = taken_out channel accepts bytes blocks c.in-Some.handed _ _ c.in-Some-next.hashed _ _ _ c.in-Some.ensures.items c.in-Some-next.ensures.items ahead in
-    rw (p.1, p.2) (subst (λ r. IsDecoded bytes r) c.in_err-block.was here.0 w)
+    subst (λ r. IsDecoded bytes r) c.in-Err.is here.0 w
