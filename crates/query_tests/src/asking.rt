@@ -2,30 +2,37 @@
 
 use crate::alike::{is_of, is_same_block, is_same_entry, is_same_keyed_row, is_same_row};
 use crate::blocks::{bound, key, name};
-use crate::failed::Failed;
-use query::{QueryHandle, RangeRows};
-use rules::HistoryEntry;
+use crate::failed::{Failed, check};
+use query::{QueryHandle, RangeRows, Reply};
+use rules::{CommittedBlock, HistoryEntry, Row};
 use std::alloc::{AllocError, Global};
 use transaction::TxId;
 use values::{BoundRef, KeyRef, NameRef};
 use world::World;
 
-fn is_row_alike(
+fn check_row_reply(
+    alloc: Global,
+    reply: &Reply<Option<Row>>,
+    world: &World,
+    row: Option<&Row>,
+) -> Result<(), Failed> {
+    check(is_of(reply, world))?;
+    match (&reply.answer, row) {
+        (None, None) => Ok(()),
+        (Some(one), Some(other)) => check(is_same_row(alloc, one, other)?),
+        _ => Err(Failed::Unlike),
+    }
+}
+
+fn check_row(
     alloc: Global,
     handle: &mut QueryHandle,
     world: &World,
     namespace: &NameRef<'_>,
     key: &KeyRef<'_>,
-) -> Result<bool, Failed> {
+) -> Result<(), Failed> {
     let reply = handle.get(namespace, key)?;
-    Ok(
-        is_of(&reply, world)
-            && match (&reply.answer, world.row(namespace, key)) {
-                (None, None) => true,
-                (Some(one), Some(other)) => is_same_row(alloc, one, other)?,
-                _ => false,
-            },
-    )
+    check_row_reply(alloc, &reply, world, world.row(namespace, key))
 }
 
 fn are_entries_alike(
@@ -44,31 +51,29 @@ fn are_entries_alike(
     left.next().is_none()
 }
 
-fn is_history_alike(
+fn check_history(
     alloc: Global,
     handle: &mut QueryHandle,
     world: &World,
     namespace: &NameRef<'_>,
     key: &KeyRef<'_>,
-) -> Result<bool, Failed> {
+) -> Result<(), Failed> {
     let reply = handle.history(alloc, namespace, key)?;
-    Ok(is_of(&reply, world) && are_entries_alike(reply.answer.as_slice(), world, namespace, key))
+    let entries = reply.answer.as_slice();
+    check(is_of(&reply, world) && are_entries_alike(entries, world, namespace, key))
 }
 
-/// Whether row and history of a key are answered alike.
-pub fn is_key_alike(
+/// Wants row and history of a key answered alike.
+pub fn check_key(
     alloc: Global,
     handle: &mut QueryHandle,
     world: &World,
     namespace: &[u8],
     at: &[u8],
-) -> Result<bool, Failed> {
-    let namespace = name(namespace)?;
-    let at = key(at)?;
-    Ok(
-        is_row_alike(alloc, handle, world, &namespace, &at)?
-            && is_history_alike(alloc, handle, world, &namespace, &at)?,
-    )
+) -> Result<(), Failed> {
+    let (namespace, at) = (name(namespace)?, key(at)?);
+    check_row(alloc, handle, world, &namespace, &at)?;
+    check_history(alloc, handle, world, &namespace, &at)
 }
 
 fn are_rows_alike(
@@ -91,66 +96,85 @@ fn are_rows_alike(
     Ok(!answer.more && left.next().is_none() && answer.rows.len() <= limit)
 }
 
-/// Whether a range is answered alike.
-pub fn is_range_alike(
+fn check_range_reply(
+    alloc: Global,
+    reply: &Reply<RangeRows>,
+    world: &World,
+    namespace: &NameRef<'_>,
+    start: &BoundRef<'_>,
+    end: &BoundRef<'_>,
+    limit: usize,
+) -> Result<(), Failed> {
+    check(is_of(reply, world))?;
+    check(are_rows_alike(alloc, &reply.answer, world, namespace, start, end, limit)?)
+}
+
+fn check_range_of(
+    alloc: Global,
+    handle: &mut QueryHandle,
+    world: &World,
+    namespace: &NameRef<'_>,
+    start: &BoundRef<'_>,
+    end: &BoundRef<'_>,
+    limit: usize,
+) -> Result<(), Failed> {
+    let reply = handle.range(alloc, namespace, start, end, limit)?;
+    check_range_reply(alloc, &reply, world, namespace, start, end, limit)
+}
+
+/// Wants a range answered alike.
+pub fn check_range(
     alloc: Global,
     handle: &mut QueryHandle,
     world: &World,
     namespace: &[u8],
     (start, end): (&[u8], &[u8]),
     limit: usize,
-) -> Result<bool, Failed> {
-    let namespace = name(namespace)?;
-    let start = bound(start)?;
-    let end = bound(end)?;
-    let reply = handle.range(alloc, &namespace, &start, &end, limit)?;
-    Ok(
-        is_of(&reply, world)
-            && are_rows_alike(alloc, &reply.answer, world, &namespace, &start, &end, limit)?,
-    )
+) -> Result<(), Failed> {
+    let (namespace, start, end) = (name(namespace)?, bound(start)?, bound(end)?);
+    check_range_of(alloc, handle, world, &namespace, &start, &end, limit)
 }
 
-/// Whether the block of a number is answered alike.
-pub fn is_block_alike(
+fn is_same_answer(kept: &Option<CommittedBlock>, block: Option<&CommittedBlock>) -> bool {
+    match (kept, block) {
+        (None, None) => true,
+        (Some(one), Some(other)) => is_same_block(one, other),
+        _ => false,
+    }
+}
+
+/// Wants the block of a number answered alike.
+pub fn check_block(
     alloc: Global,
     handle: &mut QueryHandle,
     world: &World,
     number: u64,
-) -> Result<bool, Failed> {
+) -> Result<(), Failed> {
     let reply = handle.block(alloc, number)?;
-    Ok(
-        is_of(&reply, world)
-            && match (&reply.answer, world.block(number)) {
-                (None, None) => true,
-                (Some(one), Some(other)) => is_same_block(one, other),
-                _ => false,
-            },
-    )
+    check(is_of(&reply, world) && is_same_answer(&reply.answer, world.block(number)))
 }
 
-/// Whether the first use of an id is answered alike.
-pub fn is_use_alike(handle: &mut QueryHandle, world: &World, id: &TxId) -> Result<bool, Failed> {
+/// Wants the first use of an id answered alike.
+pub fn check_use(handle: &mut QueryHandle, world: &World, id: &TxId) -> Result<(), Failed> {
     let reply = handle.flag_of(id)?;
-    Ok(is_of(&reply, world) && reply.answer == world.first_use(id))
+    check(is_of(&reply, world) && reply.answer == world.first_use(id))
 }
 
-/// Whether the height is answered alike.
-pub fn is_height_alike(handle: &mut QueryHandle, world: &World) -> Result<bool, Failed> {
+/// Wants the height answered alike.
+pub fn check_height(handle: &mut QueryHandle, world: &World) -> Result<(), Failed> {
     let reply = handle.height()?;
-    Ok(is_of(&reply, world) && reply.answer == world.height())
+    check(is_of(&reply, world) && reply.answer == world.height())
 }
 
-/// Whether the blocks up to this number, and the height, are answered alike.
-pub fn are_blocks_alike(
+/// Wants the blocks up to this number, and the height, answered alike.
+pub fn check_blocks(
     alloc: Global,
     handle: &mut QueryHandle,
     world: &World,
     last: u64,
-) -> Result<bool, Failed> {
+) -> Result<(), Failed> {
     for number in 0..=last {
-        if !is_block_alike(alloc, handle, world, number)? {
-            return Ok(false);
-        }
+        check_block(alloc, handle, world, number)?;
     }
-    is_height_alike(handle, world)
+    check_height(handle, world)
 }

@@ -9,7 +9,7 @@ use drafts::draft;
 use key_book::KeyBook;
 use rules::Delta;
 use std::alloc::Global;
-use values::{BoundRef, Bytes, KeyRef, Name, NameRef, is_bound, is_key, is_name};
+use values::{BoundRef, Bytes, Hash, KeyRef, Name, NameRef, is_bound, is_key, is_name};
 use world::World;
 
 const CHANNEL: &str =
@@ -110,13 +110,23 @@ impl Drafter {
         Ok(self.ledger.delta(bytes.as_slice(), &self.keys)?)
     }
 
+    /// The header hash of these bytes, which the ledger then has.
+    pub fn take(&mut self, bytes: &Bytes) -> Result<Hash, Failed> {
+        match self.submit(bytes)? {
+            Ok(accepted) => Ok(accepted.header_hash),
+            Err(refused) => Err(Failed::from(refused)),
+        }
+    }
+
+    fn changed(&mut self, bytes: &Bytes) -> Result<Delta, Failed> {
+        let delta = self.delta(bytes)?;
+        self.take(bytes)?;
+        Ok(delta)
+    }
+
     /// What the block of this script changes, the next one; the ledger then has it.
     pub fn next(&mut self, script: &str) -> Result<Delta, Failed> {
         let bytes = self.drafted(script)?;
-        let delta = self.delta(&bytes)?;
-        match self.submit(&bytes)? {
-            Ok(_) => Ok(delta),
-            Err(refused) => Err(Failed::Refused(refused)),
-        }
+        self.changed(&bytes)
     }
 }

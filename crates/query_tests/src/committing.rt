@@ -1,12 +1,13 @@
 //! A committer answers and publishes what a ledger does on one thread, whatever its workers, their order, and what is refused
 //! between its blocks.
 
-use crate::asking::{are_blocks_alike, is_key_alike, is_range_alike, is_use_alike};
+use crate::asking::{check_blocks, check_key, check_range, check_use};
 use crate::blocks::{Drafter, configuration};
-use crate::failed::Failed;
+use crate::failed::{Failed, check, is_alike};
 use crate::spoiling::spoiled;
 use commit::{Accepted, Committer, NotCommitted, OpenFault, QueryHandle, Receipt, Refused};
 use gates::{Gate, Open, Phase, Reverse};
+use key_book::KeyBook;
 use random_numbers::Random;
 use rules::NewUse;
 use std::alloc::{AllocError, Global};
@@ -55,75 +56,43 @@ pub fn is_same(
     }
 }
 
-fn is_answered_alike<R: Threads + Wait + Sync, G: Gate + Sync>(
+fn check_answered<R: Threads + Wait + Sync, G: Gate + Sync>(
     rt: &R,
     drafter: &mut Drafter,
     committer: &mut Committer,
     bytes: &Bytes,
     gate: &G,
-) -> Result<bool, Failed> {
+) -> Result<(), Failed> {
     let of_ledger = drafter.submit(bytes)?;
     let answer = committer.submit(rt, bytes.as_slice(), drafter.keys(), gate);
-    Ok(is_same(&answer, &of_ledger) && committer.gathered() == 0)
+    check(is_same(&answer, &of_ledger) && committer.gathered() == 0)
 }
 
-fn are_keys_alike(alloc: Global, handle: &mut QueryHandle, world: &World) -> Result<bool, Failed> {
+fn check_keys(alloc: Global, handle: &mut QueryHandle, world: &World) -> Result<(), Failed> {
     for key in &KEYS {
-        if !is_key_alike(alloc, handle, world, b"cc", key)? {
-            return Ok(false);
-        }
+        check_key(alloc, handle, world, b"cc", key)?;
     }
     let (none, middle) = (b"".as_slice(), b"b".as_slice());
-    Ok(
-        is_range_alike(alloc, handle, world, b"cc", (middle, none), 2)?
-            && is_range_alike(alloc, handle, world, b"cc", (none, none), 9)?,
-    )
+    check_range(alloc, handle, world, b"cc", (middle, none), 2)?;
+    check_range(alloc, handle, world, b"cc", (none, none), 9)
 }
 
-fn are_uses_alike(
-    handle: &mut QueryHandle,
-    world: &World,
-    uses: &[NewUse],
-) -> Result<bool, Failed> {
+fn check_uses(handle: &mut QueryHandle, world: &World, uses: &[NewUse]) -> Result<(), Failed> {
     for used in uses {
-        if !is_use_alike(handle, world, &used.id)? {
-            return Ok(false);
-        }
+        check_use(handle, world, &used.id)?;
     }
-    Ok(true)
+    Ok(())
 }
 
-pub fn is_published_alike(
+pub fn check_published(
     alloc: Global,
     handle: &mut QueryHandle,
     world: &World,
     uses: &[NewUse],
-) -> Result<bool, Failed> {
-    Ok(
-        are_keys_alike(alloc, handle, world)?
-            && are_blocks_alike(alloc, handle, world, BLOCKS)?
-            && are_uses_alike(handle, world, uses)?,
-    )
-}
-
-// Spoiled blocks and then the right one, or what stands in its place.
-fn are_answered_alike<R: Threads + Wait + Sync>(
-    rt: &R,
-    alloc: Global,
-    drafter: &mut Drafter,
-    committer: &mut Committer,
-    random: &mut Random,
-    before: &Bytes,
-    bytes: &Bytes,
-    gate: &Yielding,
-) -> Result<bool, Failed> {
-    for _ in 0..SPOILED {
-        let other = spoiled(alloc, random, bytes.as_slice(), before.as_slice())?;
-        if !is_answered_alike(rt, drafter, committer, &other, gate)? {
-            return Ok(false);
-        }
-    }
-    is_answered_alike(rt, drafter, committer, bytes, gate)
+) -> Result<(), Failed> {
+    check_keys(alloc, handle, world)?;
+    check_blocks(alloc, handle, world, BLOCKS)?;
+    check_uses(handle, world, uses)
 }
 
 pub fn next_block(alloc: Global, drafter: &Drafter, random: &mut Random) -> Result<Bytes, Failed> {
@@ -140,37 +109,98 @@ fn add_uses(drafter: &Drafter, bytes: &Bytes, uses: &mut Vec<NewUse>) -> Result<
     Ok(())
 }
 
-fn is_chain_alike<R: Threads + Wait + Sync>(
+/// A chain on its way.
+#[derive(Drop)]
+struct Chain {
+    drafter: Drafter,
+    random: Random,
+    /// What its blocks use.
+    uses: Vec<NewUse>,
+    /// The block before the next one.
+    before: Bytes,
+}
+
+impl Chain {
+    fn open(alloc: Global, seed: u64) -> Result<Chain, Failed> {
+        Ok(Chain {
+            before: Bytes::from_slice(alloc, b"FBK1")?,
+            drafter: Drafter::open(alloc)?,
+            random: Random::new(seed),
+            uses: Vec::new(alloc),
+        })
+    }
+
+    // Spoiled blocks and then the right one, or what stands in its place.
+    fn check_answered<R: Threads + Wait + Sync>(
+        &mut self,
+        rt: &R,
+        alloc: Global,
+        committer: &mut Committer,
+        bytes: &Bytes,
+        gate: &Yielding,
+    ) -> Result<(), Failed> {
+        for _ in 0..SPOILED {
+            let before = self.before.as_slice();
+            let other = spoiled(alloc, &mut self.random, bytes.as_slice(), before)?;
+            check_answered(rt, &mut self.drafter, committer, &other, gate)?;
+        }
+        check_answered(rt, &mut self.drafter, committer, bytes, gate)
+    }
+
+    // Wants this block answered alike, and then all queries.
+    fn check_block<R: Threads + Wait + Sync>(
+        &mut self,
+        rt: &R,
+        alloc: Global,
+        committer: &mut Committer,
+        handle: &mut QueryHandle,
+        bytes: &Bytes,
+        gate: &Yielding,
+    ) -> Result<(), Failed> {
+        add_uses(&self.drafter, bytes, &mut self.uses)?;
+        self.check_answered(rt, alloc, committer, bytes, gate)?;
+        check_published(alloc, handle, self.drafter.world(), self.uses.as_slice())
+    }
+
+    fn check_next<R: Threads + Wait + Sync>(
+        &mut self,
+        rt: &R,
+        alloc: Global,
+        committer: &mut Committer,
+        handle: &mut QueryHandle,
+        gate: &Yielding,
+    ) -> Result<(), Failed> {
+        let bytes = next_block(alloc, &self.drafter, &mut self.random)?;
+        let checked = self.check_block(rt, alloc, committer, handle, &bytes, gate);
+        self.before = bytes;
+        checked
+    }
+
+    fn check_all<R: Threads + Wait + Sync>(
+        &mut self,
+        rt: &R,
+        alloc: Global,
+        committer: &mut Committer,
+        handle: &mut QueryHandle,
+        gate: &Yielding,
+    ) -> Result<(), Failed> {
+        for _ in 0..BLOCKS {
+            self.check_next(rt, alloc, committer, handle, gate)?;
+        }
+        check(self.drafter.world().height() == BLOCKS)
+    }
+}
+
+fn check_chain<R: Threads + Wait + Sync>(
     rt: &R,
     alloc: Global,
     committer: &mut Committer,
     handle: &mut QueryHandle,
     seed: u64,
     gate: &Yielding,
-) -> Result<bool, Failed> {
-    let mut random = Random::new(seed);
-    let mut drafter = Drafter::open(alloc)?;
-    let mut uses = Vec::new(alloc);
-    let mut before = Bytes::from_slice(alloc, b"FBK1")?;
-    for _ in 0..BLOCKS {
-        let bytes = next_block(alloc, &drafter, &mut random)?;
-        add_uses(&drafter, &bytes, &mut uses)?;
-        if !are_answered_alike(
-            rt,
-            alloc,
-            &mut drafter,
-            committer,
-            &mut random,
-            &before,
-            &bytes,
-            gate,
-        )? || !is_published_alike(alloc, handle, drafter.world(), uses.as_slice())?
-        {
-            return Ok(false);
-        }
-        before = bytes;
-    }
-    Ok(drafter.world().height() == BLOCKS)
+) -> Result<(), Failed> {
+    let mut chain = Chain::open(alloc, seed)?;
+    chain.check_all(rt, alloc, committer, handle, gate)
 }
 
 pub fn opened<R: Wait>(
@@ -184,27 +214,27 @@ pub fn opened<R: Wait>(
     }
 }
 
-fn is_alike<R: Threads + Wait + Sync>(
+fn check_seed<R: Threads + Wait + Sync>(
     rt: &R,
     alloc: Global,
     seed: u64,
     gate: &Yielding,
-) -> Result<bool, Failed> {
+) -> Result<(), Failed> {
     let workers = WORKERS[(seed % 3) as usize];
     let (mut committer, mut handles) = opened(rt, alloc, workers)?;
-    let is_alike = match handles.first_mut() {
-        Some(handle) => is_chain_alike(rt, alloc, &mut committer, handle, seed, gate),
+    let checked = match handles.first_mut() {
+        Some(handle) => check_chain(rt, alloc, &mut committer, handle, seed, gate),
         None => Err(Failed::Missing("a handle")),
     };
     committer.close(rt);
-    is_alike
+    checked
 }
 
 // The first chain that isn't answered alike, 0 for none.
 fn alike_chains<R: Threads + Wait + Sync>(rt: &R, alloc: Global) -> Result<u64, Failed> {
     let gate = Yielding::new(17);
     for seed in 1..=CHAINS {
-        if !is_alike(rt, alloc, seed, &gate)? {
+        if !is_alike(check_seed(rt, alloc, seed, &gate))? {
             return Ok(seed);
         }
     }
@@ -217,6 +247,21 @@ fn as_the_ledger(rt: HostRuntime) -> Result<(), Failed> {
     Ok(())
 }
 
+fn put_write(alloc: Global, script: &mut String, block: u32, i: u32) -> Result<(), AllocError> {
+    let tx = format!(in alloc;
+        "tx Org1:client:c0 b{block}n{i} cc\nns cc\nwrite k{i} v\nendorse Org1:peer:p0\n"
+    )?;
+    script.push_str(tx.as_str())
+}
+
+fn script_of_writes(alloc: Global, block: u32, count: u32) -> Result<String, AllocError> {
+    let mut script = String::new(alloc);
+    for i in 0..count {
+        put_write(alloc, &mut script, block, i)?;
+    }
+    Ok(script)
+}
+
 // A block of so many writes, each of another key, whose nonces begin with the block's number.
 pub fn block_of_writes(
     alloc: Global,
@@ -224,14 +269,21 @@ pub fn block_of_writes(
     block: u32,
     count: u32,
 ) -> Result<Bytes, Failed> {
-    let mut script = String::new(alloc);
-    for i in 0..count {
-        let tx = format!(in alloc;
-            "tx Org1:client:c0 b{block}n{i} cc\nns cc\nwrite k{i} v\nendorse Org1:peer:p0\n"
-        )?;
-        script.push_str(tx.as_str())?;
-    }
+    let script = script_of_writes(alloc, block, count)?;
     drafter.drafted(script.as_str())
+}
+
+fn check_next_taken<R: Threads + Wait + Sync, G: Gate + Sync>(
+    rt: &R,
+    alloc: Global,
+    drafter: &mut Drafter,
+    committer: &mut Committer,
+    count: u32,
+    gate: &G,
+) -> Result<(), Failed> {
+    let bytes = block_of_writes(alloc, drafter, 0, count)?;
+    check_answered(rt, drafter, committer, &bytes, gate)?;
+    check(drafter.world().height() == 1)
 }
 
 fn is_taken_alike<R: Threads + Wait + Sync, G: Gate + Sync>(
@@ -242,33 +294,44 @@ fn is_taken_alike<R: Threads + Wait + Sync, G: Gate + Sync>(
     gate: &G,
 ) -> Result<bool, Failed> {
     let mut drafter = Drafter::open(alloc)?;
-    let bytes = block_of_writes(alloc, &drafter, 0, count)?;
     let (mut committer, _handles) = opened(rt, alloc, workers)?;
-    let is_alike = is_answered_alike(rt, &mut drafter, &mut committer, &bytes, gate);
+    let checked = check_next_taken(rt, alloc, &mut drafter, &mut committer, count, gate);
     committer.close(rt);
-    Ok(is_alike? && drafter.world().height() == 1)
+    is_alike(checked)
+}
+
+fn do_two_meet<R: Threads + Wait + Sync>(rt: &R, alloc: Global) -> Result<bool, Failed> {
+    let gate = Meeting::of_others(1, Phase::Intake);
+    // three pieces
+    let is_alike = is_taken_alike(rt, alloc, 160, 2, &gate)?;
+    Ok(is_alike && gate.is_met())
 }
 
 #[test]
 fn two_workers_meet_in_intake(rt: HostRuntime) -> Result<(), Failed> {
-    let gate = Meeting::of_others(1, Phase::Intake);
-    // three pieces
-    assert!(rt; is_taken_alike(&rt, rt.alloc(), 160, 2, &gate)?);
-    assert!(rt; gate.is_met());
+    assert!(rt; do_two_meet(&rt, rt.alloc())?);
     Ok(())
+}
+
+fn is_taken_alike_in_reverse<R: Threads + Wait + Sync>(
+    rt: &R,
+    alloc: Global,
+) -> Result<bool, Failed> {
+    let gate = Reverse::new(alloc, 40)?;
+    is_taken_alike(rt, alloc, 40, 2, &gate)
 }
 
 #[test]
 fn checks_in_reverse(rt: HostRuntime) -> Result<(), Failed> {
-    let gate = Reverse::new(rt.alloc(), 40)?;
-    assert!(rt; is_taken_alike(&rt, rt.alloc(), 40, 2, &gate)?);
+    assert!(rt; is_taken_alike_in_reverse(&rt, rt.alloc())?);
     Ok(())
 }
 
 #[test]
 fn many_workers_take_an_empty_block(rt: HostRuntime) -> Result<(), Failed> {
-    assert!(rt; is_taken_alike(&rt, rt.alloc(), 0, 64, &Open)?);
-    assert!(rt; is_taken_alike(&rt, rt.alloc(), 3, 64, &Open)?);
+    for count in [0, 3] {
+        assert!(rt; is_taken_alike(&rt, rt.alloc(), count, 64, &Open)?);
+    }
     Ok(())
 }
 
@@ -290,20 +353,32 @@ fn fault_of<R: Wait>(
 
 #[test]
 fn what_is_opened(rt: HostRuntime) -> Result<(), Failed> {
-    assert!(rt; fault_of(&rt, rt.alloc(), 0, 33)? == Some(OpenFault::Workers));
-    assert!(rt; fault_of(&rt, rt.alloc(), 65, 0)? == Some(OpenFault::Workers));
-    assert!(rt; fault_of(&rt, rt.alloc(), 64, 33)? == Some(OpenFault::Readers));
-    assert!(rt; fault_of(&rt, rt.alloc(), 64, 32)?.is_none());
-    assert!(rt; fault_of(&rt, rt.alloc(), 1, 0)?.is_none());
+    for (workers, readers, fault) in [
+        (0, 33, Some(OpenFault::Workers)),
+        (65, 0, Some(OpenFault::Workers)),
+        (64, 33, Some(OpenFault::Readers)),
+        (64, 32, None),
+        (1, 0, None),
+    ] {
+        assert!(rt; fault_of(&rt, rt.alloc(), workers, readers)? == fault);
+    }
     Ok(())
+}
+
+fn has_no_answers<R: Threads + Wait + Sync>(
+    rt: &R,
+    committer: &mut Committer,
+    keys: &KeyBook,
+) -> Result<bool, Failed> {
+    Ok(committer.run(rt, &[], keys, &Open)?.is_empty())
 }
 
 fn no_answers<R: Threads + Wait + Sync>(rt: &R, alloc: Global) -> Result<bool, Failed> {
     let drafter = Drafter::open(alloc)?;
     let (mut committer, _handles) = opened(rt, alloc, 2)?;
-    let answers = committer.run(rt, &[], drafter.keys(), &Open);
+    let has_none = has_no_answers(rt, &mut committer, drafter.keys());
     committer.close(rt);
-    Ok(answers?.is_empty())
+    has_none
 }
 
 #[test]

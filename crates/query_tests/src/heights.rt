@@ -1,6 +1,6 @@
 //! At each height of the chain of 32 blocks each query answers what a world of its own answers.
 
-use crate::asking::{are_blocks_alike, is_key_alike, is_range_alike, is_use_alike};
+use crate::asking::{check_blocks, check_key, check_range, check_use};
 use crate::failed::Failed;
 use crate::publishing::publish_next;
 use chain_vectors::first_blocks::first_blocks;
@@ -22,47 +22,37 @@ const BLOCKS: u64 = 32;
 const UNUSED: TxId = [b'0'; 64];
 
 // Row and history, and the ranges that begin at the key or end before it.
-fn is_all_alike_at(
+fn check_all_at(
     alloc: Global,
     handle: &mut QueryHandle,
     world: &World,
     left: &Left,
-) -> Result<bool, Failed> {
+) -> Result<(), Failed> {
     let none = b"".as_slice();
-    Ok(
-        is_key_alike(alloc, handle, world, left.namespace, left.key)?
-            && is_range_alike(alloc, handle, world, left.namespace, (left.key, none), 2)?
-            && is_range_alike(alloc, handle, world, left.namespace, (none, left.key), 100)?,
-    )
+    check_key(alloc, handle, world, left.namespace, left.key)?;
+    check_range(alloc, handle, world, left.namespace, (left.key, none), 2)?;
+    check_range(alloc, handle, world, left.namespace, (none, left.key), 100)
 }
 
 // At all keys that the chain writes.
-fn are_keys_alike(alloc: Global, handle: &mut QueryHandle, world: &World) -> Result<bool, Failed> {
+fn check_keys(alloc: Global, handle: &mut QueryHandle, world: &World) -> Result<(), Failed> {
     for left in rows() {
-        if !is_all_alike_at(alloc, handle, world, left)? {
-            return Ok(false);
-        }
+        check_all_at(alloc, handle, world, left)?;
     }
-    Ok(true)
+    Ok(())
 }
 
-fn are_uses_alike(handle: &mut QueryHandle, world: &World) -> Result<bool, Failed> {
+fn check_uses(handle: &mut QueryHandle, world: &World) -> Result<(), Failed> {
     for bytes in uses() {
-        if !is_use_alike(handle, world, &read_use(bytes).id)? {
-            return Ok(false);
-        }
+        check_use(handle, world, &read_use(bytes).id)?;
     }
-    is_use_alike(handle, world, &UNUSED)
+    check_use(handle, world, &UNUSED)
 }
 
 fn check_alike(alloc: Global, handle: &mut QueryHandle, world: &World) -> Result<(), Failed> {
-    if are_keys_alike(alloc, handle, world)?
-        && are_blocks_alike(alloc, handle, world, BLOCKS)?
-        && are_uses_alike(handle, world)?
-    {
-        return Ok(());
-    }
-    Err(Failed::Missing("the answer of the world"))
+    check_keys(alloc, handle, world)?;
+    check_blocks(alloc, handle, world, BLOCKS)?;
+    check_uses(handle, world)
 }
 
 fn next_delta(ledger: &mut Ledger, bytes: &[u8]) -> Result<Delta, Failed> {
@@ -84,6 +74,20 @@ fn check_next<R: Wait>(
     check_alike(alloc, handle, ledger.view())
 }
 
+fn check_all<R: Wait>(
+    rt: &R,
+    alloc: Global,
+    ledger: &mut Ledger,
+    publisher: &mut Publisher,
+    handle: &mut QueryHandle,
+) -> Result<u64, Failed> {
+    check_alike(alloc, handle, ledger.view())?;
+    for block in first_blocks().iter().chain(later_blocks().iter()) {
+        check_next(rt, alloc, ledger, publisher, handle, block.bytes)?;
+    }
+    Ok(ledger.view().height())
+}
+
 // How high the world is in the end, if all is answered alike.
 fn alike_up_to<R: Wait>(
     rt: &R,
@@ -95,19 +99,18 @@ fn alike_up_to<R: Wait>(
         return Err(Failed::Missing("a handle"));
     };
     let mut ledger = Ledger::open(alloc, Channel::read(alloc, CHANNEL)?);
-    check_alike(alloc, handle, ledger.view())?;
-    for block in first_blocks().iter().chain(later_blocks().iter()) {
-        check_next(rt, alloc, &mut ledger, publisher, handle, block.bytes)?;
-    }
-    Ok(ledger.view().height())
+    check_all(rt, alloc, &mut ledger, publisher, handle)
+}
+
+fn alike_height<R: Wait>(rt: &R, alloc: Global) -> Result<u64, Failed> {
+    let (mut publisher, mut handles) = open(alloc, rt, World::new(alloc), World::new(alloc), 1)?;
+    let height = alike_up_to(rt, alloc, &mut publisher, &mut handles);
+    publisher.close(rt);
+    height
 }
 
 #[test]
 fn each_query_at_each_height(rt: HostRuntime) -> Result<(), Failed> {
-    let alloc = rt.alloc();
-    let (mut publisher, mut handles) = open(alloc, &rt, World::new(alloc), World::new(alloc), 1)?;
-    let height = alike_up_to(&rt, alloc, &mut publisher, &mut handles);
-    publisher.close(&rt);
-    assert!(rt; height? == BLOCKS);
+    assert!(rt; alike_height(&rt, rt.alloc())? == BLOCKS);
     Ok(())
 }

@@ -3,11 +3,11 @@
 
 use crate::blocks::Drafter;
 use crate::committing::{
-    BLOCKS, WORKERS, block_of_writes, is_published_alike, is_same, next_block, opened,
+    BLOCKS, WORKERS, block_of_writes, check_published, is_same, next_block, opened,
 };
-use crate::failed::Failed;
+use crate::failed::{Failed, check, is_alike};
 use crate::spoiling::spoiled;
-use commit::{Accepted, Committer, QueryHandle, Refused};
+use commit::{Accepted, Committer, NotCommitted, QueryHandle, Receipt, Refused};
 use gates::{Gate, Phase};
 use random_numbers::Random;
 use std::alloc::Global;
@@ -57,83 +57,121 @@ impl Story {
         }
         Ok(())
     }
-}
 
-fn story_at_random(alloc: Global, seed: u64) -> Result<Story, Failed> {
-    let mut random = Random::new(seed);
-    let mut story = Story::open(alloc)?;
-    let mut before = Bytes::from_slice(alloc, b"FBK1")?;
-    for _ in 0..BLOCKS {
-        let bytes = next_block(alloc, &story.drafter, &mut random)?;
-        story.add_spoiled(alloc, &mut random, &bytes, &before)?;
-        before = bytes.copy(alloc)?;
-        story.add(bytes)?;
-        let again = before.copy(alloc)?;
-        story.add_spoiled(alloc, &mut random, &again, &again)?;
+    // The block with spoiled ones before it and behind it.
+    fn add_block(
+        &mut self,
+        alloc: Global,
+        random: &mut Random,
+        bytes: &Bytes,
+        before: &Bytes,
+    ) -> Result<(), Failed> {
+        self.add_spoiled(alloc, random, bytes, before)?;
+        self.add(bytes.copy(alloc)?)?;
+        self.add_spoiled(alloc, random, bytes, bytes)
     }
-    Ok(story)
+
+    // The next block in the place of the one before.
+    fn add_next(
+        &mut self,
+        alloc: Global,
+        random: &mut Random,
+        before: &mut Bytes,
+    ) -> Result<(), Failed> {
+        let bytes = next_block(alloc, &self.drafter, random)?;
+        let added = self.add_block(alloc, random, &bytes, before);
+        *before = bytes;
+        added
+    }
+
+    fn add_all_at_random(&mut self, alloc: Global, seed: u64) -> Result<(), Failed> {
+        let mut random = Random::new(seed);
+        let mut before = Bytes::from_slice(alloc, b"FBK1")?;
+        for _ in 0..BLOCKS {
+            self.add_next(alloc, &mut random, &mut before)?;
+        }
+        Ok(())
+    }
+
+    // Blocks of so many writes, one behind the other.
+    fn add_writes(&mut self, alloc: Global, blocks: u32, count: u32) -> Result<(), Failed> {
+        for block in 0..blocks {
+            let bytes = block_of_writes(alloc, &self.drafter, block, count)?;
+            self.add(bytes)?;
+        }
+        Ok(())
+    }
 }
 
-fn is_answered_alike<R: Threads + Wait + Sync, G: Gate + Sync>(
+fn are_same(
+    answers: &[Result<Receipt, NotCommitted>],
+    of_ledger: &[Result<Accepted, Refused>],
+) -> bool {
+    for (answer, of_ledger) in answers.iter().zip(of_ledger) {
+        if !is_same(answer, of_ledger) {
+            return false;
+        }
+    }
+    answers.len() == of_ledger.len()
+}
+
+fn check_answered<R: Threads + Wait + Sync, G: Gate + Sync>(
     rt: &R,
     committer: &mut Committer,
     story: &Story,
     gate: &G,
-) -> Result<bool, Failed> {
+) -> Result<(), Failed> {
     let answers = committer.run(rt, story.blocks.as_slice(), story.drafter.keys(), gate)?;
-    Ok(
-        answers.len() == story.answers.len()
-            && answers
-                .iter()
-                .zip(story.answers.iter())
-                .all(|(answer, of_ledger)| is_same(answer, of_ledger))
-            && committer.gathered() == 0,
-    )
+    check(are_same(answers.as_slice(), story.answers.as_slice()) && committer.gathered() == 0)
 }
 
-fn is_run_alike<R: Threads + Wait + Sync>(
+fn check_run<R: Threads + Wait + Sync, G: Gate + Sync>(
     rt: &R,
     alloc: Global,
     committer: &mut Committer,
     handles: &mut [QueryHandle],
     story: &Story,
-    gate: &Yielding,
-) -> Result<bool, Failed> {
+    gate: &G,
+) -> Result<(), Failed> {
     let Some(handle) = handles.first_mut() else {
         return Err(Failed::Missing("a handle"));
     };
-    Ok(
-        is_answered_alike(rt, committer, story, gate)?
-            && is_published_alike(alloc, handle, story.drafter.world(), &[])?,
-    )
+    let world = story.drafter.world();
+    check_answered(rt, committer, story, gate)?;
+    check_published(alloc, handle, world, &[])?;
+    check(world.height() == BLOCKS)
 }
 
-fn is_alike<R: Threads + Wait + Sync>(
+fn check_story<R: Threads + Wait + Sync, G: Gate + Sync>(
+    rt: &R,
+    alloc: Global,
+    workers: usize,
+    story: &Story,
+    gate: &G,
+) -> Result<(), Failed> {
+    let (mut committer, mut handles) = opened(rt, alloc, workers)?;
+    let handles = handles.as_mut_slice();
+    let checked = check_run(rt, alloc, &mut committer, handles, story, gate);
+    committer.close(rt);
+    checked
+}
+
+fn check_seed<R: Threads + Wait + Sync>(
     rt: &R,
     alloc: Global,
     seed: u64,
     gate: &Yielding,
-) -> Result<bool, Failed> {
-    let story = story_at_random(alloc, seed)?;
-    let workers = WORKERS[(seed % 3) as usize];
-    let (mut committer, mut handles) = opened(rt, alloc, workers)?;
-    let is_alike = is_run_alike(
-        rt,
-        alloc,
-        &mut committer,
-        handles.as_mut_slice(),
-        &story,
-        gate,
-    );
-    committer.close(rt);
-    Ok(is_alike? && story.drafter.world().height() == BLOCKS)
+) -> Result<(), Failed> {
+    let mut story = Story::open(alloc)?;
+    story.add_all_at_random(alloc, seed)?;
+    check_story(rt, alloc, WORKERS[(seed % 3) as usize], &story, gate)
 }
 
 // The first list that isn't answered alike, 0 for none.
 fn alike_runs<R: Threads + Wait + Sync>(rt: &R, alloc: Global) -> Result<u64, Failed> {
     let gate = Yielding::new(19);
     for seed in 1..=CHAINS {
-        if !is_alike(rt, alloc, seed, &gate)? {
+        if !is_alike(check_seed(rt, alloc, seed, &gate))? {
             return Ok(seed);
         }
     }
@@ -146,34 +184,25 @@ fn runs_as_the_ledger(rt: HostRuntime) -> Result<(), Failed> {
     Ok(())
 }
 
-// Blocks of so many writes, one behind the other.
-fn story_of_writes(alloc: Global, blocks: u32, count: u32) -> Result<Story, Failed> {
-    let mut story = Story::open(alloc)?;
-    for block in 0..blocks {
-        let bytes = block_of_writes(alloc, &story.drafter, block, count)?;
-        story.add(bytes)?;
-    }
-    Ok(story)
-}
-
-fn is_run_of_writes_alike<R: Threads + Wait + Sync, G: Gate + Sync>(
+fn check_run_of_writes<R: Threads + Wait + Sync>(
     rt: &R,
     alloc: Global,
-    workers: usize,
-    gate: &G,
-) -> Result<bool, Failed> {
-    let story = story_of_writes(alloc, 3, 40)?;
-    let (mut committer, _handles) = opened(rt, alloc, workers)?;
-    let is_alike = is_answered_alike(rt, &mut committer, &story, gate);
-    committer.close(rt);
-    Ok(is_alike? && story.drafter.world().height() == 3)
+    gate: &Awaiting,
+) -> Result<(), Failed> {
+    let mut story = Story::open(alloc)?;
+    story.add_writes(alloc, 3, 40)?;
+    check_story(rt, alloc, 2, &story, gate)
+}
+
+fn is_next_taken_in<R: Threads + Wait + Sync>(rt: &R, alloc: Global) -> Result<bool, Failed> {
+    // more than the 80 of blocks 0 and 1, which are taken in together, and whose checks wait
+    let gate = Awaiting::new(Phase::Endorse, Phase::Intake, 80);
+    let is_alike = is_alike(check_run_of_writes(rt, alloc, &gate))?;
+    Ok(is_alike && gate.is_met())
 }
 
 #[test]
 fn the_next_block_is_taken_in_while_one_is_committed(rt: HostRuntime) -> Result<(), Failed> {
-    // more than the 80 of blocks 0 and 1, which are taken in together, and whose checks wait
-    let gate = Awaiting::new(Phase::Endorse, Phase::Intake, 80);
-    assert!(rt; is_run_of_writes_alike(&rt, rt.alloc(), 2, &gate)?);
-    assert!(rt; gate.is_met());
+    assert!(rt; is_next_taken_in(&rt, rt.alloc())?);
     Ok(())
 }

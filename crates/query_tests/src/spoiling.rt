@@ -17,37 +17,43 @@ fn place(random: &mut Random, len: usize) -> usize {
     drawn % len.max(1)
 }
 
-// One bit is another.
-fn flipped(alloc: Global, random: &mut Random, bytes: &[u8]) -> Result<Vec<u8>, AllocError> {
+// These bytes, of which the one at a place is replaced.
+fn replaced(alloc: Global, bytes: &[u8], place: usize, by: u8) -> Result<Vec<u8>, AllocError> {
     let mut copy = Vec::from_slice(alloc, bytes)?;
-    let place = place(random, bytes.len());
     if let Some(byte) = copy.get_mut(place) {
-        *byte ^= 1u8.rotate_left(u32::from(random.below(8)));
+        *byte = by;
     }
     Ok(copy)
+}
+
+// One bit is another.
+fn flipped(alloc: Global, random: &mut Random, bytes: &[u8]) -> Result<Vec<u8>, AllocError> {
+    let place = place(random, bytes.len());
+    let by = match bytes.get(place) {
+        Some(byte) => *byte ^ 1u8.rotate_left(u32::from(random.below(8))),
+        None => 0,
+    };
+    replaced(alloc, bytes, place, by)
 }
 
 // Up to eight bytes are gone.
 fn cut(alloc: Global, random: &mut Random, bytes: &[u8]) -> Result<Vec<u8>, AllocError> {
     let start = place(random, bytes.len());
     let end = start.saturating_add(usize::from(random.below(8)));
-    let mut copy = Vec::new(alloc);
-    for (i, byte) in bytes.iter().enumerate() {
-        if i < start || end < i {
-            copy.push(*byte)?;
-        }
-    }
-    Ok(copy)
+    let front = bytes.get(..start).unwrap_or(bytes);
+    let back = bytes.get(end.saturating_add(1)..).unwrap_or(&[]);
+    [front, back].concat(alloc)
 }
 
 // The count, or the first transaction's length, is another.
 fn miscounted(alloc: Global, random: &mut Random, bytes: &[u8]) -> Result<Vec<u8>, AllocError> {
-    let mut copy = Vec::from_slice(alloc, bytes)?;
     let count = COUNTS[usize::from(random.below(2)) % 2];
-    if let Some(byte) = copy.get_mut(count.saturating_add(usize::from(random.below(8)))) {
-        *byte = byte.wrapping_add(random.below(255));
-    }
-    Ok(copy)
+    let place = count.saturating_add(usize::from(random.below(8)));
+    let by = match bytes.get(place) {
+        Some(byte) => byte.wrapping_add(random.below(255)),
+        None => 0,
+    };
+    replaced(alloc, bytes, place, by)
 }
 
 // The data hash is that of the transactions, where there are some.

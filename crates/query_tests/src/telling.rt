@@ -7,7 +7,7 @@ use crate::blocks::Drafter;
 use crate::failed::Failed;
 use crate::publishing::publish_next;
 use query::{Publisher, QueryHandle, Receipt, Reply, open};
-use rules::{Delta, Flag};
+use rules::{CommittedBlock, Delta, Flag};
 use std::alloc::Global;
 use std::sync::Wait;
 use std::thread;
@@ -36,17 +36,20 @@ fn is_before_block<A>(reply: &Reply<A>) -> bool {
     reply.height == 0 && reply.header_hash.is_none()
 }
 
+fn is_kept(kept: &Option<CommittedBlock>) -> bool {
+    match kept {
+        Some(kept) => {
+            kept.bytes.get().as_slice() == block()
+                && kept.header_hash == *header_hash()
+                && has_flag(kept.flags.as_slice())
+        }
+        None => false,
+    }
+}
+
 fn keeps_block(alloc: Global, handle: &mut QueryHandle) -> Result<bool, Failed> {
     let reply = handle.block(alloc, 0)?;
-    let Some(kept) = &reply.answer else {
-        return Ok(false);
-    };
-    Ok(
-        is_behind_block(&reply)
-            && kept.bytes.get().as_slice() == block()
-            && kept.header_hash == *header_hash()
-            && has_flag(kept.flags.as_slice()),
-    )
+    Ok(is_behind_block(&reply) && is_kept(&reply.answer))
 }
 
 fn stays_told(alloc: Global, handle: &mut QueryHandle) -> Result<bool, Failed> {
@@ -109,6 +112,11 @@ fn in_two_threads<R: Threads + Wait + Sync>(
     Ok(told? && untold?)
 }
 
+fn drafted(alloc: Global) -> Result<Delta, Failed> {
+    let mut drafter = Drafter::open(alloc)?;
+    drafter.next(SCRIPT)
+}
+
 fn of_two<R: Threads + Wait + Sync>(
     rt: &R,
     alloc: Global,
@@ -117,7 +125,7 @@ fn of_two<R: Threads + Wait + Sync>(
 ) -> Result<bool, Failed>
     requires { All (λ h. h.book ≡ publisher.old.book) handles.old.items }
 {
-    let delta = Drafter::open(alloc)?.next(SCRIPT)?;
+    let delta = drafted(alloc)?;
     match (handles.pop(), handles.pop()) {
         (Some(mut one), Some(mut other)) => {
             in_two_threads(rt, alloc, publisher, &mut one, &mut other, delta)
@@ -126,12 +134,15 @@ fn of_two<R: Threads + Wait + Sync>(
     }
 }
 
+fn is_one_told<R: Threads + Wait + Sync>(rt: &R, alloc: Global) -> Result<bool, Failed> {
+    let (mut publisher, mut handles) = open(alloc, rt, World::new(alloc), World::new(alloc), 2)?;
+    let is_right = of_two(rt, alloc, &mut publisher, &mut handles);
+    publisher.close(rt);
+    is_right
+}
+
 #[test]
 fn one_of_two_handles_is_told(rt: HostRuntime) -> Result<(), Failed> {
-    let alloc = rt.alloc();
-    let (mut publisher, mut handles) = open(alloc, &rt, World::new(alloc), World::new(alloc), 2)?;
-    let is_right = of_two(&rt, alloc, &mut publisher, &mut handles);
-    publisher.close(&rt);
-    assert!(rt; is_right?);
+    assert!(rt; is_one_told(&rt, rt.alloc())?);
     Ok(())
 }

@@ -256,10 +256,7 @@ fn drafted_next(
         "tx Org1:client:c0 n{block} cc\nns cc\nwrite k {block}\nendorse Org1:peer:p0\n"
     )?;
     let bytes = drafter.drafted(script.as_str())?;
-    match drafter.submit(&bytes)? {
-        Ok(accepted) => hashes.push(accepted.header_hash)?,
-        Err(refused) => return Err(Failed::Refused(refused)),
-    }
+    hashes.push(drafter.take(&bytes)?)?;
     Ok(bytes)
 }
 
@@ -276,22 +273,20 @@ fn drafted(
     Ok(blocks)
 }
 
-fn with_all<R: Threads + Wait + Sync>(
+fn with_handles<R: Threads + Wait + Sync>(
     rt: &R,
     alloc: Global,
     committer: &mut Committer,
     mut handles: Vec<QueryHandle>,
+    keys: &KeyBook,
+    blocks: &[Bytes],
+    watched: &Watched,
 ) -> Result<bool, Failed>
     requires { All (λ h. h.book ≡ committer.old.book) handles.items }
 {
     let Some(mut silent) = handles.pop() else {
         return Err(Failed::Missing("a handle"));
     };
-    let mut drafter = Drafter::open(alloc)?;
-    let mut hashes = Vec::new(alloc);
-    let blocks = drafted(alloc, &mut drafter, &mut hashes)?;
-    let watched = Watched::over(hashes);
-    let (keys, blocks) = (drafter.keys(), blocks.as_slice());
     is_read_rightly(
         rt,
         alloc,
@@ -300,7 +295,7 @@ fn with_all<R: Threads + Wait + Sync>(
         handles,
         keys,
         blocks,
-        &watched,
+        watched,
     )
 }
 
@@ -313,11 +308,37 @@ fn opened<R: Wait>(rt: &R, alloc: Global) -> Result<(Committer, Vec<QueryHandle>
     }
 }
 
+fn with_committer<R: Threads + Wait + Sync>(
+    rt: &R,
+    alloc: Global,
+    keys: &KeyBook,
+    blocks: &[Bytes],
+    watched: &Watched,
+) -> Result<bool, Failed> {
+    let (mut committer, handles) = opened(rt, alloc)?;
+    let is_right = with_handles(rt, alloc, &mut committer, handles, keys, blocks, watched);
+    committer.close(rt);
+    is_right
+}
+
+fn with_drafter<R: Threads + Wait + Sync>(
+    rt: &R,
+    alloc: Global,
+    drafter: &mut Drafter,
+) -> Result<bool, Failed> {
+    let mut hashes = Vec::new(alloc);
+    let blocks = drafted(alloc, drafter, &mut hashes)?;
+    let watched = Watched::over(hashes);
+    with_committer(rt, alloc, drafter.keys(), blocks.as_slice(), &watched)
+}
+
+fn is_all_read_rightly<R: Threads + Wait + Sync>(rt: &R, alloc: Global) -> Result<bool, Failed> {
+    let mut drafter = Drafter::open(alloc)?;
+    with_drafter(rt, alloc, &mut drafter)
+}
+
 #[test]
 fn readers_while_blocks_are_submitted(rt: HostRuntime) -> Result<(), Failed> {
-    let (mut committer, handles) = opened(&rt, rt.alloc())?;
-    let is_right = with_all(&rt, rt.alloc(), &mut committer, handles);
-    committer.close(&rt);
-    assert!(rt; is_right?);
+    assert!(rt; is_all_read_rightly(&rt, rt.alloc())?);
     Ok(())
 }

@@ -1,9 +1,10 @@
 //! What checks of a job find.
 
+use crate::failed::Failed;
 use dependency::{NOT_VALIDATED, run_events};
 use key_chains::Job;
 use rules::Event;
-use std::alloc::{AllocError, Global};
+use std::alloc::Global;
 
 /// The most transactions of a block here.
 pub const TXS: usize = 6;
@@ -21,7 +22,7 @@ pub fn numbers(flags: &[u8]) -> Numbers {
 }
 
 /// The flags that these checks find.
-pub fn found(alloc: Global, job: &Job<'_>, events: &[Event]) -> Result<Numbers, AllocError> {
+pub fn found(alloc: Global, job: &Job<'_>, events: &[Event]) -> Result<Numbers, Failed> {
     let board = run_events(alloc, job, events)?;
     Ok(numbers(board.flags(alloc)?.as_slice()))
 }

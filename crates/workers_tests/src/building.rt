@@ -32,14 +32,14 @@ pub struct RowCase<'a> {
 
 fn name(alloc: Global, bytes: &[u8]) -> Result<Name, Failed> {
     if !is_name(bytes) {
-        return Err(Failed::Missing("a name"));
+        return Err(Failed("a name"));
     }
     Ok(Name::from_slice(alloc, bytes)?)
 }
 
 fn key(alloc: Global, bytes: &[u8]) -> Result<Key, Failed> {
     if !is_key(bytes) {
-        return Err(Failed::Missing("a key"));
+        return Err(Failed("a key"));
     }
     Ok(Key::from_slice(alloc, bytes)?)
 }
@@ -63,8 +63,10 @@ fn row_of(alloc: Global, case: &RowCase<'_>) -> Result<Row, Failed> {
 }
 
 fn put_row(alloc: Global, batch: &mut Batch, case: &RowCase<'_>) -> Result<(), Failed> {
+    let name = name(alloc, b"cc")?;
+    let key = key(alloc, case.key)?;
     let row = row_of(alloc, case)?;
-    Ok(batch.put(name(alloc, b"cc")?, key(alloc, case.key)?, row)?)
+    Ok(batch.put(name, key, row)?)
 }
 
 fn batch_of(alloc: Global, rows: &[RowCase<'_>]) -> Result<Batch, Failed> {
@@ -93,16 +95,20 @@ impl Keys {
     }
 }
 
+fn put_link_row(alloc: Global, batch: &mut Batch, i: u32) -> Result<(), Failed> {
+    let key = format!(in alloc; "k{i}")?;
+    let row = RowCase {
+        key: key.as_bytes(),
+        policy: None,
+    };
+    put_row(alloc, batch, &row)
+}
+
 // Each key that is read has the version that is read.
 fn batch_of_links(alloc: Global, count: u32) -> Result<Batch, Failed> {
     let mut batch = Batch::new(alloc);
     for i in 0..count {
-        let key = format!(in alloc; "k{i}")?;
-        let row = RowCase {
-            key: key.as_bytes(),
-            policy: None,
-        };
-        put_row(alloc, &mut batch, &row)?;
+        put_link_row(alloc, &mut batch, i)?;
     }
     Ok(batch)
 }
@@ -129,9 +135,10 @@ fn applied(alloc: Global, batch: &Batch) -> Result<StateDb, AllocError> {
 }
 
 fn definitions(alloc: Global) -> Result<Definitions, Failed> {
-    let mut definitions = Definitions::new(alloc);
     let name = name(alloc, b"cc")?;
-    definitions.set(&name, Policy::parse_bytes(alloc, POLICY)?)?;
+    let policy = Policy::parse_bytes(alloc, POLICY)?;
+    let mut definitions = Definitions::new(alloc);
+    definitions.set(&name, policy)?;
     Ok(definitions)
 }
 
@@ -219,7 +226,7 @@ impl Ground {
             self.block.as_slice(),
         )?;
         if candidates.as_slice().len() > MAX_TXS {
-            return Err(Failed::Missing("a job"));
+            return Err(Failed("a job"));
         }
         Ok(Job::build(alloc, BLOCK, &self.state, &self.definitions, candidates)?)
     }

@@ -1,28 +1,23 @@
 //! Calls of a desk, one after the other, and what they answer.
 
-use std::alloc::AllocError;
+ghost use Rattle.std.specs.Prelude.{◌≤◌};
+
+use std::alloc::{AllocError, Global};
 use task_desk::{Desk, Run};
 
+/// A call, and behind its arguments what it has to answer.
 #[derive(Clone, Copy)]
 enum Call {
-    Take,
-    TakeRun(u32),
+    Take(Option<u32>),
+    TakeRun(u32, Option<(u32, u32)>),
     DoneRun(u32, u32),
-    Hand,
-    Start(u32),
-    Park(u32, u32),
-    Done(u32),
-    AllDone,
-    Out,
-}
-
-#[derive(Clone, Copy, PartialEq, Eq)]
-enum Answer {
-    Task(Option<u32>),
-    Run(Option<(u32, u32)>),
-    Nothing,
-    Is(bool),
-    Count(u32),
+    Hand(Option<u32>),
+    Start(u32, bool),
+    Park(u32, u32, bool),
+    Done(u32, bool),
+    AllDone(bool),
+    Out(u32),
+    Left(u32),
 }
 
 // An empty run may stand anywhere.
@@ -34,28 +29,29 @@ fn shown(run: Run) -> Option<(u32, u32)> {
     }
 }
 
-fn answer_of(desk: &mut Desk, call: Call) -> Answer {
+fn is_answered(desk: &mut Desk, call: Call) -> bool {
     match call {
-        Call::Take => Answer::Task(desk.take()),
-        Call::TakeRun(most) => Answer::Run(shown(desk.take_run(most.max(1)))),
+        Call::Take(task) => desk.take() == task,
+        Call::TakeRun(most, run) => shown(desk.take_run(most.max(1))) == run,
         Call::DoneRun(from, end) => {
             desk.done_run(Run { from, end });
-            Answer::Nothing
+            true
         }
-        Call::Hand => Answer::Task(desk.hand()),
-        Call::Start(task) => Answer::Is(desk.start(task)),
-        Call::Park(task, h) => Answer::Is(desk.park(task, h)),
-        Call::Done(task) => Answer::Is(desk.done(task)),
-        Call::AllDone => Answer::Is(desk.all_done()),
-        Call::Out => Answer::Count(desk.out()),
+        Call::Hand(task) => desk.hand() == task,
+        Call::Start(task, wanted) => desk.start(task) == wanted,
+        Call::Park(task, h, wanted) => desk.park(task, h) == wanted,
+        Call::Done(task, wanted) => desk.done(task) == wanted,
+        Call::AllDone(wanted) => desk.all_done() == wanted,
+        Call::Out(count) => desk.out() == count,
+        Call::Left(count) => desk.left() == count,
     }
 }
 
 // How many of the calls are answered so, up to the first that isn't.
-fn answered(desk: &mut Desk, calls: &[(Call, Answer)]) -> usize {
+fn answered(desk: &mut Desk, calls: &[Call]) -> usize {
     let mut count: usize = 0;
-    for (call, wanted) in calls {
-        if answer_of(desk, *call) != *wanted {
+    for call in calls {
+        if !is_answered(desk, *call) {
             return count;
         }
         count = count.saturating_add(1);
@@ -63,208 +59,241 @@ fn answered(desk: &mut Desk, calls: &[(Call, Answer)]) -> usize {
     count
 }
 
+// Of the calls of a desk over so many transactions.
+fn answered_first(alloc: Global, txs: u32, calls: &[Call]) -> Result<usize, AllocError>
+    requires { txs ≤ 4096 }
+{
+    let mut desk = Desk::new(alloc, txs)?;
+    Ok(answered(&mut desk, calls))
+}
+
 // Behind two takes.
-fn parking() -> &'static [(Call, Answer)] {
+fn parking() -> &'static [Call] {
     &PARKING
 }
 
-static PARKING: [(Call, Answer); 23] = [
-    (Call::Out, Answer::Count(2)),
-    (Call::Take, Answer::Task(None)),
-    (Call::Park(1, 1), Answer::Is(false)),
-    (Call::Park(1, 2), Answer::Is(false)),
-    (Call::Park(1, 0), Answer::Is(true)),
-    (Call::Out, Answer::Count(1)),
-    (Call::Park(1, 0), Answer::Is(false)),
-    (Call::Done(1), Answer::Is(false)),
-    (Call::Take, Answer::Task(None)),
-    (Call::Done(0), Answer::Is(true)),
-    (Call::Out, Answer::Count(0)),
-    (Call::Take, Answer::Task(Some(1))),
+static PARKING: [Call; 23] = [
+    Call::Out(2),
+    Call::Take(None),
+    Call::Park(1, 1, false),
+    Call::Park(1, 2, false),
+    Call::Park(1, 0, true),
+    Call::Out(1),
+    Call::Park(1, 0, false),
+    Call::Done(1, false),
+    Call::Take(None),
+    Call::Done(0, true),
+    Call::Out(0),
+    Call::Take(Some(1)),
     // a task that is parked on one that is done is ready
-    (Call::Park(1, 0), Answer::Is(true)),
-    (Call::Take, Answer::Task(Some(1))),
-    (Call::Park(0, 1), Answer::Is(false)),
-    (Call::Done(0), Answer::Is(false)),
-    (Call::Done(2), Answer::Is(false)),
-    (Call::AllDone, Answer::Is(false)),
-    (Call::Done(1), Answer::Is(true)),
-    (Call::AllDone, Answer::Is(true)),
-    (Call::Out, Answer::Count(0)),
-    (Call::Take, Answer::Task(None)),
-    (Call::Hand, Answer::Task(None)),
+    Call::Park(1, 0, true),
+    Call::Take(Some(1)),
+    Call::Park(0, 1, false),
+    Call::Done(0, false),
+    Call::Done(2, false),
+    Call::AllDone(false),
+    Call::Done(1, true),
+    Call::AllDone(true),
+    Call::Out(0),
+    Call::Take(None),
+    Call::Hand(None),
 ];
+
+// Whether two tasks can be taken, in any order.
+fn are_two_taken(desk: &mut Desk) -> bool {
+    match (desk.take(), desk.take()) {
+        (Some(one), Some(other)) => one < 2 && other < 2 && one != other,
+        _ => false,
+    }
+}
+
+fn is_parked(alloc: Global) -> Result<bool, AllocError> {
+    let mut desk = Desk::new(alloc, 1)?;
+    Ok(are_two_taken(&mut desk) && answered(&mut desk, parking()) == 23)
+}
 
 #[test]
 fn tasks_that_are_taken(rt: HostRuntime) -> Result<(), AllocError> {
-    let mut desk = Desk::new(rt.alloc(), 1)?;
-    let taken = [desk.take(), desk.take()];
-    assert!(rt; taken == [Some(0), Some(1)] || taken == [Some(1), Some(0)]);
-    assert!(rt; answered(&mut desk, parking()) == parking().len());
+    assert!(rt; is_parked(rt.alloc())?);
     Ok(())
 }
 
-fn handing() -> &'static [(Call, Answer)] {
+fn handing() -> &'static [Call] {
     &HANDING
 }
 
-static HANDING: [(Call, Answer); 18] = [
-    (Call::Hand, Answer::Task(Some(0))),
-    (Call::Hand, Answer::Task(Some(1))),
-    (Call::Hand, Answer::Task(None)),
-    (Call::Out, Answer::Count(0)),
-    (Call::Start(0), Answer::Is(true)),
-    (Call::Start(0), Answer::Is(false)),
-    (Call::Start(1), Answer::Is(true)),
-    (Call::Out, Answer::Count(2)),
-    (Call::Park(1, 0), Answer::Is(true)),
-    (Call::Hand, Answer::Task(None)),
-    (Call::Start(1), Answer::Is(false)),
-    (Call::Done(0), Answer::Is(true)),
-    (Call::Hand, Answer::Task(Some(1))),
-    (Call::Hand, Answer::Task(None)),
-    (Call::Start(2), Answer::Is(false)),
+static HANDING: [Call; 18] = [
+    Call::Hand(Some(0)),
+    Call::Hand(Some(1)),
+    Call::Hand(None),
+    Call::Out(0),
+    Call::Start(0, true),
+    Call::Start(0, false),
+    Call::Start(1, true),
+    Call::Out(2),
+    Call::Park(1, 0, true),
+    Call::Hand(None),
+    Call::Start(1, false),
+    Call::Done(0, true),
+    Call::Hand(Some(1)),
+    Call::Hand(None),
+    Call::Start(2, false),
     // one that was handed can still be taken
-    (Call::Take, Answer::Task(Some(1))),
-    (Call::Done(1), Answer::Is(true)),
-    (Call::AllDone, Answer::Is(true)),
+    Call::Take(Some(1)),
+    Call::Done(1, true),
+    Call::AllDone(true),
 ];
 
 #[test]
 fn tasks_that_are_handed(rt: HostRuntime) -> Result<(), AllocError> {
-    let mut desk = Desk::new(rt.alloc(), 1)?;
-    assert!(rt; answered(&mut desk, handing()) == handing().len());
+    assert!(rt; answered_first(rt.alloc(), 1, handing())? == 18);
     Ok(())
 }
 
-fn starting() -> &'static [(Call, Answer)] {
+fn starting() -> &'static [Call] {
     &STARTING
 }
 
 // Some that nobody was handed are started; what is left is handed in order, also what becomes ready again.
-static STARTING: [(Call, Answer); 15] = [
-    (Call::Start(3), Answer::Is(true)),
-    (Call::Start(1), Answer::Is(true)),
-    (Call::Hand, Answer::Task(Some(0))),
-    (Call::Start(0), Answer::Is(true)),
-    (Call::Park(3, 1), Answer::Is(true)),
-    (Call::Park(1, 0), Answer::Is(true)),
-    (Call::Done(0), Answer::Is(true)),
-    (Call::Hand, Answer::Task(Some(1))),
-    (Call::Hand, Answer::Task(Some(2))),
-    (Call::Start(1), Answer::Is(true)),
-    (Call::Done(1), Answer::Is(true)),
-    (Call::Hand, Answer::Task(Some(3))),
-    (Call::Hand, Answer::Task(Some(4))),
-    (Call::Hand, Answer::Task(Some(5))),
-    (Call::Hand, Answer::Task(None)),
+static STARTING: [Call; 17] = [
+    Call::Start(3, true),
+    Call::Start(1, true),
+    Call::Hand(Some(0)),
+    Call::Start(0, true),
+    Call::Park(3, 1, true),
+    Call::Park(1, 0, true),
+    Call::Done(0, true),
+    Call::Hand(Some(1)),
+    Call::Hand(Some(2)),
+    Call::Start(1, true),
+    Call::Done(1, true),
+    Call::Hand(Some(3)),
+    Call::Hand(Some(4)),
+    Call::Hand(Some(5)),
+    Call::Hand(None),
+    // two are done, and of the others none is out
+    Call::Left(4),
+    Call::Out(0),
 ];
 
 #[test]
 fn tasks_that_are_started_out_of_turn(rt: HostRuntime) -> Result<(), AllocError> {
-    let mut desk = Desk::new(rt.alloc(), 3)?;
-    assert!(rt; answered(&mut desk, starting()) == starting().len());
-    // two are done, and of the others none is out
-    assert!(rt; desk.left() == 4 && desk.out() == 0);
+    assert!(rt; answered_first(rt.alloc(), 3, starting())? == 17);
     Ok(())
 }
 
-fn running() -> &'static [(Call, Answer)] {
+fn running() -> &'static [Call] {
     &RUNNING
 }
 
 // Runs of six tasks, of which one is parked and one is taken between others.
-static RUNNING: [(Call, Answer); 24] = [
-    (Call::TakeRun(2), Answer::Run(Some((0, 2)))),
-    (Call::Hand, Answer::Task(Some(2))),
-    (Call::TakeRun(9), Answer::Run(Some((3, 6)))),
-    (Call::TakeRun(1), Answer::Run(None)),
-    (Call::Out, Answer::Count(5)),
+static RUNNING: [Call; 24] = [
+    Call::TakeRun(2, Some((0, 2))),
+    Call::Hand(Some(2)),
+    Call::TakeRun(9, Some((3, 6))),
+    Call::TakeRun(1, None),
+    Call::Out(5),
     // one that was handed isn't out yet
-    (Call::DoneRun(2, 3), Answer::Nothing),
-    (Call::Start(2), Answer::Is(true)),
-    (Call::Park(3, 1), Answer::Is(true)),
-    (Call::DoneRun(0, 2), Answer::Nothing),
-    (Call::Out, Answer::Count(3)),
-    (Call::TakeRun(4), Answer::Run(Some((3, 4)))),
-    (Call::TakeRun(4), Answer::Run(None)),
+    Call::DoneRun(2, 3),
+    Call::Start(2, true),
+    Call::Park(3, 1, true),
+    Call::DoneRun(0, 2),
+    Call::Out(3),
+    Call::TakeRun(4, Some((3, 4))),
+    Call::TakeRun(4, None),
     // those of a run that wait for another one of it are ready behind it, and not done
-    (Call::Park(4, 2), Answer::Is(true)),
-    (Call::DoneRun(2, 6), Answer::Nothing),
-    (Call::AllDone, Answer::Is(false)),
-    (Call::Out, Answer::Count(0)),
-    (Call::TakeRun(4), Answer::Run(Some((4, 5)))),
+    Call::Park(4, 2, true),
+    Call::DoneRun(2, 6),
+    Call::AllDone(false),
+    Call::Out(0),
+    Call::TakeRun(4, Some((4, 5))),
     // neither a run that ends before it begins, nor one beside the task
-    (Call::DoneRun(5, 4), Answer::Nothing),
-    (Call::DoneRun(5, 9), Answer::Nothing),
-    (Call::Out, Answer::Count(1)),
-    (Call::DoneRun(0, 9), Answer::Nothing),
-    (Call::AllDone, Answer::Is(true)),
-    (Call::Out, Answer::Count(0)),
-    (Call::TakeRun(4), Answer::Run(None)),
+    Call::DoneRun(5, 4),
+    Call::DoneRun(5, 9),
+    Call::Out(1),
+    Call::DoneRun(0, 9),
+    Call::AllDone(true),
+    Call::Out(0),
+    Call::TakeRun(4, None),
 ];
 
 #[test]
 fn runs_of_tasks(rt: HostRuntime) -> Result<(), AllocError> {
-    let mut desk = Desk::new(rt.alloc(), 3)?;
-    assert!(rt; answered(&mut desk, running()) == running().len());
+    assert!(rt; answered_first(rt.alloc(), 3, running())? == 24);
     Ok(())
 }
 
-const NOTHING: [(Call, Answer); 9] = [
-    (Call::AllDone, Answer::Is(true)),
-    (Call::Take, Answer::Task(None)),
-    (Call::TakeRun(1), Answer::Run(None)),
-    (Call::DoneRun(0, 1), Answer::Nothing),
-    (Call::Hand, Answer::Task(None)),
-    (Call::Start(0), Answer::Is(false)),
-    (Call::Park(1, 0), Answer::Is(false)),
-    (Call::Done(0), Answer::Is(false)),
-    (Call::Out, Answer::Count(0)),
+fn calling_nothing() -> &'static [Call] {
+    &NOTHING
+}
+
+static NOTHING: [Call; 9] = [
+    Call::AllDone(true),
+    Call::Take(None),
+    Call::TakeRun(1, None),
+    Call::DoneRun(0, 1),
+    Call::Hand(None),
+    Call::Start(0, false),
+    Call::Park(1, 0, false),
+    Call::Done(0, false),
+    Call::Out(0),
 ];
 
 #[test]
 fn no_tasks(rt: HostRuntime) -> Result<(), AllocError> {
-    let mut desk = Desk::new(rt.alloc(), 0)?;
-    assert!(rt; answered(&mut desk, &NOTHING) == 9);
+    assert!(rt; answered_first(rt.alloc(), 0, calling_nothing())? == 9);
     Ok(())
 }
 
-// How many of so many tasks are handed in order, started and done, up to the first call that is answered otherwise.
-fn worked_through(desk: &mut Desk, tasks: u32) -> u32 {
-    for task in 0..tasks {
+// The most tasks that can be.
+const TASKS: u32 = 8192;
+
+// Whether all tasks are handed in order, started and done.
+fn are_handed_in_order(desk: &mut Desk) -> bool {
+    for task in 0..TASKS {
         if desk.hand() != Some(task) || !desk.start(task) || !desk.done(task) {
-            return task;
+            return false;
         }
     }
-    tasks
+    true
 }
 
 // The same in runs, each longer than the one before; how many runs there were.
-fn worked_through_in_runs(desk: &mut Desk) -> u32 {
-    for count in 0..8192 {
+fn runs_worked_through(desk: &mut Desk) -> u32 {
+    for count in 0..TASKS {
         let run = desk.take_run(count + 1);
         if run.from == run.end {
             return count;
         }
         desk.done_run(run);
     }
-    8192
+    TASKS
+}
+
+fn is_worked_through(desk: &mut Desk, in_runs: bool) -> bool {
+    let is_right = if in_runs {
+        // 1 + 2 + .. + 127 are 8,128
+        runs_worked_through(desk) == 128
+    } else {
+        are_handed_in_order(desk)
+    };
+    is_right && desk.all_done()
+}
+
+// Whether all are worked through, one by one or in runs.
+fn is_all_worked_through(alloc: Global, in_runs: bool) -> Result<bool, AllocError> {
+    let mut desk = Desk::new(alloc, TASKS / 2)?;
+    Ok(is_worked_through(&mut desk, in_runs))
 }
 
 #[test]
 fn as_many_tasks_in_runs(rt: HostRuntime) -> Result<(), AllocError> {
-    let mut desk = Desk::new(rt.alloc(), 4096)?;
-    // 1 + 2 + .. + 127 are 8,128
-    assert!(rt; worked_through_in_runs(&mut desk) == 128);
-    assert!(rt; desk.all_done());
+    assert!(rt; is_all_worked_through(rt.alloc(), true)?);
     Ok(())
 }
 
 #[test]
 fn as_many_tasks_as_can_be(rt: HostRuntime) -> Result<(), AllocError> {
-    let mut desk = Desk::new(rt.alloc(), 4096)?;
-    assert!(rt; worked_through(&mut desk, 8192) == 8192);
-    assert!(rt; desk.all_done());
+    assert!(rt; is_all_worked_through(rt.alloc(), false)?);
     Ok(())
 }

@@ -11,10 +11,14 @@ use std::alloc::Global;
 // A list, and the flags up to the last one that is known.
 type Checks = (&'static [Event], &'static [u8]);
 
+fn found_on(alloc: Global, ground: &Ground, events: &[Event]) -> Result<Numbers, Failed> {
+    let job = ground.job(alloc)?;
+    found(alloc, &job, events)
+}
+
 fn found_in(alloc: Global, case: &BlockCase, events: &[Event]) -> Result<Numbers, Failed> {
     let ground = Ground::of(alloc, case.rows, case.script)?;
-    let job = ground.job(alloc)?;
-    Ok(found(alloc, &job, events)?)
+    found_on(alloc, &ground, events)
 }
 
 // Whether each list finds these flags, and no other ones.
@@ -70,8 +74,7 @@ static OF_READERS_AND_WRITERS: [Checks; 6] = [
 
 #[test]
 fn readers_behind_writers(rt: HostRuntime) -> Result<(), Failed> {
-    let case = readers_and_writers();
-    assert!(rt; are_found(rt.alloc(), &case, of_readers_and_writers())?);
+    assert!(rt; are_found(rt.alloc(), readers_and_writers(), of_readers_and_writers())?);
     Ok(())
 }
 
@@ -95,6 +98,6 @@ static OF_FLAGGED: [Checks; 2] = [
 
 #[test]
 fn flags_that_no_check_decides(rt: HostRuntime) -> Result<(), Failed> {
-    assert!(rt; are_found(rt.alloc(), &flagged(), of_flagged())?);
+    assert!(rt; are_found(rt.alloc(), flagged(), of_flagged())?);
     Ok(())
 }

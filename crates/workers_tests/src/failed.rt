@@ -6,48 +6,42 @@ use key_book::KeyBookFault;
 use policy::PolicyFault;
 use std::alloc::{AllocError, AllocFailed};
 
-#[derive(Debug, Drop)]
-pub enum Failed {
-    Memory,
-    Policy(PolicyFault),
-    Keys(KeyBookFault),
-    Draft(DraftFault),
-    Block(BlockFault),
-    Missing(&'static str),
-}
+/// What could not be had.
+#[derive(Clone, Copy, Debug)]
+pub struct Failed(pub &'static str);
 
 impl From<AllocError> for Failed {
     fn from(_e: AllocError) -> Failed {
-        Failed::Memory
+        Failed("memory")
     }
 }
 
 impl<T: Drop> From<AllocFailed<T>> for Failed {
     fn from(_e: AllocFailed<T>) -> Failed {
-        Failed::Memory
+        Failed("memory")
     }
 }
 
 impl From<PolicyFault> for Failed {
-    fn from(fault: PolicyFault) -> Failed {
-        Failed::Policy(fault)
+    fn from(_fault: PolicyFault) -> Failed {
+        Failed("a policy")
     }
 }
 
 impl From<KeyBookFault> for Failed {
-    fn from(fault: KeyBookFault) -> Failed {
-        Failed::Keys(fault)
+    fn from(_fault: KeyBookFault) -> Failed {
+        Failed("keys")
     }
 }
 
 impl From<DraftFault> for Failed {
-    fn from(fault: DraftFault) -> Failed {
-        Failed::Draft(fault)
+    fn from(_fault: DraftFault) -> Failed {
+        Failed("a draft")
     }
 }
 
 impl From<BlockFault> for Failed {
-    fn from(fault: BlockFault) -> Failed {
-        Failed::Block(fault)
+    fn from(_fault: BlockFault) -> Failed {
+        Failed("a block")
     }
 }

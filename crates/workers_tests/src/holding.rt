@@ -28,17 +28,10 @@ impl Late {
         }
     }
 
-    /// Whether the five came before the turns were over.
-    pub fn is_let_go(&self) -> bool {
+    /// Whether the five came before the turns were over, and one of the first two read checks was entered again.
+    pub fn is_tried_again(&self) -> bool {
         self.let_go.load(Ordering::SeqCst)
-    }
-
-    /// How often the read check of transaction i was entered.
-    pub fn reads_of(&self, i: usize) -> u32 {
-        match self.read.get(i) {
-            None => 0,
-            Some(entered) => entered.load(Ordering::SeqCst),
-        }
+            && (self.read[0].load(Ordering::SeqCst) > 1 || self.read[1].load(Ordering::SeqCst) > 1)
     }
 
     fn are_others_entered(&self) -> bool {

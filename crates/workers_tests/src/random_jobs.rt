@@ -42,6 +42,13 @@ struct Times {
     phantom: u32,
 }
 
+const NONE: Times = Times {
+    valid: 0,
+    refused: 0,
+    stale: 0,
+    phantom: 0,
+};
+
 fn add_one(times: &mut u32) {
     *times = times.saturating_add(1);
 }
@@ -60,9 +67,7 @@ impl Times {
     }
 
     fn are_all_often(&self) -> bool {
-        [self.valid, self.refused, self.stale, self.phantom]
-            .iter()
-            .all(|times| *times >= 200)
+        self.valid >= 200 && self.refused >= 200 && self.stale >= 200 && self.phantom >= 200
     }
 }
 
@@ -84,24 +89,47 @@ fn is_found<R: Threads + Wait + Sync>(
     Ok(is_same(&checked, flags))
 }
 
+fn are_flags_found<R: Threads + Wait + Sync>(
+    rt: &R,
+    alloc: Global,
+    job: &Job<'_>,
+    flags: &[Flag],
+    gate: &Yielding,
+) -> Result<bool, Failed> {
+    for workers in WORKERS {
+        if workers < 1 || workers > 64 || !is_found(rt, alloc, job, flags, workers, gate)? {
+            return Ok(false);
+        }
+    }
+    Ok(true)
+}
+
 fn are_found<R: Threads + Wait + Sync>(
     rt: &R,
     alloc: Global,
     job: &Job<'_>,
     gate: &Yielding,
     times: &mut Times,
-) -> Result<bool, AllocError> {
+) -> Result<bool, Failed> {
     let flags = serial_checks::flags(alloc, job)?;
     times.count(flags.as_slice());
-    for workers in WORKERS {
-        if workers < 1
-            || workers > 64
-            || !is_found(rt, alloc, job, flags.as_slice(), workers, gate)?
-        {
-            return Ok(false);
-        }
-    }
-    Ok(true)
+    are_flags_found(rt, alloc, job, flags.as_slice(), gate)
+}
+
+fn ground_at_random(alloc: Global, random: &mut Random) -> Result<Ground, Failed> {
+    let script = script(alloc, random)?;
+    Ground::of(alloc, &ROWS, script.as_str())
+}
+
+fn is_ground_checked<R: Threads + Wait + Sync>(
+    rt: &R,
+    alloc: Global,
+    ground: &Ground,
+    gate: &Yielding,
+    times: &mut Times,
+) -> Result<bool, Failed> {
+    let job = ground.job(alloc)?;
+    are_found(rt, alloc, &job, gate, times)
 }
 
 fn is_job_checked<R: Threads + Wait + Sync>(
@@ -111,28 +139,30 @@ fn is_job_checked<R: Threads + Wait + Sync>(
     gate: &Yielding,
     times: &mut Times,
 ) -> Result<bool, Failed> {
-    let script = script(alloc, random)?;
-    let ground = Ground::of(alloc, &ROWS, script.as_str())?;
-    let job = ground.job(alloc)?;
-    Ok(are_found(rt, alloc, &job, gate, times)?)
+    let ground = ground_at_random(alloc, random)?;
+    is_ground_checked(rt, alloc, &ground, gate, times)
+}
+
+// How many jobs are checked so, up to the first that isn't.
+fn jobs_checked<R: Threads + Wait + Sync>(
+    rt: &R,
+    alloc: Global,
+    times: &mut Times,
+) -> Result<u32, Failed> {
+    let mut random = Random::new(15);
+    let gate = Yielding::new(15);
+    for number in 0..JOBS {
+        if !is_job_checked(rt, alloc, &mut random, &gate, times)? {
+            return Ok(number);
+        }
+    }
+    Ok(JOBS)
 }
 
 #[test]
 fn any_number_of_workers(rt: HostRuntime) -> Result<(), Failed> {
-    let mut random = Random::new(15);
-    let gate = Yielding::new(15);
-    let mut times = Times {
-        valid: 0,
-        refused: 0,
-        stale: 0,
-        phantom: 0,
-    };
-    for number in 0..JOBS {
-        assert!(rt;
-            is_job_checked(&rt, rt.alloc(), &mut random, &gate, &mut times)?,
-            "job {number}"
-        );
-    }
+    let mut times = NONE;
+    assert!(rt; jobs_checked(&rt, rt.alloc(), &mut times)? == JOBS);
     assert!(rt; times.are_all_often());
     Ok(())
 }

@@ -171,16 +171,16 @@ endorse Org1:peer:p0
     flags: &[2, 25, 0],
 };
 
-pub fn readers_and_writers() -> BlockCase {
-    READERS_AND_WRITERS
+pub fn readers_and_writers() -> &'static BlockCase {
+    &blocks()[0]
 }
 
-pub fn flagged() -> BlockCase {
-    FLAGGED
+pub fn flagged() -> &'static BlockCase {
+    &blocks()[5]
 }
 
 /// Blocks in which checks wait for one another.
-pub fn blocks() -> &'static [BlockCase] {
+pub fn blocks() -> &'static [BlockCase; 6] {
     &BLOCKS
 }
 

@@ -7,7 +7,7 @@ use crate::rows::{BlockCase, blocks};
 use dependency::NOT_VALIDATED;
 use key_chains::Job;
 use rules::Event;
-use std::alloc::{AllocError, Global};
+use std::alloc::Global;
 
 const LISTS: u32 = 10_000;
 
@@ -97,7 +97,7 @@ impl Seen {
     }
 }
 
-fn seen_of(alloc: Global, job: &Job<'_>, flags: &[u8]) -> Result<Seen, AllocError> {
+fn seen_of(alloc: Global, job: &Job<'_>, flags: &[u8]) -> Result<Seen, Failed> {
     let wanted = numbers(flags);
     let mut schedules = Schedules::new();
     let mut seen = Seen {
@@ -114,18 +114,21 @@ fn seen_of(alloc: Global, job: &Job<'_>, flags: &[u8]) -> Result<Seen, AllocErro
     Ok(seen)
 }
 
+fn seen_on(alloc: Global, ground: &Ground, flags: &[u8]) -> Result<Seen, Failed> {
+    let job = ground.job(alloc)?;
+    seen_of(alloc, &job, flags)
+}
+
 fn seen_in(alloc: Global, case: &BlockCase) -> Result<Seen, Failed> {
     let ground = Ground::of(alloc, case.rows, case.script)?;
-    let job = ground.job(alloc)?;
-    Ok(seen_of(alloc, &job, case.flags)?)
+    seen_on(alloc, &ground, case.flags)
 }
 
 #[test]
 fn lists_at_random(rt: HostRuntime) -> Result<(), Failed> {
     for case in blocks() {
         let seen = seen_in(rt.alloc(), case)?;
-        assert!(rt; seen.right == LISTS);
-        assert!(rt; seen.full > 0 && seen.partial > 0);
+        assert!(rt; seen.right == LISTS && seen.full > 0 && seen.partial > 0);
     }
     Ok(())
 }
