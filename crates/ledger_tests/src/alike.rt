@@ -1,7 +1,9 @@
-//! The ledger and the plain committer over the same bytes.
+//! The ledger over bytes, and over their transactions what has no cleverness: `plain` for the flags and what is behind them,
+//! the rules of linked blocks as they are written, and a list of the blocks that were accepted.
 
 use crate::failed::Failed;
 use crate::fixture::{configuration, key, name};
+use block::{Block, BlockFault, MAX_TXS, Previous, decode_block};
 use chain_vectors::first_blocks::first_blocks;
 use chain_vectors::later_blocks::later_blocks;
 use chain_vectors::rows::rows;
@@ -9,11 +11,12 @@ use chain_vectors::uses::uses;
 use chain_vectors::{Committed, SaysOk, read_use};
 use channel::Channel;
 use commit::{Ledger, Reason};
+use header_hash::{data_hash, header_hash};
 use policy_eval::Verify;
 use rules::{Accepted, CommittedBlock, Flag, HistoryEntry, Refused, Row};
-use std::alloc::Global;
+use std::alloc::{AllocError, Global};
 use transaction::TxId;
-use values::{Items, Part};
+use values::{Bytes, Items, Key, Name, Part, Shared, Slice};
 use world::World;
 
 /// Both, with the same blocks.
@@ -21,6 +24,7 @@ use world::World;
 pub struct Pair {
     channel: Channel,
     plain: plain::World,
+    accepted: Vec<CommittedBlock>,
     ledger: Ledger,
     // how often each flag was given
     given: [u32; 26],
@@ -62,7 +66,7 @@ fn is_same_value(one: &Option<Part>, other: &Option<Part>) -> bool {
     }
 }
 
-fn has_same_policy(alloc: Global, one: &Row, other: &Row) -> Result<bool, Failed> {
+fn has_same_policy(alloc: Global, one: &Row, other: &Row) -> Result<bool, AllocError> {
     Ok(match (&one.policy, &other.policy) {
         (None, None) => true,
         (Some(one), Some(other)) => {
@@ -72,7 +76,7 @@ fn has_same_policy(alloc: Global, one: &Row, other: &Row) -> Result<bool, Failed
     })
 }
 
-fn is_same_row(alloc: Global, one: Option<&Row>, other: Option<&Row>) -> Result<bool, Failed> {
+fn is_same_row(alloc: Global, one: Option<&Row>, other: Option<&Row>) -> Result<bool, AllocError> {
     match (one, other) {
         (None, None) => Ok(true),
         (Some(one), Some(other)) => Ok(
@@ -108,11 +112,55 @@ fn count(given: &mut [u32; 26], flags: &[Flag]) {
     }
 }
 
+fn decoded(alloc: Global, bytes: &[u8]) -> Result<Block<'_>, Refused> {
+    match decode_block(alloc, bytes) {
+        Ok(block) => Ok(block),
+        Err(BlockFault::Memory) => Err(Refused::Memory),
+        Err(fault) => Err(Refused::Malformed(fault)),
+    }
+}
+
+// The first reason why the block isn't the next one.
+fn check_linked(world: &World, block: &Block<'_>) -> Result<(), Refused> {
+    let header = &block.header;
+    let (want, got) = (world.height(), header.number);
+    let previous = match world.header_hash() {
+        None => Previous::Empty,
+        Some(hash) => Previous::Hash(hash),
+    };
+    if got != want {
+        Err(Refused::WrongNumber { want, got })
+    } else if header.previous != previous {
+        Err(Refused::WrongPrevious)
+    } else if header.data_hash != data_hash(block.txs.as_slice()) {
+        Err(Refused::WrongDataHash)
+    } else {
+        Ok(())
+    }
+}
+
+fn flags_of<V: Verify>(
+    alloc: Global,
+    channel: &Channel,
+    plain: &mut plain::World,
+    number: u64,
+    txs: &[Slice<'_>],
+    verifier: &V,
+) -> Result<Items<Flag>, AllocError> {
+    // no block has more
+    if txs.len() > MAX_TXS {
+        return Ok(Items::new(alloc));
+    }
+    let flags = plain::take_block(alloc, channel, verifier, plain, number, txs)?;
+    Ok(Items::from_vec(flags))
+}
+
 impl Pair {
     pub fn open(alloc: Global) -> Result<Pair, Failed> {
         Ok(Pair {
             channel: configuration(alloc)?,
             plain: plain::World::new(alloc),
+            accepted: Vec::new(alloc),
             ledger: Ledger::open(alloc, configuration(alloc)?),
             given: [0; 26],
         })
@@ -126,38 +174,79 @@ impl Pair {
         &self.given
     }
 
-    /// Hands the bytes to both, and tells whether they answer alike, and whether the reasons that were asked for before
-    /// have these flags.
-    pub fn take<V: Verify>(&mut self, alloc: Global, bytes: &[u8], verifier: &V) -> bool {
-        let slow = plain::submit(alloc, &self.channel, &mut self.plain, bytes, verifier);
-        let told = self.ledger.explain(bytes, verifier);
-        let fast = self.ledger.submit_one(bytes, verifier);
-        if let Ok(accepted) = &fast {
-            count(&mut self.given, accepted.flags.as_slice());
-        }
-        is_same_answer(&fast, &slow) && have_flags(&told, &fast)
+    // What is to be answered.
+    fn wanted<V: Verify>(
+        &mut self,
+        alloc: Global,
+        bytes: &[u8],
+        verifier: &V,
+    ) -> Result<Accepted, Refused> {
+        let block = decoded(alloc, bytes)?;
+        check_linked(self.ledger.view(), &block)?;
+        let number = block.header.number;
+        let txs = block.txs.as_slice();
+        Ok(Accepted {
+            number,
+            header_hash: header_hash(&block.header),
+            flags: flags_of(alloc, &self.channel, &mut self.plain, number, txs, verifier)?,
+        })
     }
 
-    pub fn is_alike_at(&self, alloc: Global, namespace: &[u8], at: &[u8]) -> Result<bool, Failed> {
-        let namespace = name(alloc, namespace)?;
-        let at = key(alloc, at)?;
+    fn keep(&mut self, alloc: Global, bytes: &[u8], accepted: Accepted) -> Result<(), AllocError> {
+        count(&mut self.given, accepted.flags.as_slice());
+        let bytes = Shared::new(alloc, Bytes::from_slice(alloc, bytes)?)?;
+        let Accepted {
+            number: _,
+            header_hash,
+            flags,
+        } = accepted;
+        self.accepted.push(CommittedBlock {
+            bytes,
+            header_hash,
+            flags,
+        })?;
+        Ok(())
+    }
+
+    /// Hands in the bytes, and tells whether the answer is the wanted one, and whether the reasons that were asked for before
+    /// have its flags.
+    pub fn take<V: Verify>(
+        &mut self,
+        alloc: Global,
+        bytes: &[u8],
+        verifier: &V,
+    ) -> Result<bool, AllocError> {
+        let wanted = self.wanted(alloc, bytes, verifier);
+        let is_told = have_flags(&self.ledger.explain(bytes, verifier), &wanted);
+        let is_alike = is_same_answer(&self.ledger.submit_one(bytes, verifier), &wanted);
+        if let Ok(accepted) = wanted {
+            self.keep(alloc, bytes, accepted)?;
+        }
+        Ok(is_told && is_alike)
+    }
+
+    // Whether the row and the history are the same.
+    fn is_same_at(&self, alloc: Global, namespace: &Name, at: &Key) -> Result<bool, AllocError> {
         let world = self.ledger.view();
-        let slow = self.plain.history(alloc, &namespace, &at)?;
-        let mut left = slow.iter();
+        let wanted = self.plain.history(alloc, namespace, at)?;
+        let mut left = wanted.iter();
         for entry in world.history(&namespace.lend(), &at.lend()) {
             match left.next() {
                 Some(other) if is_same_entry(entry, other) => {}
                 _ => return Ok(false),
             }
         }
-        Ok(
-            left.next().is_none()
-                && is_same_row(
-                    alloc,
-                    world.row(&namespace.lend(), &at.lend()),
-                    self.plain.row(&namespace, &at),
-                )?,
-        )
+        if left.next().is_some() {
+            return Ok(false);
+        }
+        let row = world.row(&namespace.lend(), &at.lend());
+        is_same_row(alloc, row, self.plain.row(namespace, at))
+    }
+
+    pub fn is_alike_at(&self, alloc: Global, namespace: &[u8], at: &[u8]) -> Result<bool, Failed> {
+        let namespace = name(alloc, namespace)?;
+        let at = key(alloc, at)?;
+        Ok(self.is_same_at(alloc, &namespace, &at)?)
     }
 
     pub fn is_alike_of(&self, id: &TxId) -> bool {
@@ -166,21 +255,27 @@ impl Pair {
 
     pub fn has_same_blocks(&self) -> bool {
         let world = self.ledger.view();
-        let mut are_same = world.height() == self.plain.height()
-            && world.header_hash() == self.plain.header_hash();
-        for number in 0..=world.height() {
-            are_same = are_same && is_same_block(world.block(number), self.plain.block(number));
+        let last = match self.accepted.last() {
+            None => None,
+            Some(last) => Some(last.header_hash),
+        };
+        let mut are_same = world.height() == self.accepted.len() as u64
+            && world.header_hash() == last;
+        for number in 0..=self.accepted.len() {
+            are_same = are_same
+                && is_same_block(world.block(number as u64), self.accepted.get(number));
         }
         are_same
     }
 }
 
-fn take_all(alloc: Global, pair: &mut Pair, blocks: &[Committed]) -> bool {
-    let mut are_alike = true;
+fn take_all(alloc: Global, pair: &mut Pair, blocks: &[Committed]) -> Result<bool, AllocError> {
     for block in blocks {
-        are_alike = pair.take(alloc, block.bytes, &SaysOk) && are_alike;
+        if !pair.take(alloc, block.bytes, &SaysOk)? {
+            return Ok(false);
+        }
     }
-    are_alike
+    Ok(true)
 }
 
 fn is_alike_where_left(alloc: Global, pair: &Pair) -> Result<bool, Failed> {
@@ -197,11 +292,21 @@ fn is_alike_where_left(alloc: Global, pair: &Pair) -> Result<bool, Failed> {
     Ok(pair.has_same_blocks())
 }
 
+fn is_alike(alloc: Global, pair: &mut Pair) -> Result<bool, Failed> {
+    Ok(
+        take_all(alloc, pair, first_blocks())?
+            && take_all(alloc, pair, later_blocks())?
+            && is_alike_where_left(alloc, pair)?,
+    )
+}
+
+fn is_chain_alike(alloc: Global) -> Result<bool, Failed> {
+    let mut pair = Pair::open(alloc)?;
+    is_alike(alloc, &mut pair)
+}
+
 #[test]
 fn the_chain(rt: HostRuntime) -> Result<(), Failed> {
-    let mut pair = Pair::open(rt.alloc())?;
-    assert!(rt; take_all(rt.alloc(), &mut pair, first_blocks()));
-    assert!(rt; take_all(rt.alloc(), &mut pair, later_blocks()));
-    assert!(rt; is_alike_where_left(rt.alloc(), &pair)?);
+    assert!(rt; is_chain_alike(rt.alloc())?);
     Ok(())
 }

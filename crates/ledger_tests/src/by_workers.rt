@@ -1,28 +1,20 @@
 //! The chains once more, by committers of few and of many workers.
 
 use crate::failed::Failed;
-use crate::fixture::configuration;
+use crate::fixture::{are_numbered, configuration};
 use crate::scripted::ScriptedPeer;
 use block::MAX_TXS;
 use chain_vectors::first_blocks::first_blocks;
 use chain_vectors::later_blocks::later_blocks;
 use chain_vectors::worked::worked;
 use chain_vectors::{Committed, SaysOk, Scripted, WorkedChain};
-use commit::{Committer, Flag};
+use commit::Committer;
 use gates::{Gate, Open, Reverse};
-use std::alloc::Global;
+use std::alloc::{AllocError, Global};
 use std::sync::Wait;
 use std::thread::Threads;
 
 const WORKERS: [usize; 3] = [1, 2, 64];
-
-fn are_numbered(flags: &[Flag], numbers: &[u8]) -> bool {
-    flags.len() == numbers.len()
-        && flags
-            .iter()
-            .zip(numbers)
-            .all(|(flag, number)| flag.number() == *number)
-}
 
 fn is_committed<R: Threads + Wait + Sync, G: Gate + Sync>(
     rt: &R,
@@ -38,7 +30,24 @@ fn is_committed<R: Threads + Wait + Sync, G: Gate + Sync>(
     }
 }
 
-// Whether both committers, one of which checks in reverse, find the flags that the peer finds.
+// Whether both committers, one of which checks in reverse, find these flags.
+fn are_committed<R: Threads + Wait + Sync>(
+    rt: &R,
+    alloc: Global,
+    committer: &mut Committer,
+    in_reverse: &mut Committer,
+    peer: &ScriptedPeer,
+    bytes: &[u8],
+    flags: &[u8],
+) -> Result<bool, AllocError> {
+    let reverse = Reverse::new(alloc, flags.len().min(MAX_TXS) as u32)?;
+    Ok(
+        is_committed(rt, committer, peer, bytes, flags, &Open)
+            && is_committed(rt, in_reverse, peer, bytes, flags, &reverse),
+    )
+}
+
+// Whether both committers find the flags that the peer finds.
 fn is_taken<R: Threads + Wait + Sync>(
     rt: &R,
     alloc: Global,
@@ -48,17 +57,9 @@ fn is_taken<R: Threads + Wait + Sync>(
     block: &Scripted,
 ) -> Result<bool, Failed> {
     let bytes = peer.block(alloc, block.script)?;
-    let reverse = Reverse::new(alloc, block.flags.len().min(MAX_TXS) as u32)?;
+    let bytes = bytes.as_slice();
     Ok(
-        is_committed(rt, committer, peer, bytes.as_slice(), block.flags, &Open)
-            && is_committed(
-                rt,
-                in_reverse,
-                peer,
-                bytes.as_slice(),
-                block.flags,
-                &reverse,
-            )
+        are_committed(rt, alloc, committer, in_reverse, peer, bytes, block.flags)?
             && peer.is_taken(alloc, block.script, block.flags)?,
     )
 }
@@ -68,11 +69,11 @@ fn are_taken<R: Threads + Wait + Sync>(
     alloc: Global,
     committer: &mut Committer,
     in_reverse: &mut Committer,
+    peer: &mut ScriptedPeer,
     chain: &WorkedChain,
 ) -> Result<bool, Failed> {
-    let mut peer = ScriptedPeer::open(alloc)?;
     for block in chain.blocks {
-        if !is_taken(rt, alloc, committer, in_reverse, &mut peer, block)? {
+        if !is_taken(rt, alloc, committer, in_reverse, peer, block)? {
             return Ok(false);
         }
     }
@@ -86,23 +87,41 @@ fn opened<R: Wait>(rt: &R, alloc: Global, workers: usize) -> Result<Committer, F
     }
 }
 
+fn is_so_beside<R: Threads + Wait + Sync>(
+    rt: &R,
+    alloc: Global,
+    workers: usize,
+    committer: &mut Committer,
+    peer: &mut ScriptedPeer,
+    chain: &WorkedChain,
+) -> Result<bool, Failed> {
+    let mut in_reverse = opened(rt, alloc, workers)?;
+    let is_so = are_taken(rt, alloc, committer, &mut in_reverse, peer, chain);
+    in_reverse.close(rt);
+    is_so
+}
+
+fn is_so_for<R: Threads + Wait + Sync>(
+    rt: &R,
+    alloc: Global,
+    workers: usize,
+    peer: &mut ScriptedPeer,
+    chain: &WorkedChain,
+) -> Result<bool, Failed> {
+    let mut committer = opened(rt, alloc, workers)?;
+    let is_so = is_so_beside(rt, alloc, workers, &mut committer, peer, chain);
+    committer.close(rt);
+    is_so
+}
+
 fn is_so<R: Threads + Wait + Sync>(
     rt: &R,
     alloc: Global,
     workers: usize,
     chain: &WorkedChain,
 ) -> Result<bool, Failed> {
-    let mut committer = opened(rt, alloc, workers)?;
-    let is_so = match opened(rt, alloc, workers) {
-        Ok(mut in_reverse) => {
-            let is_so = are_taken(rt, alloc, &mut committer, &mut in_reverse, chain);
-            in_reverse.close(rt);
-            is_so
-        }
-        Err(failed) => Err(failed),
-    };
-    committer.close(rt);
-    is_so
+    let mut peer = ScriptedPeer::open(alloc)?;
+    is_so_for(rt, alloc, workers, &mut peer, chain)
 }
 
 // The name of the first chain that isn't so.

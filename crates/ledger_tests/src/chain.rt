@@ -12,9 +12,9 @@ use rules::{CommittedBlock, FirstUse};
 use std::alloc::Global;
 use world::World;
 
-fn take_all(alloc: Global, peer: &mut Peer, blocks: &[Committed]) -> Result<(), Failed> {
+fn take_all(peer: &mut Peer, blocks: &[Committed]) -> Result<(), Failed> {
     for block in blocks {
-        if !peer.is_taken(alloc, block.bytes, &SaysOk, block.flags)? {
+        if !peer.is_taken(block.bytes, &SaysOk, block.flags)? {
             return Err(Failed::Missing("the flags of a block"));
         }
         if peer.world().header_hash() != Some(*block.header_hash) {
@@ -88,10 +88,9 @@ fn is_nothing_else(world: &World) -> bool {
 }
 
 // The keys, ids and blocks that are as they are wanted.
-fn left_behind(alloc: Global) -> Result<(usize, usize, usize), Failed> {
-    let mut peer = Peer::open(alloc)?;
-    take_all(alloc, &mut peer, first_blocks())?;
-    take_all(alloc, &mut peer, later_blocks())?;
+fn left_by(alloc: Global, peer: &mut Peer) -> Result<(usize, usize, usize), Failed> {
+    take_all(peer, first_blocks())?;
+    take_all(peer, later_blocks())?;
     if !is_nothing_else(peer.world()) {
         return Err(Failed::Missing("nothing else"));
     }
@@ -99,9 +98,14 @@ fn left_behind(alloc: Global) -> Result<(usize, usize, usize), Failed> {
     Ok((keys, ids_used(peer.world()), blocks_kept(peer.world())))
 }
 
+fn left_behind(alloc: Global) -> Result<(usize, usize, usize), Failed> {
+    let mut peer = Peer::open(alloc)?;
+    left_by(alloc, &mut peer)
+}
+
 #[test]
 fn flags_and_what_is_left(rt: HostRuntime) -> Result<(), Failed> {
-    let wanted = (rows().len(), uses().len(), 32);
-    assert_eq!(rt; left_behind(rt.alloc())?, wanted);
+    let left = left_behind(rt.alloc())?;
+    assert!(rt; left == (rows().len(), uses().len(), 32), "{left:?}");
     Ok(())
 }

@@ -42,15 +42,24 @@ fn is_explained_next(
     }
 }
 
+fn is_so_by(alloc: Global, ledger: &mut Ledger, keys: &KeyBook) -> Result<bool, Failed> {
+    if ledger.submit_one(first_block(), keys).is_err() {
+        return Ok(false);
+    }
+    let before = shown(alloc, ledger.view())?;
+    is_explained_next(alloc, ledger, keys, &before)
+}
+
+fn is_so(alloc: Global) -> Result<bool, Failed> {
+    let keys = KeyBook::read(alloc, keys())?;
+    let mut ledger = Ledger::open(alloc, configuration(alloc)?);
+    is_so_by(alloc, &mut ledger, &keys)
+}
+
 // To be run with memory that is refused at any one allocation of the call. Where it is refused before or after, the test
 // ends by `?`.
 #[test]
 fn refused_memory_of_reasons(rt: HostRuntime) -> Result<(), Failed> {
-    let alloc = rt.alloc();
-    let keys = KeyBook::read(alloc, keys())?;
-    let mut ledger = Ledger::open(alloc, configuration(alloc)?);
-    assert!(rt; ledger.submit_one(first_block(), &keys).is_ok());
-    let before = shown(alloc, ledger.view())?;
-    assert!(rt; is_explained_next(alloc, &ledger, &keys, &before)?);
+    assert!(rt; is_so(rt.alloc())?);
     Ok(())
 }

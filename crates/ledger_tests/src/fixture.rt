@@ -45,12 +45,12 @@ pub fn policy_text(alloc: Global, row: &Row) -> Result<String, AllocError> {
     }
 }
 
-fn numbers(alloc: Global, flags: &[Flag]) -> Result<Vec<u8>, AllocError> {
-    let mut numbers = Vec::with_capacity(alloc, flags.len())?;
-    for flag in flags {
-        numbers.push(flag.number())?;
-    }
-    Ok(numbers)
+pub fn are_numbered(flags: &[Flag], numbers: &[u8]) -> bool {
+    flags.len() == numbers.len()
+        && flags
+            .iter()
+            .zip(numbers)
+            .all(|(flag, number)| flag.number() == *number)
 }
 
 pub fn configuration(alloc: Global) -> Result<Channel, ChannelFault> {
@@ -74,17 +74,6 @@ impl Peer {
         self.ledger.view()
     }
 
-    // Takes the next block, and answers the numbers of its flags.
-    fn take<V: Verify>(
-        &mut self,
-        alloc: Global,
-        bytes: &[u8],
-        verifier: &V,
-    ) -> Result<Vec<u8>, Refused> {
-        let accepted = self.ledger.submit_one(bytes, verifier)?;
-        Ok(numbers(alloc, accepted.flags.as_slice())?)
-    }
-
     pub fn refusal_of<V: Verify>(&mut self, bytes: &[u8], verifier: &V) -> Option<Refused> {
         self.ledger.submit_one(bytes, verifier).err()
     }
@@ -92,11 +81,11 @@ impl Peer {
     /// Takes the next block, and tells whether its flags have these numbers.
     pub fn is_taken<V: Verify>(
         &mut self,
-        alloc: Global,
         bytes: &[u8],
         verifier: &V,
         flags: &[u8],
     ) -> Result<bool, Refused> {
-        Ok(self.take(alloc, bytes, verifier)?.as_slice() == flags)
+        let accepted = self.ledger.submit_one(bytes, verifier)?;
+        Ok(are_numbered(accepted.flags.as_slice(), flags))
     }
 }

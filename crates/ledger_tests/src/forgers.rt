@@ -99,7 +99,7 @@ fn has_flags(
     flags: &[u8],
 ) -> Result<bool, Failed> {
     let block = drafted(alloc, signing, None, SCRIPT)?;
-    Ok(peer.is_taken(alloc, block.as_slice(), verifying, flags)?)
+    Ok(peer.is_taken(block.as_slice(), verifying, flags)?)
 }
 
 fn is_true(alloc: Global, books: &Books) -> Result<bool, Failed> {
@@ -115,10 +115,17 @@ fn is_forged(alloc: Global, books: &Books) -> Result<bool, Failed> {
     )
 }
 
+fn are_so(alloc: Global, books: &Books) -> Result<bool, Failed> {
+    Ok(is_true(alloc, books)? && is_forged(alloc, books)?)
+}
+
+fn is_so(alloc: Global) -> Result<bool, Failed> {
+    let books = read_books(alloc)?;
+    are_so(alloc, &books)
+}
+
 #[test]
 fn signatures_by_other_keys(rt: HostRuntime) -> Result<(), Failed> {
-    let books = read_books(rt.alloc())?;
-    assert!(rt; is_true(rt.alloc(), &books)?);
-    assert!(rt; is_forged(rt.alloc(), &books)?);
+    assert!(rt; is_so(rt.alloc())?);
     Ok(())
 }

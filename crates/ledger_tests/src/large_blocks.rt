@@ -44,10 +44,14 @@ fn are_large(alloc: Global, world: &World) -> Result<bool, Failed> {
     Ok(true)
 }
 
-fn is_taken(alloc: Global) -> Result<bool, Failed> {
-    let mut peer = ScriptedPeer::open(alloc)?;
+fn is_taken_by(alloc: Global, peer: &mut ScriptedPeer) -> Result<bool, Failed> {
     let script = large_script(alloc)?;
     Ok(peer.is_taken(alloc, script.as_str(), &[0, 0, 0])? && are_large(alloc, peer.world())?)
+}
+
+fn is_taken(alloc: Global) -> Result<bool, Failed> {
+    let mut peer = ScriptedPeer::open(alloc)?;
+    is_taken_by(alloc, &mut peer)
 }
 
 #[test]

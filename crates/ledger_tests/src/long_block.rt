@@ -13,6 +13,11 @@ use world::World;
 // More than a byte can count. Of the last two transactions the first is valid and the second isn't.
 const LENGTH: u32 = 300;
 
+fn put_write(alloc: Global, script: &mut String, number: u32) -> Result<(), AllocError> {
+    let write = format!(in alloc; "write k{number} v\n")?;
+    script.push_str(write.as_str())
+}
+
 // Writes the keys 0 to LENGTH.
 fn first_script(alloc: Global) -> Result<String, AllocError> {
     let mut script = String::from_str(
@@ -20,8 +25,7 @@ fn first_script(alloc: Global) -> Result<String, AllocError> {
         "tx Org1:client:c0 first cc\nendorse Org1:peer:p0\nns cc\n",
     )?;
     for number in 0..=LENGTH {
-        let write = format!(in alloc; "write k{number} v\n")?;
-        script.push_str(write.as_str())?;
+        put_write(alloc, &mut script, number)?;
     }
     Ok(script)
 }
@@ -51,11 +55,19 @@ fn flags(alloc: Global) -> Result<Vec<u8>, AllocError> {
     Ok(flags)
 }
 
+fn is_first_taken(alloc: Global, peer: &mut ScriptedPeer) -> Result<bool, Failed> {
+    let script = first_script(alloc)?;
+    peer.is_taken(alloc, script.as_str(), &[0])
+}
+
+fn is_later_taken(alloc: Global, peer: &mut ScriptedPeer, flags: &[u8]) -> Result<bool, Failed> {
+    let script = later_script(alloc)?;
+    peer.is_taken(alloc, script.as_str(), flags)
+}
+
 fn are_taken(alloc: Global, peer: &mut ScriptedPeer) -> Result<bool, Failed> {
-    let first = first_script(alloc)?;
-    let later = later_script(alloc)?;
     let flags = flags(alloc)?;
-    Ok(peer.is_taken(alloc, first.as_str(), &[0])? && peer.is_taken(alloc, later.as_str(), &flags)?)
+    Ok(is_first_taken(alloc, peer)? && is_later_taken(alloc, peer, &flags)?)
 }
 
 // The last valid one, at place 298, has written key 299.
@@ -77,9 +89,13 @@ fn is_left(alloc: Global, world: &World) -> Result<bool, Failed> {
     )
 }
 
+fn is_so_by(alloc: Global, peer: &mut ScriptedPeer) -> Result<bool, Failed> {
+    Ok(are_taken(alloc, peer)? && is_left(alloc, peer.world())?)
+}
+
 fn is_so(alloc: Global) -> Result<bool, Failed> {
     let mut peer = ScriptedPeer::open(alloc)?;
-    Ok(are_taken(alloc, &mut peer)? && is_left(alloc, peer.world())?)
+    is_so_by(alloc, &mut peer)
 }
 
 #[test]

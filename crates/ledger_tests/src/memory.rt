@@ -66,14 +66,23 @@ fn is_behind_both(alloc: Global, peer: &ScriptedPeer) -> Result<bool, Failed> {
     Ok(peer.world().height() == 2 && is_row(alloc, peer.world(), b"cc", b"k", &Some(row))?)
 }
 
+fn is_so_by(alloc: Global, peer: &mut ScriptedPeer) -> Result<bool, Failed> {
+    Ok(
+        peer.is_taken(alloc, FIRST, &[0])?
+            && changes_nothing(alloc, peer)?
+            && is_behind_both(alloc, peer)?,
+    )
+}
+
+fn is_so(alloc: Global) -> Result<bool, Failed> {
+    let mut peer = ScriptedPeer::open(alloc)?;
+    is_so_by(alloc, &mut peer)
+}
+
 // To be run with memory that is refused at any one allocation of the submit: then the world is as before, and
 // takes the same bytes next. Where it is refused before or after, the test ends by `?`.
 #[test]
 fn refused_memory_changes_nothing(rt: HostRuntime) -> Result<(), Failed> {
-    let alloc = rt.alloc();
-    let mut peer = ScriptedPeer::open(alloc)?;
-    assert!(rt; peer.is_taken(alloc, FIRST, &[0])?);
-    assert!(rt; changes_nothing(alloc, &mut peer)?);
-    assert!(rt; is_behind_both(alloc, &peer)?);
+    assert!(rt; is_so(rt.alloc())?);
     Ok(())
 }

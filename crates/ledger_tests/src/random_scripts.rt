@@ -89,6 +89,12 @@ fn put_version(
     script.push_str(line.as_str())
 }
 
+fn put_absent(alloc: Global, script: &mut String, at: &[u8]) -> Result<(), AllocError> {
+    let at = Word(at);
+    let line = format!(in alloc; "read {at} absent\n")?;
+    script.push_str(line.as_str())
+}
+
 fn put_read(
     alloc: Global,
     script: &mut String,
@@ -98,11 +104,7 @@ fn put_read(
 ) -> Result<(), Failed> {
     let at = key_at_random(random);
     match version_at_random(alloc, random, world, namespace, at)? {
-        None => {
-            let at = Word(at);
-            let line = format!(in alloc; "read {at} absent\n")?;
-            script.push_str(line.as_str())?;
-        }
+        None => put_absent(alloc, script, at)?,
         Some(version) => put_version(alloc, script, "read", at, version)?,
     }
     Ok(())
@@ -214,6 +216,12 @@ fn count_at_random(random: &mut Random) -> u8 {
     }
 }
 
+fn put_namespace_line(script: &mut String, namespace: &str) -> Result<(), AllocError> {
+    script.push_str("ns ")?;
+    script.push_str(namespace)?;
+    script.push_str("\n")
+}
+
 fn put_namespace(
     alloc: Global,
     script: &mut String,
@@ -221,8 +229,7 @@ fn put_namespace(
     world: &World,
 ) -> Result<(), Failed> {
     let namespace = namespace_at_random(random);
-    let line = format!(in alloc; "ns {namespace}\n")?;
-    script.push_str(line.as_str())?;
+    put_namespace_line(script, namespace)?;
     for _ in 0..count_at_random(random) {
         put_read(alloc, script, random, world, namespace)?;
     }
@@ -264,6 +271,18 @@ fn put_endorsements(script: &mut String, random: &mut Random) -> Result<(), Allo
     Ok(())
 }
 
+fn put_tx_line(
+    alloc: Global,
+    script: &mut String,
+    random: &mut Random,
+    nonce: u8,
+) -> Result<(), AllocError> {
+    let creator = CREATORS[if random.one_of(64) { 1 } else { 0 }];
+    let chaincode = namespace_at_random(random);
+    let line = format!(in alloc; "tx {creator} n{nonce} {chaincode}\n")?;
+    script.push_str(line.as_str())
+}
+
 // A transaction over the rows that the world has.
 fn put_lines(
     alloc: Global,
@@ -272,10 +291,7 @@ fn put_lines(
     world: &World,
     nonce: u8,
 ) -> Result<(), Failed> {
-    let creator = CREATORS[if random.one_of(64) { 1 } else { 0 }];
-    let chaincode = namespace_at_random(random);
-    let line = format!(in alloc; "tx {creator} n{nonce} {chaincode}\n")?;
-    script.push_str(line.as_str())?;
+    put_tx_line(alloc, script, random, nonce)?;
     for _ in 0..[1, 1, 1, 2, 0][random.below(5) as usize] {
         put_namespace(alloc, script, random, world)?;
     }
@@ -283,6 +299,21 @@ fn put_lines(
 }
 
 // A transaction with this nonce. One in twelve is spoiled.
+fn tx_lines(
+    alloc: Global,
+    random: &mut Random,
+    keys: &KeyBook,
+    world: &World,
+    nonce: u8,
+) -> Result<String, Failed> {
+    let mut lines = String::new(alloc);
+    put_lines(alloc, &mut lines, random, world, nonce)?;
+    if random.one_of(12) {
+        return raw_line(alloc, random, keys, lines.as_str());
+    }
+    Ok(lines)
+}
+
 fn put_tx(
     alloc: Global,
     script: &mut String,
@@ -291,12 +322,24 @@ fn put_tx(
     world: &World,
     nonce: u8,
 ) -> Result<(), Failed> {
-    let mut lines = String::new(alloc);
-    put_lines(alloc, &mut lines, random, world, nonce)?;
-    if random.one_of(12) {
-        lines = raw_line(alloc, random, keys, lines.as_str())?;
-    }
+    let lines = tx_lines(alloc, random, keys, world, nonce)?;
     Ok(script.push_str(lines.as_str())?)
+}
+
+fn put_txs(
+    alloc: Global,
+    script: &mut String,
+    random: &mut Random,
+    keys: &KeyBook,
+    world: &World,
+    nonces: &mut Vec<u8>,
+) -> Result<(), Failed> {
+    for _ in 0..random.below(8) {
+        let nonce = random.below(NONCES);
+        nonces.push(nonce)?;
+        put_tx(alloc, script, random, keys, world, nonce)?;
+    }
+    Ok(())
 }
 
 /// A script of up to seven transactions, and their nonces behind those that were there.
@@ -308,10 +351,6 @@ pub fn script_at_random(
     nonces: &mut Vec<u8>,
 ) -> Result<String, Failed> {
     let mut script = String::new(alloc);
-    for _ in 0..random.below(8) {
-        let nonce = random.below(NONCES);
-        nonces.push(nonce)?;
-        put_tx(alloc, &mut script, random, keys, world, nonce)?;
-    }
+    put_txs(alloc, &mut script, random, keys, world, nonces)?;
     Ok(script)
 }

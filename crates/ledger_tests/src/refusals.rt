@@ -58,47 +58,90 @@ const CUTS: [(usize, BlockFault); 8] = [
     (84, BlockFault::Truncated),
 ];
 
-fn refuses_flipped(alloc: Global, peer: &mut Peer, bytes: &[u8]) -> Result<bool, Failed> {
-    let before = shown(alloc, peer.world())?;
-    for (place, want) in FLIPS {
-        let changed = flipped(alloc, bytes, place)?;
-        if !is_refused(alloc, peer, &before, &changed, want)? {
+fn refuses_flip(
+    alloc: Global,
+    peer: &mut Peer,
+    before: &[u8],
+    bytes: &[u8],
+    (place, want): (usize, Refused),
+) -> Result<bool, Failed> {
+    let changed = flipped(alloc, bytes, place)?;
+    is_refused(alloc, peer, before, &changed, want)
+}
+
+fn refuses_flips(
+    alloc: Global,
+    peer: &mut Peer,
+    before: &[u8],
+    bytes: &[u8],
+) -> Result<bool, Failed> {
+    for flip in FLIPS {
+        if !refuses_flip(alloc, peer, before, bytes, flip)? {
             return Ok(false);
         }
     }
     let want = peer.world().height();
     let got = want ^ 1;
-    let other = flipped(alloc, bytes, NUMBER)?;
     let want = Refused::WrongNumber { want, got };
-    is_refused(alloc, peer, &before, &other, want)
+    refuses_flip(alloc, peer, before, bytes, (NUMBER, want))
 }
 
-fn refuses_cut(alloc: Global, peer: &mut Peer, bytes: &[u8]) -> Result<bool, Failed> {
-    let before = shown(alloc, peer.world())?;
+fn refuses_cuts(
+    alloc: Global,
+    peer: &mut Peer,
+    before: &[u8],
+    bytes: &[u8],
+) -> Result<bool, Failed> {
     for (length, fault) in CUTS {
         let cut = bytes.get(..length).ok_or("so many bytes are there")?;
-        if !is_refused(alloc, peer, &before, cut, Refused::Malformed(fault))? {
+        if !is_refused(alloc, peer, before, cut, Refused::Malformed(fault))? {
             return Ok(false);
         }
     }
-    let mut longer = Vec::from_slice(alloc, bytes)?;
-    longer.push(0)?;
+    Ok(true)
+}
+
+fn refuses_longer(
+    alloc: Global,
+    peer: &mut Peer,
+    before: &[u8],
+    bytes: &[u8],
+) -> Result<bool, Failed> {
+    let longer = [bytes, b"\0"].concat(alloc)?;
     let trailing = Refused::Malformed(BlockFault::TrailingBytes);
-    is_refused(alloc, peer, &before, &longer, trailing)
+    is_refused(alloc, peer, before, &longer, trailing)
+}
+
+fn refuses_changed(alloc: Global, peer: &mut Peer, bytes: &[u8]) -> Result<bool, Failed> {
+    let before = shown(alloc, peer.world())?;
+    Ok(
+        refuses_flips(alloc, peer, &before, bytes)?
+            && refuses_cuts(alloc, peer, &before, bytes)?
+            && refuses_longer(alloc, peer, &before, bytes)?,
+    )
+}
+
+// Before every sixteenth block it is handed in changed.
+fn are_taken(alloc: Global, peer: &mut Peer) -> Result<bool, Failed> {
+    for block in first_blocks().iter().chain(later_blocks().iter()) {
+        if peer.world().height() % 16 == 3 && !refuses_changed(alloc, peer, block.bytes)? {
+            return Ok(false);
+        }
+        if !peer.is_taken(block.bytes, &SaysOk, block.flags)? {
+            return Ok(false);
+        }
+    }
+    Ok(peer.world().header_hash() == Some(*last_hash()))
+}
+
+fn is_chain_taken(alloc: Global) -> Result<bool, Failed> {
+    let mut peer = Peer::open(alloc)?;
+    are_taken(alloc, &mut peer)
 }
 
 #[test]
 fn changed_bytes(rt: HostRuntime) -> Result<(), Failed> {
-    let alloc = rt.alloc();
-    let mut peer = Peer::open(alloc)?;
-    for block in first_blocks().iter().chain(later_blocks().iter()) {
-        if peer.world().height() % 16 == 3 {
-            assert!(rt; refuses_flipped(alloc, &mut peer, block.bytes)?);
-            assert!(rt; refuses_cut(alloc, &mut peer, block.bytes)?);
-        }
-        assert!(rt; peer.is_taken(alloc, block.bytes, &SaysOk, block.flags)?);
-    }
-    assert!(rt; peer.world().header_hash() == Some(*last_hash()));
+    assert!(rt; is_chain_taken(rt.alloc())?);
     Ok(())
 }
 
@@ -122,12 +165,22 @@ fn refuses_other_numbers(alloc: Global, peer: &mut Peer) -> Result<bool, Failed>
     Ok(true)
 }
 
+fn are_four_taken(peer: &mut Peer) -> Result<bool, Refused> {
+    for block in first_blocks().iter().take(4) {
+        if !peer.is_taken(block.bytes, &SaysOk, block.flags)? {
+            return Ok(false);
+        }
+    }
+    Ok(true)
+}
+
+fn refuses_behind_four(alloc: Global) -> Result<bool, Failed> {
+    let mut peer = Peer::open(alloc)?;
+    Ok(are_four_taken(&mut peer)? && refuses_other_numbers(alloc, &mut peer)?)
+}
+
 #[test]
 fn other_numbers(rt: HostRuntime) -> Result<(), Failed> {
-    let mut peer = Peer::open(rt.alloc())?;
-    for block in first_blocks().iter().take(4) {
-        assert!(rt; peer.is_taken(rt.alloc(), block.bytes, &SaysOk, block.flags)?);
-    }
-    assert!(rt; refuses_other_numbers(rt.alloc(), &mut peer)?);
+    assert!(rt; refuses_behind_four(rt.alloc())?);
     Ok(())
 }

@@ -90,9 +90,6 @@ impl ScriptedPeer {
     /// Takes the next block, which a script drafts, and tells whether its flags have these numbers.
     pub fn is_taken(&mut self, alloc: Global, script: &str, flags: &[u8]) -> Result<bool, Failed> {
         let bytes = self.block(alloc, script)?;
-        Ok(
-            self.peer
-                .is_taken(alloc, bytes.as_slice(), &self.keys, flags)?,
-        )
+        Ok(self.peer.is_taken(bytes.as_slice(), &self.keys, flags)?)
     }
 }

@@ -94,18 +94,23 @@ fn show_uses(shown: &mut Vec<u8>, world: &World) -> Result<(), AllocError> {
     Ok(())
 }
 
-// Height, last header hash, and what is at each key and id that the chain writes, as bytes that tell one
-// world from another.
-pub fn shown(alloc: Global, world: &World) -> Result<Vec<u8>, Failed> {
-    let mut shown = Vec::from_slice(alloc, &world.height().to_be_bytes())?;
+fn show_world(alloc: Global, shown: &mut Vec<u8>, world: &World) -> Result<(), Failed> {
+    shown.extend_from_slice(&world.height().to_be_bytes())?;
     if let Some(hash) = world.header_hash() {
         shown.extend_from_slice(&hash)?;
     }
     for left in rows() {
         let row = row_at(alloc, world, left.namespace, left.key)?;
-        show_row(alloc, &mut shown, row)?;
-        show_history(alloc, &mut shown, world, left)?;
+        show_row(alloc, shown, row)?;
+        show_history(alloc, shown, world, left)?;
     }
-    show_uses(&mut shown, world)?;
+    Ok(show_uses(shown, world)?)
+}
+
+// Height, last header hash, and what is at each key and id that the chain writes, as bytes that tell one
+// world from another.
+pub fn shown(alloc: Global, world: &World) -> Result<Vec<u8>, Failed> {
+    let mut shown = Vec::new(alloc);
+    show_world(alloc, &mut shown, world)?;
     Ok(shown)
 }

@@ -2,7 +2,7 @@
 
 use crate::failed::Failed;
 use crate::scripted::drafted;
-use block::decode_block;
+use block::{Header, decode_block};
 use channel::Channel;
 use commit::{Accepted, Ledger, Refused};
 use key_book::KeyBook;
@@ -20,17 +20,28 @@ const HASH_1: [u8; 32] = [
     0x7e, 0xea, 0x07, 0xca, 0x7f, 0x93, 0x7b, 0x91, 0xb5, 0x5d, 0xed, 0xa9, 0xe6, 0x3d, 0x72, 0x6e,
 ];
 
-// Blocks without transactions: the first twice, then those that follow it, up to this number.
+// Adds the block without transactions behind this one, and answers its header. The first one is added twice.
+fn add_next(
+    alloc: Global,
+    keys: &KeyBook,
+    last: Option<Header>,
+    blocks: &mut Vec<Bytes>,
+) -> Result<Header, Failed> {
+    let block = drafted(alloc, keys, last, "")?;
+    let header = decode_block(alloc, block.as_slice())?.header;
+    if last.is_none() {
+        blocks.push(block.copy(alloc)?)?;
+    }
+    blocks.push(block)?;
+    Ok(header)
+}
+
+// The first twice, then those that follow it, up to this number.
 fn chain_of(alloc: Global, keys: &KeyBook, length: u64) -> Result<Vec<Bytes>, Failed> {
     let mut blocks = Vec::new(alloc);
     let mut last = None;
-    for number in 0..length {
-        let block = drafted(alloc, keys, last, "")?;
-        last = Some(decode_block(alloc, block.as_slice())?.header);
-        if number == 0 {
-            blocks.push(block.copy(alloc)?)?;
-        }
-        blocks.push(block)?;
+    for _ in 0..length {
+        last = Some(add_next(alloc, keys, last, &mut blocks)?);
     }
     Ok(blocks)
 }
@@ -60,13 +71,23 @@ fn is_answered(alloc: Global, ledger: &mut Ledger, keys: &KeyBook) -> Result<boo
     Ok(are_answers(answers.as_slice()))
 }
 
+fn are_taken(alloc: Global, ledger: &mut Ledger, keys: &KeyBook) -> Result<bool, Failed> {
+    Ok(
+        ledger.submit_all(&[], keys)?.is_empty()
+            && (ledger.view().height(), ledger.view().header_hash()) == (0, None)
+            && is_answered(alloc, ledger, keys)?
+            && ledger.view().height() == 12,
+    )
+}
+
+fn is_so(alloc: Global) -> Result<bool, Failed> {
+    let keys = KeyBook::read(alloc, "")?;
+    let mut ledger = Ledger::open(alloc, Channel::read(alloc, "channel ch")?);
+    are_taken(alloc, &mut ledger, &keys)
+}
+
 #[test]
 fn all_at_once(rt: HostRuntime) -> Result<(), Failed> {
-    let keys = KeyBook::read(rt.alloc(), "")?;
-    let mut ledger = Ledger::open(rt.alloc(), Channel::read(rt.alloc(), "channel ch")?);
-    assert!(rt; ledger.submit_all(&[], &keys)?.is_empty());
-    assert!(rt; (ledger.view().height(), ledger.view().header_hash()) == (0, None));
-    assert!(rt; is_answered(rt.alloc(), &mut ledger, &keys)?);
-    assert!(rt; ledger.view().height() == 12);
+    assert!(rt; is_so(rt.alloc())?);
     Ok(())
 }

@@ -1,6 +1,7 @@
 use crate::failed::Failed;
 use block::BlockFault;
 use rules::Refused;
+use std::alloc::{AllocError, Global};
 
 fn told() -> &'static [(Refused, &'static str)] {
     &TOLD
@@ -26,11 +27,14 @@ static TOLD: [(Refused, &str); 5] = [
     (Refused::Memory, "out of memory"),
 ];
 
+fn is_told(alloc: Global, refused: Refused, text: &str) -> Result<bool, AllocError> {
+    Ok(format!(in alloc; "{refused}")?.as_str() == text)
+}
+
 #[test]
 fn each_refusal_is_told(rt: HostRuntime) -> Result<(), Failed> {
     for &(refused, text) in told() {
-        let told = format!(in rt.alloc(); "{refused}")?;
-        assert_eq!(rt; told.as_str(), text);
+        assert!(rt; is_told(rt.alloc(), refused, text)?, "{text}");
     }
     Ok(())
 }

@@ -8,14 +8,18 @@ use chain_vectors::worked::worked;
 use std::alloc::Global;
 
 // Whether the blocks have these flags, and the row is left.
-fn is_so(alloc: Global, chain: &WorkedChain) -> Result<bool, Failed> {
-    let mut peer = ScriptedPeer::open(alloc)?;
+fn is_so_by(alloc: Global, peer: &mut ScriptedPeer, chain: &WorkedChain) -> Result<bool, Failed> {
     for block in chain.blocks {
         if !peer.is_taken(alloc, block.script, block.flags)? {
             return Ok(false);
         }
     }
     is_row(alloc, peer.world(), b"cc", b"k", &chain.row)
+}
+
+fn is_so(alloc: Global, chain: &WorkedChain) -> Result<bool, Failed> {
+    let mut peer = ScriptedPeer::open(alloc)?;
+    is_so_by(alloc, &mut peer, chain)
 }
 
 // The name of the first chain that isn't so.

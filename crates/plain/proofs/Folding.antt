@@ -6,72 +6,70 @@ use Rattle.std.proofs.lemmas.List.FromFn.{map-range_with_len_more}
 use Rattle.policy.specs.Policies.{Policies}
 use Rattle.rules.specs.declared.flag.Flag.TheVariants.{BadPayload}
 use Rattle.rules.specs.Flags.{is_valid}
-use Rattle.rules.specs.State.{with_changes}
+use Rattle.rules.specs.State.{State, with_changes}
 use Rattle.rules.specs.Candidate as candidate
-use Rattle.rules.specs.World.{World}
 use Rattle.rules.specs.Job.{Job, candidate_at, version_of, touched_by, changes_by, entries_by, endorsement_by, reads_by, flag_by}
 use Rattle.rules.specs.Fold.{running, endorsed, flag, changes_to, entries_to}
 use Rattle.rules.specs.Delta.{changes_in, entries_in}
 use Rattle.rules.proofs.Deltas.{changes_to-running}
 use Rattle.plain.specs.declared.candidate.Candidate.{Candidate}
-use Rattle.plain.specs.declared.fold.Folded.{Folded}
 use Rattle.plain.specs.declared.fold.Running.{Running}
 use Rattle.plain.specs.Keys.{keys_of}
 use Rattle.plain.specs.Seen.{seen, job_over}
 use Rattle.plain.specs.Taking.{state_in, endorsement_in, next_flag, IsRunning, IsTaken, IsFolded}
 
-module _ (definitions : Policies) (w : World) (cs : List Candidate) where
+module _ (definitions : Policies) (number : ℕ) (s : State) (cs : List Candidate) where
   abbrev j : Job
-  j = job_over definitions w cs
+  j = job_over definitions number s cs
 
   candidate-seen : (i : ℕ) (c : Candidate) → i < length cs → c ≡ get_or cs i c → candidate_at j i ≡ seen c
   candidate-seen i c lt is = get_or-map seen cs i c (candidate.flagged BadPayload) lt ∙ ap seen (sym is)
 
   module _ (i : ℕ) (c : candidate.Candidate) (old : Running) (here : candidate_at j i ≡ c) (before : IsRunning j i old) where
-    state-is : state_in w.state old ≡ (running j i).state
-    state-is = ap (with_changes w.state) before.changes ∙ changes_to-running j i
+    state-is : state_in s old ≡ (running j i).state
+    state-is = ap (with_changes s) before.changes ∙ changes_to-running j i
 
-    endorsement-is : endorsement_in definitions w.state old c ≡ endorsed j i
-    endorsement-is = ap (λ t. endorsement_by definitions w.state t c) before.touched ∙ ap (endorsement_by definitions w.state (running j i).touched) (sym here)
+    endorsement-is : endorsement_in definitions s old c ≡ endorsed j i
+    endorsement-is = ap (λ t. endorsement_by definitions s t c) before.touched ∙ ap (endorsement_by definitions s (running j i).touched) (sym here)
 
-    flag-is : next_flag definitions w.state old c ≡ flag j i
+    flag-is : next_flag definitions s old c ≡ flag j i
     flag-is =
-        ap (λ e. flag_by c e (reads_by (state_in w.state old) c)) endorsement-is
-        ∙ ap (λ s. flag_by c (endorsed j i) (reads_by s c)) state-is
+        ap (λ e. flag_by c e (reads_by (state_in s old) c)) endorsement-is
+        ∙ ap (λ t. flag_by c (endorsed j i) (reads_by t c)) state-is
         ∙ ap (λ x. flag_by x (endorsed j i) (reads_by (running j i).state x)) (sym here)
 
-    touched-is : cond (endorsement_in definitions w.state old c) (keys_of old.touched.items ++ touched_by c) (keys_of old.touched.items) ≡ (running j (suc i)).touched
+    touched-is : cond (endorsement_in definitions s old c) (keys_of old.touched.items ++ touched_by c) (keys_of old.touched.items) ≡ (running j (suc i)).touched
     unfolding running
     touched-is =
         ap (λ e. cond e (keys_of old.touched.items ++ touched_by c) (keys_of old.touched.items)) endorsement-is
         ∙ ap (λ t. cond (endorsed j i) (t ++ touched_by c) t) before.touched
         ∙ ap (λ x. cond (endorsed j i) ((running j i).touched ++ touched_by x) (running j i).touched) (sym here)
 
-    changes-is : changes_in old.changes.items ++ cond (is_valid (next_flag definitions w.state old c)) (changes_by (version_of j i) c (state_in w.state old)) [] ≡ changes_to j (suc i)
+    changes-is : changes_in old.changes.items ++ cond (is_valid (next_flag definitions s old c)) (changes_by (version_of j i) c (state_in s old)) [] ≡ changes_to j (suc i)
     unfolding changes_to
     changes-is =
-        ap (λ l. l ++ cond (is_valid (next_flag definitions w.state old c)) (changes_by (version_of j i) c (state_in w.state old)) []) before.changes
-        ∙ ap (λ f. changes_to j i ++ cond (is_valid f) (changes_by (version_of j i) c (state_in w.state old)) []) flag-is
-        ∙ ap (λ s. changes_to j i ++ cond (is_valid (flag j i)) (changes_by (version_of j i) c s) []) state-is
+        ap (λ l. l ++ cond (is_valid (next_flag definitions s old c)) (changes_by (version_of j i) c (state_in s old)) []) before.changes
+        ∙ ap (λ f. changes_to j i ++ cond (is_valid f) (changes_by (version_of j i) c (state_in s old)) []) flag-is
+        ∙ ap (λ t. changes_to j i ++ cond (is_valid (flag j i)) (changes_by (version_of j i) c t) []) state-is
         ∙ ap (λ x. changes_to j i ++ cond (is_valid (flag j i)) (changes_by (version_of j i) x (running j i).state) []) (sym here)
 
-    entries-is : entries_in old.entries.items ++ cond (is_valid (next_flag definitions w.state old c)) (entries_by (version_of j i) c) [] ≡ entries_to j (suc i)
+    entries-is : entries_in old.entries.items ++ cond (is_valid (next_flag definitions s old c)) (entries_by (version_of j i) c) [] ≡ entries_to j (suc i)
     unfolding entries_to
     entries-is =
-        ap (λ l. l ++ cond (is_valid (next_flag definitions w.state old c)) (entries_by (version_of j i) c) []) before.entries
+        ap (λ l. l ++ cond (is_valid (next_flag definitions s old c)) (entries_by (version_of j i) c) []) before.entries
         ∙ ap (λ f. entries_to j i ++ cond (is_valid f) (entries_by (version_of j i) c) []) flag-is
         ∙ ap (λ x. entries_to j i ++ cond (is_valid (flag j i)) (entries_by (version_of j i) x) []) (sym here)
 
-    flags-is : old.flags.items ++ next_flag definitions w.state old c ∷ [] ≡ map (flag j) (range_with_len 0 (i + 1))
+    flags-is : old.flags.items ++ next_flag definitions s old c ∷ [] ≡ map (flag j) (range_with_len 0 (i + 1))
     flags-is =
-        ap (λ l. l ++ next_flag definitions w.state old c ∷ []) before.flags
+        ap (λ l. l ++ next_flag definitions s old c ∷ []) before.flags
         ∙ ap (λ f. map (flag j) (range_with_len 0 i) ++ f ∷ []) flag-is
         ∙ sym (map-range_with_len_more (flag j) 0 i i (omega arith))
 
   -- one candidate more was taken
   pub running-more : (i : ℕ) (c : Candidate) (old new : Running) → i < length cs → c ≡ get_or cs i c → IsRunning j i old
-      → IsTaken definitions w.state (version_of j i) (seen c) old new
-      → new.flags.items ≡ old.flags.items ++ next_flag definitions w.state old (seen c) ∷ []
+      → IsTaken definitions s (version_of j i) (seen c) old new
+      → new.flags.items ≡ old.flags.items ++ next_flag definitions s old (seen c) ∷ []
       → IsRunning j (i + 1) new
   running-more i c old new lt is before taken flags =
       let here = candidate-seen i c lt is in record {
@@ -91,10 +89,10 @@ module _ (definitions : Policies) (w : World) (cs : List Candidate) where
   }
 
   -- all candidates were taken
-  pub folded-all : (r : Running) (f : Folded) → IsRunning j (length cs) r → f.changes.items ≡ r.changes.items → f.entries.items ≡ r.entries.items → f.flags.items ≡ r.flags.items → IsFolded j f
-  folded-all r f all changes entries flags' =
+  pub folded-all : (r : Running) → IsRunning j (length cs) r → IsFolded j r
+  folded-all r all =
       let count : length cs ≡ length j.candidates = sym (length-map cs seen) in record {
-        changes = ap changes_in changes ∙ all.changes ∙ ap (changes_to j) count;
-        entries = ap entries_in entries ∙ all.entries ∙ ap (entries_to j) count;
-        flags = flags' ∙ all.flags ∙ ap (λ n. map (flag j) (range_with_len 0 n)) count;
+        changes = all.changes ∙ ap (changes_to j) count;
+        entries = all.entries ∙ ap (entries_to j) count;
+        flags = all.flags ∙ ap (λ n. map (flag j) (range_with_len 0 n)) count;
       }

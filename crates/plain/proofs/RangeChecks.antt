@@ -1,6 +1,6 @@
 -- A range whose results rise holds where each is a row of the compared part, and each changed key's row there is a result.
 use Rattle.std.proofs.Common.{◌≡◌, ℕ, ◌-◌, Bool, true, false, cond, not, ◌&&◌, ◌||◌, List, [], ◌∷◌, ◌++◌, length, Option, Some, None, T, refl, sym, ap, subst, ◌∙◌, arith}
-use Rattle.std.specs.Prelude.{flat_map, option_map, is_some, is_none, IsTrue, ◌↔◌}
+use Rattle.std.specs.Prelude.{option_map, is_some, is_none, IsTrue, ◌↔◌}
 use Rattle.std.specs.declared.cmp.Ordering.{Ordering}
 use Rattle.std.specs.declared.cmp.Ordering.TheVariants.{Less, Equal, Greater}
 use Rattle.std.specs.Ordering.{is_lt, is_eq, eq_by_cmp}
@@ -18,17 +18,14 @@ use Rattle.transaction.specs.declared.transaction.KeyVersion.{KeyVersion}
 use Rattle.transaction.specs.Same.{is_same_version}
 use Rattle.values.specs.Order.{bytes_cmp}
 use Rattle.rules.specs.declared.delta.Change.{Change}
-use Rattle.rules.specs.declared.delta.Delta.{Delta}
 use Rattle.rules.specs.declared.row.Row.{Row}
 use Rattle.rules.specs.State.{State, StateKey, key_cmp, version_in, is_same_key, with_changes, set_at}
 use Rattle.rules.specs.Delta.{change_of, changes_in}
 use Rattle.rules.specs.Ranges.{is_within, is_compared, results_of, range_holds}
 use Rattle.rules.specs.ReadWriteSets.{has_results_in_form}
-use Rattle.rules.specs.World.{World}
 use Rattle.rules.proofs.Keys.{bytes_ties, same_key_is}
 use Rattle.rules.proofs.Changes.{get-set_at, with_changes-append}
 use Rattle.rules.proofs.Ranges.{HoldsAtKey, range_by_keys, version_decides}
-use Rattle.plain.specs.Deltas.{world_of}
 use Rattle.plain.specs.RangeChecks.{is_found, is_listed}
 use Rattle.plain.proofs.InForm.{versions}
 
@@ -239,29 +236,17 @@ range_by_checks s namespace r cs made rising = same_test (range_holds s namespac
         let each = both_true (list_all (is_found s namespace r) r.results) (list_all (is_listed s namespace r) cs) h in
         law.1 (λ q. at_key each.0 each.1 q (find bytes_cmp q (versions r.results)) refl)
 
--- ---- the changes of deltas
+-- ---- two lists of changes
 
-abbrev changes_before : List Delta → List Change
-changes_before ds = flat_map (λ d. d.changes) ds
-
-all_of_deltas : (p : Change → Bool) (ds : List Delta) → list_all p (changes_before ds) ≡ list_all (λ d. list_all p d.changes) ds
-all_of_deltas p [] = refl
-all_of_deltas p (d ∷ ds) = list_all-append p d.changes (changes_before ds) ∙ ap (λ (b : Bool). list_all p d.changes && b) (all_of_deltas p ds)
-
-changes_of_deltas : (ds : List Delta) → changes_in (changes_before ds) ≡ flat_map (λ d. changes_in d.changes) ds
-changes_of_deltas [] = refl
-changes_of_deltas (d ∷ ds) = map-append change_of d.changes (changes_before ds) ∙ ap (λ l. changes_in d.changes ++ l) (changes_of_deltas ds)
-
--- over a world that deltas made, and the changes since
-pub range_over_deltas : (w : World) (ds : List Delta) (changes : List Change) (s : State) (namespace : List ℕ) (r : Range) → w ≡ world_of ds → s ≡ with_changes w.state (changes_in changes) → IsTrue (has_results_in_form r)
-    → range_holds s namespace r ≡ (list_all (is_found s namespace r) r.results && (list_all (λ d. list_all (is_listed s namespace r) d.changes) ds && list_all (is_listed s namespace r) changes))
-range_over_deltas w ds changes s namespace r made now sound =
-    range_by_checks s namespace r (changes_before ds ++ changes) all_made (both_true (is_sorted bytes_cmp (results_of r)) (list_all (λ x. is_within r.start r.end x.key) r.results) sound).0
-    ∙ ap (λ (b : Bool). list_all (is_found s namespace r) r.results && b) (list_all-append (is_listed s namespace r) (changes_before ds) changes
-    ∙ ap (λ (b : Bool). b && list_all (is_listed s namespace r) changes) (all_of_deltas (is_listed s namespace r) ds))
+-- over a state that the changes before the block made, and the changes since
+pub range_over_changes : (before since : List Change) (s now : State) (namespace : List ℕ) (r : Range) → s ≡ with_changes empty (changes_in before) → now ≡ with_changes s (changes_in since) → IsTrue (has_results_in_form r)
+    → range_holds now namespace r ≡ (list_all (is_found now namespace r) r.results && (list_all (is_listed now namespace r) before && list_all (is_listed now namespace r) since))
+range_over_changes before since s now namespace r made later sound =
+    range_by_checks now namespace r (before ++ since) all_made (both_true (is_sorted bytes_cmp (results_of r)) (list_all (λ x. is_within r.start r.end x.key) r.results) sound).0
+    ∙ ap (λ (b : Bool). list_all (is_found now namespace r) r.results && b) (list_all-append (is_listed now namespace r) before since)
   where
-    all_made : s ≡ with_changes empty (changes_in (changes_before ds ++ changes))
+    all_made : now ≡ with_changes empty (changes_in (before ++ since))
     all_made =
-        now ∙ ap (λ (v : World). with_changes v.state (changes_in changes)) made
-        ∙ sym (with_changes-append empty (flat_map (λ d. changes_in d.changes) ds) (changes_in changes))
-        ∙ ap (with_changes empty) (ap (λ l. l ++ changes_in changes) (sym (changes_of_deltas ds)) ∙ sym (map-append change_of (changes_before ds) changes))
+        later ∙ ap (λ (t : State). with_changes t (changes_in since)) made
+        ∙ sym (with_changes-append empty (changes_in before) (changes_in since))
+        ∙ ap (with_changes empty) (sym (map-append change_of before since))

@@ -1,72 +1,63 @@
--- A block that was taken in, folded and kept is a step of the definition.
-use Rattle.std.proofs.Common.{◌≡◌, ℕ, List, [], length, map, Option, Ok, sym, ap, ◌∙◌}
+-- What was taken in and folded is what the next block makes of any world that holds this.
+use Rattle.std.proofs.Common.{◌≡◌, ℕ, List, [], length, map, Option, sym, ap, ◌∙◌}
 use Rattle.std.proofs.lemmas.List.{length-map}
 use Rattle.std.proofs.lemmas.List.FromFn.{length-map-range_with_len}
-use Rattle.block.specs.declared.block.Block.{Block}
-use Rattle.block.specs.Grammar.{Spells}
+use Rattle.transaction.specs.declared.transaction.Tx.{Tx}
 use Rattle.channel.specs.Configuration.{Configuration}
-use Rattle.header_hash.specs.Hashes.{header_hash_of}
+use Rattle.policy.specs.Policies.{Policies}
 use Rattle.policy_eval.specs.Accepts.{Accepts}
-use Rattle.rules.specs.declared.answer.Accepted.{Accepted}
-use Rattle.rules.specs.declared.delta.Delta.{Delta}
-use Rattle.rules.specs.declared.flag.Flag.{Flag}
+use Rattle.rules.specs.declared.committed.CommittedBlock.{CommittedBlock}
+use Rattle.rules.specs.declared.delta.NewUse.{NewUse}
 use Rattle.rules.specs.Candidate as candidate
-use Rattle.rules.specs.Commit.{txs_of, job_of, uses_from, committed_of, world_after}
-use Rattle.rules.specs.Delta.{changes_in, entries_in, uses_in, applied}
-use Rattle.rules.specs.Fold.{flag}
+use Rattle.rules.specs.Commit.{job_of, uses_from, committed}
+use Rattle.rules.specs.Delta.{changes_in, entries_in, uses_in}
+use Rattle.rules.specs.FirstUses.{with_uses}
+use Rattle.rules.specs.Fold.{flag, final_state, entries_to}
+use Rattle.rules.specs.History.{with_entries}
 use Rattle.rules.specs.Job.{Job}
-use Rattle.rules.specs.Linked.{IsLinked}
-use Rattle.rules.specs.Step.{Step}
 use Rattle.rules.specs.World.{World}
 use Rattle.rules.proofs.Candidates.{length-candidates_from}
-use Rattle.rules.proofs.Deltas.{committed-by_delta}
+use Rattle.rules.proofs.Deltas.{final_state-by_changes}
 use Rattle.plain.specs.declared.candidate.Candidate.{Candidate}
-use Rattle.plain.specs.declared.fold.Folded.{Folded}
-use Rattle.plain.specs.Seen.{seen, job_over}
+use Rattle.plain.specs.declared.fold.Running.{Running}
+use Rattle.plain.specs.Held.{Held, held_in, held_after, IsBefore}
+use Rattle.plain.specs.Seen.{seen, job_over, next_job}
 use Rattle.plain.specs.Taking.{IsFolded}
 
-module _ (channel : Configuration) (accepts : Accepts) (w : World) (b : Block) where
-  abbrev candidates : List candidate.Candidate
-  candidates = candidate.candidates_from channel accepts w.first_uses [] (txs_of b)
-
+module _ (channel : Configuration) (accepts : Accepts) (number : ℕ) (h : Held) (txs : List (Option Tx)) where
   abbrev job : Job
-  job = job_of channel accepts w (txs_of b)
+  job = next_job channel accepts number h txs
 
-  -- one candidate, and one id or none, for each transaction
-  pub count-candidates : (cs : List Candidate) → map seen cs ≡ candidates → length cs ≡ length b.txs
+  -- one candidate, one id or none, and one flag for each transaction
+  pub count-candidates : (cs : List Candidate) → map seen cs ≡ job.candidates → length cs ≡ length txs
   count-candidates cs are =
       let seen_count : length (map seen cs) ≡ length cs = length-map cs seen in
-      let all : length candidates ≡ length (txs_of b) = length-candidates_from channel accepts w.first_uses [] (txs_of b) in
-      sym seen_count ∙ ap length are ∙ all ∙ length-map b.txs _
+      sym seen_count ∙ ap length are ∙ length-candidates_from channel accepts h.first_uses [] txs
 
-  pub count-ids : (ids : List (Option (List ℕ))) → ids ≡ map (candidate.used_id channel accepts) (txs_of b) → length ids ≡ length b.txs
-  count-ids ids are = ap length are ∙ length-map (txs_of b) _ ∙ length-map b.txs _
+  pub count-ids : (ids : List (Option (List ℕ))) → ids ≡ map (candidate.used_id channel accepts) txs → length ids ≡ length txs
+  count-ids ids are = ap length are ∙ length-map txs _
 
-  -- the job of the candidates is the block's own
-  pub own_job : (cs : List Candidate) → map seen cs ≡ candidates → job_over channel.definitions w cs ≡ job
-  own_job cs are = ap (λ (l : List candidate.Candidate). record { number = job.number; state = job.state; definitions = job.definitions; candidates = l }) are
+  pub same_job : (definitions : Policies) (cs : List Candidate) → definitions ≡ channel.definitions → map seen cs ≡ job.candidates → job_over definitions number h.state cs ≡ job
+  same_job definitions cs named are = λ i. record { number = number; state = h.state; definitions = named i; candidates = are i }
 
-  pub count-flags : (cs : List Candidate) (f : Folded) → IsFolded (job_over channel.definitions w cs) f → length f.flags.items ≡ length cs
-  count-flags cs f folded = ap length folded.flags ∙ length-map-range_with_len (flag (job_over channel.definitions w cs)) 0 (length (map seen cs)) ∙ length-map cs seen
+  pub count-flags : (r : Running) → IsFolded job r → length r.flags.items ≡ length txs
+  count-flags r folded = ap length folded.flags ∙ length-map-range_with_len (flag job) 0 (length job.candidates) ∙ length-candidates_from channel accepts h.first_uses [] txs
 
-  pub accepted-step : (bytes : List ℕ) (f : Folded) (d : Delta) (answer : Accepted) (new : World)
-      → Spells bytes b → IsLinked w b → IsFolded job f
-      → uses_in d.uses ≡ uses_from job 0 (map (candidate.used_id channel accepts) (txs_of b))
-      → d.changes ≡ f.changes.items → d.entries ≡ f.entries.items
-      → d.block ≡ record { bytes = bytes; header_hash = header_hash_of b.header; flags = f.flags.items }
-      → answer ≡ record { number = b.header.number; header_hash = header_hash_of b.header; flags = f.flags.items }
-      → new ≡ applied w d
-      → Step channel accepts w bytes (Ok answer) new
-  accepted-step bytes f d answer new spells linked folded uses changes entries block answer_is new_is =
-      let after : world_after channel accepts w bytes b ≡ applied w d =
-      committed-by_delta channel accepts w (txs_of b) (committed_of bytes b job) d
-      (ap changes_in changes ∙ folded.changes)
-      (ap entries_in entries ∙ folded.entries)
-      uses
-      (block ∙ ap (λ (fs : List Flag). record { bytes = bytes; header_hash = header_hash_of b.header; flags = fs }) folded.flags) in (
-        b,
-        spells,
-        linked,
-        answer_is ∙ ap (λ (fs : List Flag). record { number = b.header.number; header_hash = header_hash_of b.header; flags = fs }) folded.flags,
-        new_is ∙ sym after,
-      )
+  module _ (w : World) (before : IsBefore w number h) where
+    pub job_is : job ≡ job_of channel accepts w txs
+    job_is = λ i. next_job channel accepts (sym before.0 i) (sym before.1 i) txs
+
+    -- what a job makes of what is held
+    abbrev after : Job → Held → Held
+    after j held = record {
+      state = final_state j;
+      history = with_entries held.history (entries_to j (length j.candidates));
+      first_uses = with_uses held.first_uses (uses_from j 0 (map (candidate.used_id channel accepts) txs));
+    }
+
+    pub held_next : (kept : CommittedBlock) (r : Running) (uses : List NewUse) → IsFolded job r → uses_in uses ≡ uses_from job 0 (map (candidate.used_id channel accepts) txs)
+        → held_after h (changes_in r.changes.items) (entries_in r.entries.items) (uses_in uses) ≡ held_in (committed channel accepts w txs kept)
+    held_next kept r uses folded used =
+        (λ i. held_after h (folded.changes i) (folded.entries i) (used i))
+        ∙ ap (λ s. record { state = s; history = with_entries h.history (entries_to job (length job.candidates)); first_uses = with_uses h.first_uses (uses_from job 0 (map (candidate.used_id channel accepts) txs)) }) (sym (final_state-by_changes job))
+        ∙ (λ i. after (job_is i) (sym before.1 i))

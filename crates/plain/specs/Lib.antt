@@ -1,4 +1,5 @@
-pub mod Deltas
+pub mod Entries
+pub mod Held
 pub mod Keys
 pub mod Seen
 pub mod StateNow

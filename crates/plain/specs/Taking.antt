@@ -10,7 +10,6 @@ use Rattle.rules.specs.Delta.{changes_in, entries_in}
 use Rattle.rules.specs.Candidate.{Candidate}
 use Rattle.rules.specs.Job.{Job, touched_by, changes_by, entries_by, endorsement_by, reads_by, flag_by}
 use Rattle.rules.specs.Fold.{running, flag, flags, changes_to, entries_to}
-use Rattle.plain.specs.declared.fold.Folded.{Folded}
 use Rattle.plain.specs.declared.fold.Running.{Running}
 use Rattle.plain.specs.Keys.{keys_of}
 
@@ -22,7 +21,7 @@ pub record IsRunning (j : Job) (i : ℕ) (r : Running) : Type 0 where
   pub flags : r.flags.items ≡ map (flag j) (range_with_len 0 i)
 
 -- what all candidates of a job give
-pub record IsFolded (j : Job) (r : Folded) : Type 0 where
+pub record IsFolded (j : Job) (r : Running) : Type 0 where
   pub changes : changes_in r.changes.items ≡ changes_to j (length j.candidates)
   pub entries : entries_in r.entries.items ≡ entries_to j (length j.candidates)
   pub flags : r.flags.items ≡ flags j

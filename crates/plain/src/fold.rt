@@ -26,21 +26,13 @@ use std::alloc::{AllocError, Global};
 use transaction::{Tx, Version};
 use values::Shared;
 
-/// What the candidates of a block have given.
-#[derive(Drop)]
-pub(crate) struct Folded {
-    pub changes: Vec<Change>,
-    pub entries: Vec<Shared<NewEntry>>,
-    pub flags: Vec<Flag>,
-}
-
 /// What runs along: the keys whose policy was touched, and what the candidates so far have given.
 #[derive(Drop)]
 pub(crate) struct Running<'a> {
-    touched: Vec<StateKey<'a>>,
-    changes: Vec<Change>,
-    entries: Vec<Shared<NewEntry>>,
-    flags: Vec<Flag>,
+    pub touched: Vec<StateKey<'a>>,
+    pub changes: Vec<Change>,
+    pub entries: Vec<Shared<NewEntry>>,
+    pub flags: Vec<Flag>,
 }
 
 impl<'a> Running<'a> {
@@ -160,32 +152,20 @@ impl<'a> Running<'a> {
         self.flags.push(flag)?;
         Ok(())
     }
-
-    fn folded(self) -> Folded
-        ensures changes { result.changes.items ≡ self.entry.changes.items }
-        ensures entries { result.entries.items ≡ self.entry.entries.items }
-        ensures flags { result.flags.items ≡ self.entry.flags.items }
-    {
-        Folded {
-            changes: self.changes,
-            entries: self.entries,
-            flags: self.flags,
-        }
-    }
 }
 
-/// Takes the candidates of the next block of the world.
-pub(crate) fn fold(
+/// Takes the candidates of the block of this number, over the world before it.
+pub(crate) fn fold<'a>(
     alloc: Global,
     definitions: &Definitions,
     world: &World,
-    candidates: &[Candidate<'_>],
-) -> Result<Folded, AllocError>
+    block: u64,
+    candidates: &[Candidate<'a>],
+) -> Result<Running<'a>, AllocError>
     requires { length candidates.now < 2 ^ 32 }
-    ensures { IfOk result (λ r. IsFolded (job_over definitions.now world.now candidates.now) r) }
+    ensures { IfOk result (λ r. IsFolded (job_over definitions.now block world.now.state candidates.now) r) }
 {
     let mut running = Running::new(alloc);
-    let block = world.height();
     for (tx, candidate) in candidates.iter().enumerate() {
         let version = Version {
             block,
@@ -193,5 +173,5 @@ pub(crate) fn fold(
         };
         running.take(alloc, definitions, world, version, candidate)?;
     }
-    Ok(running.folded())
+    Ok(running)
 }

@@ -1,5 +1,5 @@
-//! A serial committer over plain lists, slow and obvious: what it answers is what the definitions of `rules` say.
-//! Faster committers are to be compared with it.
+//! What the transactions of a block make of state, histories and first uses, over plain lists, slow and obvious. Whether a
+//! block is linked, and what is kept of it, is no concern of it. Faster committers are to be compared with it.
 #![tactic(auto)]
 
 mod candidate;
@@ -15,5 +15,5 @@ mod state_key;
 mod step;
 mod world;
 
-pub use step::submit;
+pub use step::take_block;
 pub use world::World;

@@ -10,7 +10,7 @@ ghost use Rattle.plain.specs.StateNow.{state_now};
 use crate::sets::{is_at_most, is_within};
 use crate::state::StateNow;
 use crate::state_key::StateKey;
-use rules::{Change, Delta};
+use rules::Change;
 use transaction::{KeyVersion, Range};
 use values::{KeyRef, NameRef};
 
@@ -97,31 +97,14 @@ fn are_found(state: StateNow<'_>, namespace: &NameRef<'_>, range: &Range<'_>) ->
     true
 }
 
-/// Whether `are_listed` holds for the changes of every block before this one.
-fn are_all_listed(
-    state: StateNow<'_>,
-    namespace: &NameRef<'_>,
-    range: &Range<'_>,
-    deltas: &[Delta],
-) -> bool
-    ensures { result ≡ list_all (λ d. list_all (is_listed (state_now state.entry) namespace.now range.now) d.changes) deltas.now }
-{
-    for delta in deltas {
-        if !are_listed(state, namespace, range, delta.changes.as_slice()) {
-            return false;
-        }
-    }
-    true
-}
-
 /// Whether the range query, executed again over the state, gives the same keys and versions: each result is a
 /// row of the compared part, and each such row is a result.
 pub(crate) fn range_holds(state: StateNow<'_>, namespace: &NameRef<'_>, range: &Range<'_>) -> bool
     requires { IsTrue (has_results_in_form range.now) }
     ensures { result ≡ range_holds (state_now state.entry) namespace.now range.now }
 {
-    let deltas = state.world.deltas();
+    let before = state.world.changes();
     are_found(state, namespace, range)
-        && are_all_listed(state, namespace, range, deltas)
+        && are_listed(state, namespace, range, before)
         && are_listed(state, namespace, range, state.changes)
 }

@@ -1,38 +1,41 @@
-ghost use Rattle.std.specs.Prelude.{◌≡◌, ◌++◌, map, List, IfOk, OnOk, OnErr};
+ghost use Rattle.std.specs.Prelude.{◌≡◌, ◌++◌, ◌+◌, ◌≤◌, map, vec_len, vec_capacity, IfOk, OnOk, OnErr};
 ghost use Rattle.std.specs.Option.{option_copied};
-ghost use Rattle.std.specs.FinMap.{get, find};
+ghost use Rattle.std.specs.FinMap.{get, empty, find};
 ghost use Rattle.values.specs.Order.{bytes_cmp};
 ghost use Rattle.rules.specs.State.{State, with_changes};
-ghost use Rattle.rules.specs.Delta.{changes_in, uses_in, applied};
-ghost use Rattle.rules.specs.World.{empty_world, height_of, last_header_hash};
-ghost use Rattle.rules.specs.Answers.{row_answer, history_answer, first_use_answer, block_answer};
+ghost use Rattle.rules.specs.History.{entries_at};
+ghost use Rattle.rules.specs.Delta.{changes_in, entries_in, uses_in};
+ghost use Rattle.plain.specs.Entries.{entries_for};
+ghost use Rattle.plain.specs.Held.{held_after, nothing};
 ghost use Rattle.plain.specs.Keys.{key_of};
-ghost use Rattle.plain.specs.Deltas.{world_of, entries_for};
 
 use crate::state_key::StateKey;
-use rules::{Change, CommittedBlock, Delta, FirstUse, HistoryEntry, NewEntry, NewUse, Row};
+use rules::{Change, FirstUse, HistoryEntry, NewEntry, NewUse, Row};
 use std::alloc::{AllocError, Global};
 use std::marker::Model;
 use transaction::TxId;
-use values::{Hash, Items, Key, Name, Shared};
+use values::{Key, Name, Shared};
 
-/// What a ledger holds, as the list of its blocks' deltas. A contract sees the world that they make.
+/// All changes, entries and uses of ids that blocks ever made. A contract sees the state, the history and the first uses
+/// that they make.
 #[derive(Drop)]
 pub struct World {
-    deltas: Items<Delta>,
+    changes: Vec<Change>,
+    entries: Vec<Shared<NewEntry>>,
+    uses: Vec<NewUse>,
 }
 
 impl Model for World {
-    ghost use Rattle.rules.specs.World as world;
-    ghost use Rattle.rules.specs.Code.{world_code};
+    ghost use Rattle.plain.specs.Held.{Held, held_code};
 
-    ghost Value = { world.World };
+    ghost Value = { Held };
 
-    ghost coded = { world_code };
+    ghost coded = { held_code };
 
-    ghost use Rattle.plain.specs.Deltas.{world_of, entries_for};
+    ghost use Rattle.rules.specs.Delta.{changes_in, entries_in, uses_in};
+    ghost use Rattle.plain.specs.Held.{held_after, nothing};
 
-    ghost view = { λ w. world_of w.deltas };
+    ghost view = { λ w. held_after nothing (changes_in w.changes.items) (entries_in w.entries.items) (uses_in w.uses.items) };
 }
 
 /// The row of a key once the changes are made, where it is `before` without them.
@@ -81,46 +84,29 @@ fn add_entries<'a>(
     Ok(())
 }
 
+/// Moves values behind others, for which there is room.
+fn append_reserved<T: Drop>(all: &mut Vec<T>, mut more: Vec<T>)
+    requires { vec_len all.old + vec_len more ≤ vec_capacity all.old }
+    ensures { all.new.items ≡ all.old.items ++ more.items }
+{
+    let _ = all.append(&mut more);
+}
+
 impl World {
-    /// The world of height 0. Takes no memory.
+    /// The world before all blocks. Takes no memory.
     pub fn new(alloc: Global) -> World
-        ensures { result ≡ empty_world }
+        ensures { result ≡ nothing }
     {
         World {
-            deltas: Items::new(alloc),
-        }
-    }
-
-    /// The number of accepted blocks, in constant time.
-    pub fn height(&self) -> u64
-        ensures { result ≡ height_of self.now }
-    {
-        self.deltas.len() as u64
-    }
-
-    /// The header hash of the last block, or none at height 0. Constant time.
-    pub fn header_hash(&self) -> Option<Hash>
-        ensures { result ≡ last_header_hash self.now }
-    {
-        match self.deltas.last() {
-            None => None,
-            Some(delta) => Some(delta.block.get().header_hash),
-        }
-    }
-
-    /// The block of a number, if it was accepted. Constant time.
-    pub fn block(&self, number: u64) -> Option<&CommittedBlock>
-        ensures { option_copied result ≡ block_answer self.now number }
-    {
-        match self.deltas.get(number as usize) {
-            None => None,
-            Some(delta) => Some(delta.block.get()),
+            changes: Vec::new(alloc),
+            entries: Vec::new(alloc),
+            uses: Vec::new(alloc),
         }
     }
 
     /// What the state has at a key. Linear in all changes that were ever made.
     pub fn row(&self, namespace: &Name, key: &Key) -> Option<&Row>
-        ensures { option_copied result ≡ row_answer self.now (namespace.now, key.now) }
+        ensures { option_copied result ≡ get self.now.state (namespace.now, key.now) }
     {
         self.row_at(&StateKey::lent(namespace, key))
     }
@@ -128,22 +114,14 @@ impl World {
     pub(crate) fn row_at(&self, wanted: &StateKey<'_>) -> Option<&Row>
         ensures { option_copied result ≡ get self.now.state (key_of wanted.now) }
     {
-        let mut row = None;
-        for delta in self.deltas.as_slice() {
-            row = row_after(row, delta.changes.as_slice(), wanted);
-        }
-        row
+        row_after(None, self.changes.as_slice(), wanted)
     }
 
     /// Where an id was used first. Linear in all ids.
     pub fn first_use(&self, id: &TxId) -> Option<FirstUse>
-        ensures { result ≡ first_use_answer self.now id.now }
+        ensures { result ≡ get self.now.first_uses id.now }
     {
-        let mut first = None;
-        for delta in self.deltas.as_slice() {
-            first = first.or(use_in(delta.uses.as_slice(), id));
-        }
-        first
+        use_in(self.uses.as_slice(), id)
     }
 
     /// The value writes and deletes of a key, the newest first. Linear in all that were ever made; memory for those of
@@ -154,37 +132,41 @@ impl World {
         namespace: &Name,
         key: &Key,
     ) -> Result<Vec<&HistoryEntry>, AllocError>
-        ensures { IfOk result (λ entries. map (λ e. e.now) entries.items ≡ history_answer self.now (namespace.now, key.now)) }
+        ensures { IfOk result (λ entries. map (λ e. e.now) entries.items ≡ entries_at self.now.history (namespace.now, key.now)) }
     {
-        self.history_at(alloc, &StateKey::lent(namespace, key))
+        let mut found = Vec::new(alloc);
+        add_entries(
+            &mut found,
+            self.entries.as_slice(),
+            &StateKey::lent(namespace, key),
+        )?;
+        found.reverse();
+        Ok(found)
     }
 
-    fn history_at(
-        &self,
-        alloc: Global,
-        wanted: &StateKey<'_>,
-    ) -> Result<Vec<&HistoryEntry>, AllocError>
-        ensures { IfOk result (λ entries. map (λ e. e.now) entries.items ≡ history_answer self.now (key_of wanted.now)) }
+    pub(crate) fn changes(&self) -> &[Change]
+        ensures { self.now.state ≡ with_changes empty (changes_in result.now) }
     {
-        let mut entries = Vec::new(alloc);
-        for delta in self.deltas.as_slice() {
-            add_entries(&mut entries, delta.entries.as_slice(), wanted)?;
-        }
-        entries.reverse();
-        Ok(entries)
+        self.changes.as_slice()
     }
 
-    pub(crate) fn deltas(&self) -> &[Delta]
-        ensures { self.now ≡ world_of result.now }
-    {
-        self.deltas.as_slice()
-    }
-
-    /// Applies a delta, which is kept. An `Err` changes nothing.
-    pub fn apply(&mut self, delta: Delta) -> Result<(), AllocError>
-        ensures ok { OnOk result (self.new ≡ applied self.old delta) }
+    /// Adds what a block has given. An `Err` changes nothing.
+    pub(crate) fn add(
+        &mut self,
+        changes: Vec<Change>,
+        entries: Vec<Shared<NewEntry>>,
+        uses: Vec<NewUse>,
+    ) -> Result<(), AllocError>
+        ensures ok { OnOk result (self.new ≡ held_after self.old (changes_in changes.items) (entries_in entries.items) (uses_in uses.items)) }
         ensures err { OnErr result (self.new ≡ self.old) }
     {
-        self.deltas.push(delta)
+        self.changes.reserve(changes.len())?;
+        self.entries.reserve(entries.len())?;
+        self.uses.reserve(uses.len())?;
+        // from here on nothing wants memory
+        append_reserved(&mut self.changes, changes);
+        append_reserved(&mut self.entries, entries);
+        append_reserved(&mut self.uses, uses);
+        Ok(())
     }
 }

@@ -2,7 +2,9 @@
 
 use crate::failed::Failed;
 use crate::fixture::{key, name};
-use crate::noted::{IDS, KEYS, NAMESPACE, Noted, id_of, key_of, use_at};
+use crate::noted::{
+    IDS, KEYS, NAMESPACE, Noted, has_policy, id_of, key_of, use_at, version_of,
+};
 use crate::pages::{numbered, row};
 use policy::Policy;
 use random_numbers::Random;
@@ -10,7 +12,6 @@ use rules::{
     Change, CommittedBlock, Delta, HistoryEntry, KeptKey, KeyedRow, NewEntry, NewUse, Row,
 };
 use std::alloc::Global;
-use transaction::Version;
 use values::{Bytes, Items, Part, Shared};
 
 /// What is drawn, the same in each run.
@@ -47,9 +48,8 @@ impl Drawing {
     }
 }
 
-// A policy for every fourth row.
 fn policy(alloc: Global, number: u32) -> Result<Option<Shared<Policy>>, Failed> {
-    if number % 4 != 0 {
+    if !has_policy(number) {
         return Ok(None);
     }
     match Policy::parse(alloc, "'A.peer'") {
@@ -70,10 +70,7 @@ fn change(alloc: Global, drawing: &mut Drawing, noted: &mut Noted) -> Result<Cha
     noted.set(at, Some(number));
     let row = Row {
         value: Part::copied(alloc, &[])?,
-        version: Version {
-            block: 0,
-            tx: number,
-        },
+        version: version_of(number),
         policy: policy(alloc, number)?,
     };
     let key = KeptKey::copied(alloc, &namespace.lend(), &key.lend())?;
@@ -96,10 +93,7 @@ fn entry(
             &key_of(alloc, at)?.lend(),
         )?,
         entry: HistoryEntry {
-            version: Version {
-                block: 0,
-                tx: number,
-            },
+            version: version_of(number),
             id: [0; 64],
             value: None,
         },

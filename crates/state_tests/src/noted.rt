@@ -4,6 +4,7 @@ use crate::failed::Failed;
 use crate::fixture::key;
 use rules::{FirstUse, Flag};
 use std::alloc::Global;
+use transaction::Version;
 use values::Key;
 
 pub const NAMESPACE: &[u8] = b"cc";
@@ -36,6 +37,19 @@ pub fn use_at(place: u32) -> FirstUse {
         place,
         flag: Flag::Valid,
     }
+}
+
+/// The version of a put or an entry with this number.
+pub fn version_of(number: u32) -> Version {
+    Version {
+        block: 0,
+        tx: number,
+    }
+}
+
+/// Whether the row that is put with this number has a policy: every fourth.
+pub fn has_policy(number: u32) -> bool {
+    number % 4 == 0
 }
 
 /// What was done to each key and id. Each put, entry and use has a number of its own.

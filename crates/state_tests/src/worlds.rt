@@ -1,7 +1,7 @@
 use crate::deltas::{Drawing, delta, six_hundred_puts};
 use crate::failed::Failed;
 use crate::fixture::{bound, name};
-use crate::noted::{IDS, KEYS, NAMESPACE, Noted, id_of, key_of, use_at};
+use crate::noted::{KEYS, NAMESPACE, Noted, has_policy, id_of, key_of, use_at, version_of};
 use crate::pages::numbered;
 use rules::Row;
 use std::alloc::Global;
@@ -20,20 +20,29 @@ fn hash_of(block: u32) -> [u8; 32] {
     hash
 }
 
+// Whether the row is the one that was put with this number, or none.
+fn is_put(row: Option<&Row>, number: Option<u32>) -> bool {
+    match (row, number) {
+        (None, None) => true,
+        (Some(row), Some(number)) => {
+            row.version == version_of(number) && row.policy.is_some() == has_policy(number)
+        }
+        _ => false,
+    }
+}
+
 // Whether the key has the row and the history that were noted.
 fn key_is_noted(alloc: Global, world: &World, noted: &Noted, at: usize) -> Result<bool, Failed> {
     let namespace = name(alloc, NAMESPACE)?;
     let key = key_of(alloc, at)?;
-    let row = match world.row(&namespace.lend(), &key.lend()) {
-        None => None,
-        Some(row) => Some(row.version.tx),
-    };
-    let mut history = Vec::new(alloc);
-    for entry in world.history(&namespace.lend(), &key.lend()) {
-        history.push(entry.version.tx)?;
-    }
-    let expected = noted.history(alloc, at)?;
-    Ok(row == noted.row(at) && history.as_slice() == expected.as_slice())
+    let numbers = noted.history(alloc, at)?;
+    let versions = world
+        .history(&namespace.lend(), &key.lend())
+        .map(|entry| entry.version);
+    Ok(
+        is_put(world.row(&namespace.lend(), &key.lend()), noted.row(at))
+            && versions.eq(numbers.iter().map(|number| version_of(*number))),
+    )
 }
 
 fn is_answer(answer: &RangeAnswer<'_>, expected: &[u32], limit: usize) -> bool {
@@ -86,47 +95,6 @@ fn is_noted(alloc: Global, world: &World, noted: &Noted) -> Result<bool, Failed>
     Ok(ids_are_noted(world, noted))
 }
 
-fn is_same_row(row: Option<&Row>, other: Option<&Row>) -> bool {
-    match (row, other) {
-        (None, None) => true,
-        (Some(row), Some(other)) => {
-            row.version == other.version && row.policy.is_some() == other.policy.is_some()
-        }
-        _ => false,
-    }
-}
-
-// Whether both worlds have the same row and history at a key.
-fn key_is_alike(
-    alloc: Global,
-    world: &World,
-    plain: &plain::World,
-    at: usize,
-) -> Result<bool, Failed> {
-    let namespace = name(alloc, NAMESPACE)?;
-    let key = key_of(alloc, at)?;
-    let entries = plain.history(alloc, &namespace, &key)?;
-    let versions = world
-        .history(&namespace.lend(), &key.lend())
-        .map(|entry| entry.version);
-    Ok(
-        versions.eq(entries.iter().map(|entry| entry.version))
-            && is_same_row(
-                world.row(&namespace.lend(), &key.lend()),
-                plain.row(&namespace, &key),
-            ),
-    )
-}
-
-fn ids_and_blocks_are_alike(world: &World, plain: &plain::World) -> bool {
-    for id in 0..IDS {
-        if world.first_use(&id_of(id)) != plain.first_use(&id_of(id)) {
-            return false;
-        }
-    }
-    world.height() == plain.height() && world.header_hash() == plain.header_hash()
-}
-
 fn is_behind(world: &World, block: u32) -> bool {
     world.height() == block as u64 + 1 && world.header_hash() == Some(hash_of(block))
 }
@@ -148,13 +116,12 @@ fn ranges_are_noted(
     Ok(true)
 }
 
-/// A world, one of plain lists, and what both are to hold.
+/// A world, and what it is to hold.
 #[derive(Drop)]
 struct Worlds {
     drawing: Drawing,
     noted: Noted,
     world: World,
-    plain: plain::World,
 }
 
 impl Worlds {
@@ -163,7 +130,6 @@ impl Worlds {
             drawing: Drawing::new(),
             noted: Noted::new(alloc)?,
             world: World::new(alloc),
-            plain: plain::World::new(alloc),
         })
     }
 
@@ -176,8 +142,7 @@ impl Worlds {
             most,
             hash_of(block),
         )?;
-        self.world.apply(&next)?;
-        Ok(self.plain.apply(next)?)
+        Ok(self.world.apply(&next)?)
     }
 
     // The same; where memory is refused nothing is to have changed, and it is applied once more.
@@ -191,27 +156,23 @@ impl Worlds {
             self.world.apply(&next)?;
         }
         self.noted = after;
-        Ok(self.plain.apply(next)?)
+        Ok(())
     }
 
-    // Whether the worlds hold what they are to hold behind a block: all ids, a key and ranges at random. The slow world
-    // is asked behind each sixteenth.
+    // Whether the world holds what it is to hold behind a block: all ids, a key and ranges at random.
     fn are_right(&mut self, alloc: Global, block: u32) -> Result<bool, Failed> {
         let at = self.drawing.key();
         Ok(
             is_behind(&self.world, block)
                 && ids_are_noted(&self.world, &self.noted)
                 && key_is_noted(alloc, &self.world, &self.noted, at)?
-                && (block % 16 != 0 || key_is_alike(alloc, &self.world, &self.plain, at)?)
                 && ranges_are_noted(alloc, &mut self.drawing, &self.world, &self.noted)?,
         )
     }
 
-    fn are_right_at_last(&self, alloc: Global) -> Result<bool, Failed> {
-        Ok(
-            is_noted(alloc, &self.world, &self.noted)?
-                && ids_and_blocks_are_alike(&self.world, &self.plain),
-        )
+    // The same behind the last block, of all keys.
+    fn are_right_at_last(&self, alloc: Global, block: u32) -> Result<bool, Failed> {
+        Ok(is_behind(&self.world, block) && is_noted(alloc, &self.world, &self.noted)?)
     }
 }
 
@@ -225,7 +186,7 @@ fn random_deltas(rt: HostRuntime) -> Result<(), Failed> {
             "behind block {block}"
         );
     }
-    assert!(rt; worlds.are_right_at_last(rt.alloc())?);
+    assert!(rt; worlds.are_right_at_last(rt.alloc(), BLOCKS - 1)?);
     Ok(())
 }
 
@@ -251,7 +212,7 @@ fn refused_memory_changes_nothing(rt: HostRuntime) -> Result<(), Failed> {
     let mut worlds = Worlds::new(rt.alloc())?;
     worlds.apply_at_last(rt.alloc(), 40, 0)?;
     worlds.apply_at_last(rt.alloc(), 40, 1)?;
-    assert!(rt; worlds.are_right_at_last(rt.alloc())?);
+    assert!(rt; worlds.are_right_at_last(rt.alloc(), 1)?);
     Ok(())
 }
 

@@ -3,4 +3,4 @@ use Rattle.plain.specs.Taking.{IsRunning}
 use Rattle.plain.proofs.fold.fold.Given as goal
 
 abbrev pub invariant-loop-tx : goal.invariant-loop-tx
-invariant-loop-tx l = IsRunning (job_over l.definitions l.world l.candidates) l.tx l.running
+invariant-loop-tx l = IsRunning (job_over l.definitions l.block l.world.state l.candidates) l.tx l.running

@@ -1,5 +1,5 @@
 use Rattle.std.proofs.Common.{◌≡◌, ◌++◌, take, map}
-use Rattle.plain.specs.Deltas.{entries_for}
+use Rattle.plain.specs.Entries.{entries_for}
 use Rattle.plain.specs.Keys.{key_of}
 use Rattle.plain.proofs.world.add_entries.Given as goal
 

@@ -1,0 +1,13 @@
+use Rattle.std.proofs.Common.{map, ap, ◌∙◌}
+use Rattle.transaction.specs.Decoded.{tx_of}
+use Rattle.rules.specs.Fold.{flags}
+use Rattle.plain.proofs.Steps.{job_is, held_next}
+use Rattle.plain.proofs.step.take_block.Goals as goal
+
+pub returns-clause-flags : goal.returns-clause-flags
+returns-clause-flags g c = λ w before.
+    c.in_ok-folded.ensures.folded.flags ∙ ap flags (job_is c.args.channel.now (g.V.Verify.accepts c.args.verifier.now) c.args.number c.args.world.now (map tx_of c.args.txs.now) w before)
+
+pub returns-clause-held : goal.returns-clause-held
+returns-clause-held g c = λ w kept before.
+    c.in_ok-add.ensures.ok ∙ held_next c.args.channel.now (g.V.Verify.accepts c.args.verifier.now) c.args.number c.args.world.now (map tx_of c.args.txs.now) w before kept c.in_ok-folded.folded _ c.in_ok-folded.ensures.folded c.in_ok-folded.ensures.uses
