@@ -2,9 +2,7 @@
 
 use crate::failed::Failed;
 use crate::fixture::{key, name};
-use crate::noted::{
-    IDS, KEYS, NAMESPACE, Noted, has_policy, id_of, key_of, use_at, version_of,
-};
+use crate::noted::{IDS, KEYS, NAMESPACE, Noted, has_policy, id_of, key_of, use_at, version_of};
 use crate::pages::{numbered, row};
 use policy::Policy;
 use random_numbers::Random;
