@@ -26,7 +26,7 @@ from encoding import read_block
 from rust import rust_file, rust_lines, rust_string, rust_table
 from story import story
 from words import at, named, told, word
-from worked import script_of, worked
+from worked import ALL, ENDORSERS, RANGES, READS, script_of, worked
 
 
 def rust_flags(flags):
@@ -47,8 +47,12 @@ def rust_blocks(name, blocks):
     yield from rust_table(name, "Committed", ["\n".join(rust_block(*block)) for block in blocks])
 
 
-def written_keys(world):
-    return sorted(set(world.history) | set(world.state) | {(b"cc", b"j"), (b"zz", b"x")})
+def written_keys(world, *others):
+    return sorted(set(world.history) | set(world.state) | set(others))
+
+
+def story_keys(world):
+    return written_keys(world, (b"cc", b"j"), (b"zz", b"x"))
 
 
 def rust_row(row):
@@ -85,12 +89,16 @@ def rust_left(world, place):
 def rust_rows(world):
     yield "//! What the chain leaves at each key, made by vectors/make.py.\n"
     yield "use super::{Left, LeftRow};\n"
-    yield from rust_table("rows", "Left", ["\n".join(rust_left(world, place)) for place in written_keys(world)])
+    yield from rust_table("rows", "Left", ["\n".join(rust_left(world, place)) for place in story_keys(world)])
+
+
+def use_octets(world):
+    return b"".join(id + bytes(use) for id, use in world.first_uses.items())
 
 
 def rust_uses(world):
     yield "//! Where the chain uses each id first, made by vectors/make.py.\n"
-    octets = b"".join(id + bytes(use) for id, use in world.first_uses.items())
+    octets = use_octets(world)
     yield "/// The id's 64 bytes, then the block, the place and the number of the flag, a byte each."
     yield "pub fn uses() -> &'static [[u8; 67]] {\n    USES.as_chunks().0\n}\n"
     yield f"static USES: &[u8; {len(octets)}] =\n    {rust_string(octets)};"
@@ -103,22 +111,31 @@ def rust_scripted(octets, flags):
     yield "            },"
 
 
+def indented(lines):
+    for line in "\n".join(lines).split("\n"):
+        yield "        " + line
+
+
 def rust_chain(name, world):
-    """A chain of scripts, and what it leaves at the key `k` of `cc`."""
+    """A chain of scripts, and what it leaves at each key that it writes, at `k` and `none` of `cc`, and at each id."""
     yield "    WorkedChain {"
     yield f'        name: "{name.lower()}",'
     yield "        blocks: &["
     for octets, _, flags in world.blocks:
         yield from rust_scripted(octets, flags)
     yield "        ],"
-    yield from rust_row(world.state.get((b"cc", b"k")))
+    yield "        left: &["
+    for place in written_keys(world, (b"cc", b"k"), (b"cc", b"none")):
+        yield from indented(rust_left(world, place))
+    yield "        ],"
+    yield f"        uses: {rust_string(use_octets(world))},"
     yield "    },"
 
 
-def rust_worked():
+def rust_worked(name, groups):
     yield "//! Chains that each show one thing, made by vectors/make.py.\n"
-    yield "use super::{LeftRow, Scripted, WorkedChain};\n"
-    yield from rust_table("worked", "WorkedChain", ["\n".join(rust_chain(*row)) for row in worked()])
+    yield "use super::{Left, LeftRow, Scripted, WorkedChain};\n"
+    yield from rust_table(name, "WorkedChain", ["\n".join(rust_chain(*row)) for row in worked(groups)])
 
 
 def told_blocks(blocks, reasons):
@@ -135,7 +152,7 @@ def told_story(world):
     yield "its name has a bad signature.\n"
     yield from told_blocks(world.blocks, world.reasons)
     yield "\nWhat is left at each key, with its own policy, and its history, the newest first.\n"
-    for place in written_keys(world):
+    for place in story_keys(world):
         row = world.state.get(place)
         left = f"{word(row[0])} {at(row[1])}, {text_of(row) or '-'}" if row else "absent"
         yield f"{named(*place)}: {left}"
@@ -145,7 +162,7 @@ def told_story(world):
 
 def told_worked():
     yield "Chains that each show one thing, made by vectors/make.py and told as in story.txt."
-    for name, world in worked():
+    for name, world in worked(ALL):
         yield f"\n{name}"
         yield from told_blocks(world.blocks, world.reasons)
 
@@ -157,6 +174,7 @@ def files():
     yield "later_blocks.rt", rust_file(rust_blocks("later_blocks", world.blocks[half:]))
     yield "rows.rt", rust_file(rust_rows(world))
     yield "uses.rt", rust_file(rust_uses(world))
-    yield "worked.rt", rust_file(rust_worked())
+    for name, groups in (("worked_reads", READS), ("worked_endorsers", ENDORSERS), ("worked_ranges", RANGES)):
+        yield f"{name}.rt", rust_file(rust_worked(name, groups))
     yield "story.txt", rust_file(told_story(world))
     yield "worked.txt", rust_file(told_worked())

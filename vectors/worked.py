@@ -153,8 +153,14 @@ def script_of(block):
     return "".join(line + "\n" for tx in read_block(block)[3] for line in script_lines(tx))
 
 
-def worked():
+READS = (reads, key_policies)
+ENDORSERS = (policy_writes, endorsers, faults, ids)
+RANGES = (ranges,)
+ALL = (reads, key_policies, policy_writes, endorsers, ranges, faults, ids)
+
+
+def worked(groups):
     """Names, and the worlds behind their chains."""
-    for rows in (reads, key_policies, policy_writes, endorsers, ranges, faults, ids):
+    for rows in groups:
         for name, chain in rows():
             yield name, chain.world

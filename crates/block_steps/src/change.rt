@@ -5,12 +5,12 @@ use rules::{Change, KeptKey, KeyedRow, Row};
 use std::alloc::{AllocError, Global};
 use values::Shared;
 
-/// The change of a key to a row, or to none, for which both names are copied.
+/// The change of a key to a row, or to none. Takes memory for a row alone.
 pub fn change_to(alloc: Global, key: KeptKey, row: Option<Row>) -> Result<Change, AllocError>
     ensures { IfOk result (λ c. change_of c ≡ (key, row)) }
 {
     match row {
-        None => Ok(Change::Remove(key.namespace().copy(alloc)?, key.key().copy(alloc)?)),
+        None => Ok(Change::Remove(key)),
         Some(row) => Ok(Change::Put(Shared::new(alloc, KeyedRow::new(key, row))?)),
     }
 }

@@ -9,7 +9,7 @@ ghost use Rattle.rules.specs.Candidate as candidate;
 use channel::Channel;
 use header_hash::tx_id;
 use policy_eval::Verify;
-use rules::Flag;
+use rules::EarlyFlag;
 use std::alloc::{AllocError, Global};
 use transaction::{SpelledTx, TxFault, decode_tx};
 
@@ -44,17 +44,21 @@ fn has_own_id(tx: &SpelledTx<'_>) -> bool
 
 /// The first fault in where it comes from: its channel, its creator's signature, its id. The verifier is called where
 /// the channel is this one, the id is hashed where it accepts.
-pub fn origin_fault<V: Verify>(channel: &Channel, verifier: &V, tx: &SpelledTx<'_>) -> Option<Flag>
+pub fn origin_fault<V: Verify>(
+    channel: &Channel,
+    verifier: &V,
+    tx: &SpelledTx<'_>,
+) -> Option<EarlyFlag>
     ensures { result ≡ candidate.origin_fault channel.now (V.accepts verifier.now) tx.now }
 {
     if !tx.tx().channel.is_same(&channel.name().lend()) {
-        return Some(Flag::TargetChainNotFound);
+        return Some(EarlyFlag::TargetChainNotFound);
     }
     if !is_signed(verifier, tx) {
-        return Some(Flag::BadCreatorSignature);
+        return Some(EarlyFlag::BadCreatorSignature);
     }
     if !has_own_id(tx) {
-        return Some(Flag::BadProposalTxId);
+        return Some(EarlyFlag::BadProposalTxId);
     }
     None
 }

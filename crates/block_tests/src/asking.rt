@@ -3,8 +3,8 @@ ghost use Rattle.std.specs.Prelude.{◌≡◌, length, IfOk};
 
 use crate::building::{Ground, key, name};
 use crate::cases::{JobCase, KeyPlace, LETTERS, TXS};
-use crate::failed::Failed;
 use crate::sure::KnownCase;
+use failing::Failed;
 use key_chains::{Cells, Decision, Job, PlainBoard, StateKey};
 use rules::ReadVerdict;
 use std::alloc::{AllocError, Global};

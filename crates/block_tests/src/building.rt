@@ -1,12 +1,12 @@
 //! From a case to the job that the checks are asked about.
 use crate::cases::{BLOCK, DEFINITIONS, JobCase, KEYS, LETTERS, NAMESPACES, RowCase, Rule, TxCase};
-use crate::failed::Failed;
 use crate::spelling::{spelled, text_of};
 use block::MAX_TXS;
+use failing::Failed;
 use key_chains::{Candidate, Job};
 use policy::{Definitions, Policy};
 use policy_eval::{Verify, signers};
-use rules::{Flag, Row};
+use rules::{EarlyFlag, Row};
 use state_db::{Batch, StateDb};
 use std::alloc::{AllocError, Global};
 use transaction::{Identity, decode_tx};
@@ -149,7 +149,7 @@ fn candidate_of<'a>(
     bytes: &'a [u8],
 ) -> Result<Candidate<'a>, Failed> {
     if !tx.is_open {
-        return Ok(Candidate::Flagged(Flag::BadPayload));
+        return Ok(Candidate::Flagged(EarlyFlag::BadPayload));
     }
     match opened(alloc, definitions, bytes)? {
         Candidate::Flagged(_) => Err(Failed::Missing("an open transaction")),

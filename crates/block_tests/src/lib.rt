@@ -1,5 +1,5 @@
-//! Tests of the two checks of a block over whatever is known. Small jobs are judged by every assignment of the unknown
-//! verdicts, over plain lists.
+//! Tests of the two checks of a block over whatever is known: small jobs are judged by every assignment of the unknown
+//! verdicts, over plain lists. And of what a block changes.
 #![tactic(auto)]
 
 #[cfg(test)]
@@ -11,9 +11,9 @@ mod cases;
 #[cfg(test)]
 mod drawing;
 #[cfg(test)]
-mod failed;
-#[cfg(test)]
 mod random_jobs;
+#[cfg(test)]
+mod real_changes;
 #[cfg(test)]
 mod rows;
 #[cfg(test)]

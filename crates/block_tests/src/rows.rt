@@ -5,8 +5,8 @@ use crate::cases::{
     BLOCK, FLAGGED, JobCase, KEYS, KeyPlace, KeyUse, NOTHING, NewValue, RowCase, Rule, TXS, TxCase,
     UNUSED,
 };
-use crate::failed::Failed;
 use crate::sure::KnownCase;
+use failing::Failed;
 use key_chains::Decision;
 use rules::{Flag, ReadVerdict};
 use std::alloc::Global;

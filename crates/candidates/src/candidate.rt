@@ -2,7 +2,7 @@ use crate::in_form::InForm;
 use crate::open_tx::OpenTx;
 use policy::Definitions;
 use policy_eval::Signers;
-use rules::Flag;
+use rules::{EarlyFlag, Flag, ReadVerdict};
 use std::alloc::{AllocError, Global};
 use transaction::Tx;
 
@@ -10,13 +10,14 @@ use transaction::Tx;
 #[derive(Drop)]
 pub enum Candidate<'a> {
     /// Its flag is decided.
-    Flagged(Flag),
+    Flagged(EarlyFlag),
     /// The endorsement and read rules decide.
     Opened(OpenTx<'a>),
 }
 
 impl<'a> Candidate<'a> {
     ghost use Rattle.std.specs.Prelude.{◌≡◌, IfOk};
+    ghost use Rattle.rules.specs.Job.{flag_by};
     ghost use Rattle.rules.specs.Candidate.{flagged_or, opened};
     ghost use Rattle.candidates.specs.SetsFault.{sets_fault};
     ghost use Rattle.candidates.specs.Seen.{seen};
@@ -34,6 +35,18 @@ impl<'a> Candidate<'a> {
         match InForm::check(alloc, tx, definitions)? {
             Ok(in_form) => Ok(Candidate::Opened(in_form.with_signers(signers))),
             Err(flag) => Ok(Candidate::Flagged(flag)),
+        }
+    }
+
+    /// Its flag where its checks say this. One that is flagged has its flag whatever they say, and where the endorsement rule
+    /// fails the reads don't count.
+    pub fn flag(&self, is_endorsed: bool, reads: ReadVerdict) -> Flag
+        ensures { result ≡ flag_by (seen self.now) is_endorsed reads }
+    {
+        match self {
+            Candidate::Flagged(flag) => flag.flag(),
+            Candidate::Opened(_) if is_endorsed => reads.flag(),
+            Candidate::Opened(_) => Flag::EndorsementPolicyFailure,
         }
     }
 }

@@ -1,31 +1,15 @@
 //! Whether read and write sets are in form, but for the policies that they write.
 ghost use Rattle.std.specs.Prelude.{◌≡◌, map, IfOk};
 ghost use Rattle.std.specs.List.{list_all};
-ghost use Rattle.std.specs.Ordering.{is_le};
-ghost use Rattle.values.specs.Order.{bytes_cmp};
 ghost use Rattle.rules.specs.Ranges.{is_within};
 ghost use Rattle.rules.specs.ReadWriteSets.{has_results_in_form};
 ghost use Rattle.candidates.specs.Form.{have_lists_in_form, are_lists_in_form};
 
-use crate::labels::{are_distinct, are_rising, is_before};
+use crate::labels::{are_distinct, are_rising};
+use block_steps::is_within;
 use std::alloc::{AllocError, Global};
 use transaction::{KeyVersion, NsSet, Range, Tx};
-use values::{BoundRef, KeyRef};
-
-fn is_at_most(bytes: &[u8], others: &[u8]) -> bool
-    ensures { result ≡ is_le (bytes_cmp bytes.now others.now) }
-{
-    bytes <= others
-}
-
-/// From the start to before the end, which is no bound where it is empty.
-fn is_within(start: &BoundRef<'_>, end: &BoundRef<'_>, key: &KeyRef<'_>) -> bool
-    ensures { result ≡ is_within start.now end.now key.now }
-{
-    let end = end.as_slice();
-    is_at_most(start.as_slice(), key.as_slice())
-        && (end.is_empty() || is_before(key.as_slice(), end))
-}
+use values::BoundRef;
 
 fn are_within(start: &BoundRef<'_>, end: &BoundRef<'_>, results: &[KeyVersion<'_>]) -> bool
     ensures { result ≡ list_all (λ x. is_within start.now end.now x.key) results.now }

@@ -7,7 +7,7 @@ use crate::open_tx::OpenTx;
 use crate::written_key::WrittenKey;
 use policy::Definitions;
 use policy_eval::Signers;
-use rules::Flag;
+use rules::EarlyFlag;
 use std::alloc::{AllocError, Global};
 use std::marker::Model;
 use transaction::Tx;
@@ -40,14 +40,14 @@ impl<'a> InForm<'a> {
         alloc: Global,
         tx: Tx<'a>,
         definitions: &Definitions,
-    ) -> Result<Result<InForm<'a>, Flag>, AllocError>
+    ) -> Result<Result<InForm<'a>, EarlyFlag>, AllocError>
         ensures { IfOk result (λ checked. MatchResult checked (λ in_form. (in_form ≡ tx.entry) × (sets_fault definitions.now tx.entry ≡ None)) (λ flag. sets_fault definitions.now tx.entry ≡ Some flag)) }
     {
         let Some(written) = written_in_form(alloc, &tx)? else {
-            return Ok(Err(Flag::BadRwset));
+            return Ok(Err(EarlyFlag::BadRwset));
         };
         if !is_all_defined(definitions, &tx) {
-            return Ok(Err(Flag::InvalidChaincode));
+            return Ok(Err(EarlyFlag::InvalidChaincode));
         }
         Ok(Ok(InForm { tx, written }))
     }

@@ -1,5 +1,5 @@
 //! Whether the items of a list differ by their labels.
-ghost use Rattle.std.specs.Prelude.{◌≡◌, List, ℕ, map, IfOk};
+ghost use Rattle.std.specs.Prelude.{◌≡◌, map, IfOk};
 ghost use Rattle.std.specs.List.{list_any};
 ghost use Rattle.std.specs.List.Sorted.{IsPermutation};
 ghost use Rattle.std.specs.Ordering.{is_lt};
@@ -8,69 +8,13 @@ ghost use Rattle.values.specs.Order.{bytes_cmp};
 ghost use Rattle.rules.specs.ReadWriteSets.{are_distinct};
 ghost use Rattle.candidates.specs.Rising.{are_rising};
 
+use block_steps::Labelled;
 use std::alloc::{AllocError, Global};
-use transaction::{KeyVersion, NsSet, PolicyWrite, Read, Write};
 
 /// The most items that are compared pair by pair.
 const FEW: usize = 16;
 
-/// What has a name or a key, by which a list tells its items apart.
-pub trait Labelled {
-    ghost label: { Self → List ℕ };
-
-    fn label(&self) -> &[u8]
-        ensures { result.now ≡ label self.now };
-}
-
-impl Labelled for NsSet<'_> {
-    ghost label = { λ set. set.name };
-
-    fn label(&self) -> &[u8] {
-        self.name.as_slice()
-    }
-}
-
-impl Labelled for Read<'_> {
-    ghost label = { λ read. read.key };
-
-    fn label(&self) -> &[u8] {
-        self.key.as_slice()
-    }
-}
-
-impl Labelled for KeyVersion<'_> {
-    ghost label = { λ found. found.key };
-
-    fn label(&self) -> &[u8] {
-        self.key.as_slice()
-    }
-}
-
-impl Labelled for Write<'_> {
-    ghost label = { λ write. write.key };
-
-    fn label(&self) -> &[u8] {
-        self.key.as_slice()
-    }
-}
-
-impl Labelled for PolicyWrite<'_> {
-    ghost label = { λ write. write.key };
-
-    fn label(&self) -> &[u8] {
-        self.key.as_slice()
-    }
-}
-
-impl Labelled for &[u8] {
-    ghost label = { λ bytes. bytes.now };
-
-    fn label(&self) -> &[u8] {
-        self
-    }
-}
-
-pub(crate) fn is_before(bytes: &[u8], others: &[u8]) -> bool
+fn is_before(bytes: &[u8], others: &[u8]) -> bool
     ensures { result ≡ is_lt (bytes_cmp bytes.now others.now) }
 {
     bytes < others

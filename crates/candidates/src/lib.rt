@@ -17,7 +17,7 @@ mod written_value;
 pub use candidate::Candidate;
 pub use in_form::InForm;
 pub use in_order::keys_in_order;
-pub use labels::{Labelled, is_among};
+pub use labels::is_among;
 pub use laws::keys_have_one_order;
 pub use open_tx::OpenTx;
 pub use state_keys::StateKey;

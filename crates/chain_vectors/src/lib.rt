@@ -6,7 +6,9 @@ pub mod later_blocks;
 pub mod rows;
 pub mod uses;
 mod verifier;
-pub mod worked;
+pub mod worked_endorsers;
+pub mod worked_ranges;
+pub mod worked_reads;
 
 pub use verifier::SaysOk;
 
@@ -53,11 +55,13 @@ pub struct Scripted {
     pub flags: &'static [u8],
 }
 
-/// The blocks of a chain, and the row that they leave at the key `k` of `cc`.
+/// The blocks of a chain, what they leave at each key that they write and at the keys `k` and `none` of `cc`, and the first
+/// uses of their ids, as those of `uses` are spelled.
 pub struct WorkedChain {
     pub name: &'static str,
     pub blocks: &'static [Scripted],
-    pub row: Option<LeftRow>,
+    pub left: &'static [Left],
+    pub uses: &'static [u8],
 }
 
 /// The first use of an id, with the number of its flag.

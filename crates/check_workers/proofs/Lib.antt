@@ -1,5 +1,6 @@
 mod Words
 mod Found
+mod Sounding
 mod Steps
 mod Items
 mod DequeEnds

@@ -2,10 +2,10 @@
 use Rattle.std.proofs.Common.{◌≡◌, ◌≢◌, ℕ, ◌+◌, ◌*◌, ◌/◌, ◌%◌, ◌<◌, Bool, true, false, List, slice_index, Option, Some, None, refl, sym, ap, ◌∙◌, ⊎_elim, arith}
 use Rattle.std.specs.Prelude.{option_map}
 use Rattle.rules.specs.declared.flag.Flag.{Flag}
-use Rattle.rules.specs.declared.flag.Flag.TheVariants.{Valid, BadPayload, BadCreatorSignature, BadProposalTxId, DuplicateTxId, EndorsementPolicyFailure, MvccReadConflict, PhantomReadConflict, TargetChainNotFound, BadRwset, InvalidChaincode}
 use Rattle.rules.specs.Flags.{is_valid}
 use Rattle.rules.specs.Job.{Job}
 use Rattle.rules.specs.Fold.{endorsed, flag}
+use Rattle.rules.proofs.Numbers.{flag_back}
 use Rattle.key_chains.specs.Known.{valid_in}
 use Rattle.check_workers.specs.Cells.{endorsed_word, endorsed_in, flag_word, flag_in, verdict_word, known_in, IsKnown, Within}
 
@@ -18,19 +18,6 @@ same_item x y e = cc
 pub endorsed_back : (b : Bool) → endorsed_in (endorsed_word b) ≡ Some b
 endorsed_back false = refl
 endorsed_back true = refl
-
-pub flag_back : (f : Flag) → flag_in (flag_word f) ≡ Some f
-flag_back Valid = refl
-flag_back BadPayload = refl
-flag_back BadCreatorSignature = refl
-flag_back BadProposalTxId = refl
-flag_back DuplicateTxId = refl
-flag_back EndorsementPolicyFailure = refl
-flag_back MvccReadConflict = refl
-flag_back PhantomReadConflict = refl
-flag_back TargetChainNotFound = refl
-flag_back BadRwset = refl
-flag_back InvalidChaincode = refl
 
 pub endorsed_known : (b : Bool) → endorsed_word b ≢ 0
 endorsed_known false e = absurd (omega arith)
@@ -73,6 +60,11 @@ validity f (Some g) b shown e = ap is_valid (shown g refl) ∙ same_item (is_val
 
 pub shows_valid : (j : Job) (xs : List ℕ) → Within xs (verdict_word j) → (h : ℕ) (b : Bool) → valid_in (known_in xs) h ≡ Some b → is_valid (flag j h) ≡ b
 shows_valid j xs within h b e = validity (flag j h) ((known_in xs).flag h) b (shows_flag j xs within h) e
+
+-- a flag that isn't shown is unknown
+pub flag_unknown : (j : Job) (xs : List ℕ) → Within xs (verdict_word j) → (h : ℕ) → (known_in xs).flag h ≡ None → slice_index xs (2 * h + 1) ≡ 0
+flag_unknown j xs within h none =
+    ⊎_elim (λ zero. zero) (λ is. absurd (none_some (flag j h) (sym none ∙ ap flag_in (is ∙ word_of_flag j h) ∙ flag_back (flag j h)))) (within (2 * h + 1))
 
 -- ---- what is known stays so
 

@@ -26,29 +26,11 @@ pub(crate) fn flag_word(flag: Flag) -> u64
     u64::from(flag.number()) + 1
 }
 
-fn flag_numbered(number: u64) -> Flag
-    ensures { result ≡ cell.flag_numbered number }
-{
-    match number {
-        0 => Flag::Valid,
-        2 => Flag::BadPayload,
-        4 => Flag::BadCreatorSignature,
-        8 => Flag::BadProposalTxId,
-        9 => Flag::DuplicateTxId,
-        10 => Flag::EndorsementPolicyFailure,
-        11 => Flag::MvccReadConflict,
-        12 => Flag::PhantomReadConflict,
-        14 => Flag::TargetChainNotFound,
-        22 => Flag::BadRwset,
-        _ => Flag::InvalidChaincode,
-    }
-}
-
 pub(crate) fn flag_in(word: u64) -> Option<Flag>
     ensures { result ≡ cell.flag_in word }
 {
     match word {
         0 => None,
-        word => Some(flag_numbered(word - 1)),
+        word => Flag::numbered(word - 1),
     }
 }

@@ -8,6 +8,7 @@ mod cells;
 mod checking;
 mod deques;
 mod gathering;
+mod laws;
 mod rule;
 mod seat;
 mod turns;
@@ -15,5 +16,6 @@ mod view;
 mod workers;
 
 pub use checking::{Checked, check_all};
+pub use laws::words_show_a_sound_board;
 pub use seat::VerdictSeat;
 pub use view::View;

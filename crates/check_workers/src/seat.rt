@@ -7,12 +7,13 @@ ghost use Rattle.key_chains.specs.Job.{IsOpen};
 ghost use Rattle.key_chains.specs.Decided.{MatchDecision};
 ghost use Rattle.check_workers.specs.Cells.{IsKnown, Within, verdict_word, known_in};
 ghost use Rattle.check_workers.specs.Words.{fresh};
+ghost use Rattle.check_workers.specs.Board.{IsSound, board_in};
 ghost use Rattle.check_workers.specs.Seats.{Moves, Waits};
 
 use crate::cells::{endorsed_in, endorsed_word, flag_in, flag_word};
 use crate::rule::{Begins, Place, Sees, Steps};
 use key_chains::{Board, Decision, Job};
-use rules::Flag;
+use rules::{Flag, ReadVerdict};
 use std::marker::Model;
 
 /// A worker's seat at the words of one job. A contract sees what it knows: each verdict that it has read or found.
@@ -133,10 +134,13 @@ impl<'t, 'a> VerdictSeat<'t, 'a> {
     {
         match mvcc::decide(job, i, self) {
             Decision::Sure(verdict) => {
-                self.store(2 * i as usize + 1, flag_word(verdict.flag()));
+                self.store(2 * i as usize + 1, flag_word(job.flag(i, true, verdict)));
                 Decision::Sure(())
             }
-            Decision::Blocked(g) => Decision::Blocked(2 * g + 1),
+            Decision::Blocked(g) => {
+                self.knows_the_fold();
+                Decision::Blocked(2 * g + 1)
+            }
         }
     }
 
@@ -146,19 +150,17 @@ impl<'t, 'a> VerdictSeat<'t, 'a> {
         ensures moves { Moves self.old self.new }
         ensures decision { MatchDecision result
             (λ _. IsKnown self.new.known (2 * i + 1))
-            (λ h. ((h ≡ 2 * i) ⊎ ((g : ℕ) × (h ≡ 2 * g + 1) × ReadsDepend job.now i g)) × (slice_index self.new.known h ≡ 0)) }
+            (λ h. (((h ≡ 2 * i) × IsOpen job.now i) ⊎ ((g : ℕ) × (h ≡ 2 * g + 1) × ReadsDepend job.now i g)) × (slice_index self.new.known h ≡ 0)) }
     {
         if let Some(flag) = job.flagged(i) {
-            self.store(2 * i as usize + 1, flag_word(flag));
+            self.store(2 * i as usize + 1, flag_word(flag.flag()));
             return Decision::Sure(());
         }
         match self.endorsed(i) {
             None => Decision::Blocked(2 * i),
             Some(false) => {
-                self.store(
-                    2 * i as usize + 1,
-                    flag_word(Flag::EndorsementPolicyFailure),
-                );
+                let flag = job.flag(i, false, ReadVerdict::Good);
+                self.store(2 * i as usize + 1, flag_word(flag));
                 Decision::Sure(())
             }
             Some(true) => self.settle_reads(job, i),
@@ -169,8 +171,8 @@ impl<'t, 'a> VerdictSeat<'t, 'a> {
     /// and task 2 i + 1 its read check.
     ///
     /// `Blocked` names a smaller task that it waits for, whose verdict this seat doesn't know: the endorsement check of
-    /// the same candidate, or a check of the same kind that this one depends on. Takes no memory;
-    /// costs what the check costs.
+    /// the same candidate, which is open, or a check of the same kind that this one depends on. What the seat knows then shows a
+    /// sound board of the verdict machine. Takes no memory; costs what the check costs.
     pub fn settle(&mut self, job: &Job<'_>, task: u32) -> Decision<()>
         requires job { self.old.job ≡ job.now }
         requires task { task < 2 * length job.now.candidates }
@@ -178,12 +180,22 @@ impl<'t, 'a> VerdictSeat<'t, 'a> {
         ensures decision { MatchDecision result
             (λ _. IsKnown self.new.known task)
             (λ h. Waits job.now task h × (slice_index self.new.known h ≡ 0)) }
+        ensures sound { IsSound job.now (board_in job.now self.new.known) }
     {
-        if task % 2 == 0 {
+        let decision = if task % 2 == 0 {
             self.settle_endorsement(job, task / 2)
         } else {
             self.settle_flag(job, task / 2)
-        }
+        };
+        self.knows_the_fold();
+        decision
+    }
+
+    /// A law, and no work: each verdict that a seat knows is the fold's.
+    fn knows_the_fold(&self)
+        ensures { Within self.now.known (verdict_word self.now.job) }
+    {
+        let _ = &self.steps;
     }
 }
 

@@ -1,5 +1,8 @@
 //! Blocks handed in to a committer, some at a time, and a line for each.
-ghost use Rattle.std.specs.Prelude.{◌≡◌, All, IfOk, IfSome};
+ghost use Rattle.std.specs.Prelude.{◌≡◌, ◌++◌, ◌<◌, length, IfOk, IfSome, OnOk};
+ghost use Rattle.std.specs.Vec.Iter.{into_iter_items};
+ghost use Rattle.key_book.specs.Book.{accepts};
+ghost use Rattle.command_line.specs.Handing.{AreHandedIn, last_receipt};
 
 use crate::lines::write_answer;
 use commit::{Committer, NotCommitted, Receipt};
@@ -26,26 +29,15 @@ pub(crate) struct Committed {
     pub(crate) last: Option<Receipt>,
 }
 
-// What counts here of a committer's clause: it stays that of its handles, and its receipts are for them.
-fn run<R: Threads + Wait + Sync>(
-    rt: &R,
-    committer: &mut Committer,
-    blocks: &[Bytes],
-    keys: &KeyBook,
-) -> Result<Vec<Result<Receipt, NotCommitted>>, AllocError>
-    ensures book { committer.new.book ≡ committer.old.book }
-    ensures receipts { IfOk result (λ answers. All (λ answer. IfOk answer (λ receipt. receipt.front.book ≡ committer.old.book)) answers.items) }
-{
-    let answers = committer.run(rt, blocks, keys, &Open)?;
-    Ok(answers)
-}
-
 // The next blocks that are handed in at once.
-fn next_blocks(alloc: Global, blocks: &mut IntoIter<Bytes>) -> Result<Vec<Bytes>, AllocError> {
+fn next_blocks(alloc: Global, blocks: &mut IntoIter<Bytes>) -> Result<Vec<Bytes>, AllocError>
+    ensures next { IfOk result (λ next. into_iter_items blocks.old ≡ next.items ++ into_iter_items blocks.new) }
+    ensures fewer { OnOk result (0 < length (into_iter_items blocks.old) → length (into_iter_items blocks.new) < length (into_iter_items blocks.old)) }
+{
     let mut next = Vec::with_capacity(alloc, AT_ONCE)?;
     for _ in 0..AT_ONCE {
         let Some(bytes) = blocks.next() else {
-            break;
+            return Ok(next);
         };
         next.push(bytes)?;
     }
@@ -58,13 +50,9 @@ fn write_answers<'a, W: Write>(
     before: u64,
     out: &mut W,
     last: &mut Option<Receipt>,
-    committer: &Committer,
 ) -> Result<u8, Fault<'a>>
-    requires answers { All (λ answer. IfOk answer (λ receipt. receipt.front.book ≡ committer.now.book)) answers.items }
-    requires last { IfSome last.old (λ receipt. receipt.front.book ≡ committer.now.book) }
-    ensures { IfSome last.new (λ receipt. receipt.front.book ≡ committer.now.book) }
+    ensures { OnOk result (last.new ≡ last_receipt last.old answers.items) }
 {
-    let _committer = committer;
     let mut status = ACCEPTED;
     let mut place = before;
     for answer in answers {
@@ -87,20 +75,17 @@ pub(crate) fn commit_each<'a, R: Threads + Wait + Sync, W: Write>(
     keys: &KeyBook,
     out: &mut W,
 ) -> Result<Committed, Fault<'a>>
-    ensures { IfOk result (λ committed. IfSome committed.last (λ receipt. receipt.front.book ≡ committer.old.book)) }
+    ensures handed { IfOk result (λ committed. AreHandedIn (accepts keys.now) committer.old blocks.items committed.last committer.new) }
+    ensures last { IfOk result (λ committed. IfSome committed.last (λ receipt. receipt.front.book ≡ committer.old.book)) }
 {
     let mut status = ACCEPTED;
     let mut last = None;
     let mut before = 0u64;
-    let count = blocks.len();
     let mut blocks = blocks.into_iter();
-    for _ in 0..count {
+    while blocks.len() > 0 {
         let some = next_blocks(alloc, &mut blocks)?;
-        if some.is_empty() {
-            break;
-        }
-        let answers = run(rt, committer, some.as_slice(), keys)?;
-        status = status.max(write_answers(answers, before, out, &mut last, committer)?);
+        let answers = committer.run(rt, some.as_slice(), keys, &Open)?;
+        status = status.max(write_answers(answers, before, out, &mut last)?);
         before = before.wrapping_add(some.len() as u64);
     }
     Ok(Committed { status, last })

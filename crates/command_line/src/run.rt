@@ -1,4 +1,6 @@
 ghost use Rattle.std.specs.Prelude.{◌≡◌, All, IfOk, IfSome};
+ghost use Rattle.key_book.specs.Book.{accepts};
+ghost use Rattle.command_line.specs.Handing.{AreHandedIn};
 
 use crate::committing::{Committed, commit_each};
 use crate::readers::{Reader, start, write_heights};
@@ -46,6 +48,7 @@ fn commit_while_asked<'a, 's, E, R: Threads + Wait + Sync, W: Write>(
     out: &mut W,
 ) -> Result<Ended, Fault<'a>>
     requires { All (λ handle. handle.book ≡ committer.old.book) handles.items }
+    ensures handed { IfOk result (λ ended. AreHandedIn (accepts keys.now) committer.old blocks.items ended.1.last committer.new) }
     ensures readers { IfOk result (λ ended. All (λ reader. reader.promise.0.value.book ≡ committer.old.book) ended.0.items) }
     ensures last { IfOk result (λ ended. IfSome ended.1.last (λ receipt. receipt.front.book ≡ committer.old.book)) }
 {

@@ -8,7 +8,7 @@ use std::process::Abort;
 use std::sync::Wait;
 use std::thread::Threads;
 
-mod vectors;
+pub(crate) mod vectors;
 
 // Drafts the script of these files, and wants this block written once.
 fn expect_block<'a>(

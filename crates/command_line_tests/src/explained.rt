@@ -1,9 +1,9 @@
 // Why transactions have their flags, from the scripts that they are drafted of.
 use crate::explained::vectors::{block0, block1, block2, every_flag, lines};
-use crate::failed::Failed;
 use crate::fixture::{CHANNEL, End, File, MemoryFiles, Row, ended, expect_rows, words_of};
 use crate::signatures::keys;
 use command_line::{FileFault, Files};
+use failing::Failed;
 use std::alloc::{AllocError, Global};
 use std::cell::Cell;
 use std::process::Abort;
@@ -12,9 +12,8 @@ use std::sync::Wait;
 use std::thread::Threads;
 use values::Bytes;
 
-mod memory;
 mod policy_texts;
-mod vectors;
+pub(crate) mod vectors;
 
 // Files in memory, and what was written last, whatever its path.
 #[derive(Drop)]
@@ -41,7 +40,7 @@ impl Files for Desk<'_> {
 }
 
 // How the program ends that is called with these words, and what it says.
-fn answered<F: Files>(
+pub(crate) fn answered<F: Files>(
     rt: &(impl AllocGlobal + Threads + Wait + Sync),
     files: &F,
     words: &str,
@@ -49,6 +48,8 @@ fn answered<F: Files>(
     let words = words_of(rt.alloc(), words)?;
     Ok(ended(rt, files, &words))
 }
+
+const NOT_DRAFTED: Failed = Failed::Missing("a drafted block");
 
 // The block of the script `s`, drafted by these words.
 pub(crate) fn drafted(
@@ -62,9 +63,9 @@ pub(crate) fn drafted(
         written: Cell::new(None),
     };
     match status(rt, &desk, words) {
-        Ok(0) => desk.written.take().ok_or(Failed::NotDrafted),
-        Ok(_) => Err(Failed::NotDrafted),
-        Err(AllocError) => Err(Failed::Memory),
+        Ok(0) => desk.written.take().ok_or(NOT_DRAFTED),
+        Ok(_) => Err(NOT_DRAFTED),
+        Err(error) => Err(Failed::from(error)),
     }
 }
 

@@ -89,6 +89,52 @@ fn words_and_files(rt: HostRuntime) -> Result<(), AllocError> {
     expect_all_rows(&rt, &block, &last)
 }
 
+// Wants this of a name and a key of so many bytes.
+fn expect_lengths(
+    rt: &(impl Abort + AllocGlobal + Threads + Wait + Sync),
+    (name, key): (usize, usize),
+    status: u8,
+    (row, scanned, err): (&str, &str, &str),
+) -> Result<(), AllocError> {
+    let (name, key) = ("n".repeat(rt.alloc(), name)?, "k".repeat(rt.alloc(), key)?);
+    let files = [("c", CHANNEL), ("k", KEYS)];
+    let get = format!(in rt.alloc(); "get --ns {name} --key {key}")?;
+    expect_row(rt, &MemoryFiles(&files), &(get.as_str(), status, row, err))?;
+    let history = format!(in rt.alloc(); "history --ns {name} --key {key}")?;
+    expect_row(
+        rt,
+        &MemoryFiles(&files),
+        &(history.as_str(), status, scanned, err),
+    )
+}
+
+// A name has at most 64 bytes, and a key at most 1,024.
+#[test]
+fn names_and_keys_that_are_too_long(rt: HostRuntime) -> Result<(), AllocError> {
+    let bad = ("", "", "bad word\n");
+    expect_lengths(&rt, (64, 1024), 0, ("height 0\nabsent\n", "height 0\n", ""))?;
+    expect_lengths(&rt, (64, 1025), 2, bad)?;
+    expect_lengths(&rt, (65, 1024), 2, bad)
+}
+
+fn expect_scan(
+    rt: &(impl Abort + AllocGlobal + Threads + Wait + Sync),
+    name: usize,
+    status: u8,
+    (out, err): (&str, &str),
+) -> Result<(), AllocError> {
+    let name = "n".repeat(rt.alloc(), name)?;
+    let files = [("c", CHANNEL), ("k", KEYS)];
+    let scan = format!(in rt.alloc(); "scan --ns {name}")?;
+    expect_row(rt, &MemoryFiles(&files), &(scan.as_str(), status, out, err))
+}
+
+#[test]
+fn names_that_are_too_long(rt: HostRuntime) -> Result<(), AllocError> {
+    expect_scan(&rt, 64, 0, ("height 0\n", ""))?;
+    expect_scan(&rt, 65, 2, ("", "bad word\n"))
+}
+
 // Scripts, and the line that is at fault.
 static SCRIPTS: [(&str, &str); 30] = [
     ("walk", "s line 1\n"),

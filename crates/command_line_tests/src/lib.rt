@@ -8,19 +8,21 @@ mod answers;
 #[cfg(test)]
 mod blocks;
 #[cfg(test)]
+mod cut_off;
+#[cfg(test)]
 mod disk;
 #[cfg(test)]
 mod drafted;
 #[cfg(test)]
 mod explained;
 #[cfg(test)]
-mod failed;
-#[cfg(test)]
 mod fixture;
 #[cfg(test)]
 mod hostile;
 #[cfg(test)]
 mod limits;
+#[cfg(test)]
+mod memory;
 #[cfg(test)]
 mod outputs;
 #[cfg(test)]

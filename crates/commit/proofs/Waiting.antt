@@ -1,17 +1,20 @@
 -- Blocks that wait: taken in together, and taken out one by one.
-use Rattle.std.proofs.Common.{◌≡◌, ◌++◌, ◌∷◌, ℕ, List, map, take, drop, length, [], ap, sym, subst, ◌∙◌}
+use Rattle.std.proofs.Common.{◌≡◌, ◌++◌, ◌∷◌, ℕ, List, Result, map, take, drop, length, [], ap, sym, subst, ◌∙◌}
 use Rattle.std.proofs.lemmas.List.{take-map, drop-map, length-map, map-append}
 use Rattle.std.proofs.Math.Seq.{take-append_seam, drop-append_seam}
 use Rattle.channel.specs.Configuration.{Configuration}
-use Rattle.header_hash.specs.Hashes.{data_hash_of}
+use Rattle.block.specs.declared.block.Block.{Block}
+use Rattle.block_steps.specs.OnItsWay.{IsDecoded}
 use Rattle.intake.specs.declared.taking.Taken.{Taken}
 use Rattle.intake.specs.Place.{taken_of, shown}
 use Rattle.intake_workers.specs.declared.handed.Handed.{Handed}
-use Rattle.intake_workers.specs.declared.taking.Hashed.{Hashed}
+use Rattle.intake_workers.specs.declared.hashed.Hashed.{Hashed}
+use Rattle.intake_workers.specs.Made.{block_in}
 use Rattle.intake_workers.specs.Pieces.{txs_in, txs_of_all}
 use Rattle.policy_eval.specs.Accepts.{Accepts}
+use Rattle.rules.specs.declared.answer.Refused.{Refused}
 use Rattle.transaction.specs.Decoded.{tx_of}
-use Rattle.commit.specs.Prepared.{IsDecoded, AreHanded, Waits}
+use Rattle.commit.specs.Prepared.{AreHanded, Waits}
 
 abbrev first_or : {X : Type 0} → X → List X → X
 first_or x [] = x
@@ -35,42 +38,41 @@ ends seen f ts zs rest is =
     ∙ (drop-map f (length zs) (zs ++ rest) ∙ ap (map f) (drop-append_seam zs rest)))
 
 module _ (channel : Configuration) (accepts : Accepts) where
-  pub none_waits : (blocks : List (List ℕ)) (hashed : List Hashed) (taken : List Taken) → Waits channel accepts blocks [] hashed taken
-  none_waits [] hashed taken = tt
-  none_waits (bytes ∷ blocks) hashed taken = tt
+  pub none_waits : (blocks : List (List ℕ)) (taken : List Taken) → Waits channel accepts blocks [] taken
+  none_waits [] taken = tt
+  none_waits (bytes ∷ blocks) taken = tt
 
-  pub all_wait : (blocks : List (List ℕ)) (handed : List Handed) (hashed : List Hashed) (taken : List Taken)
+  pub all_wait : (blocks : List (List ℕ)) (handed : List Handed) (waiting : List (Result Hashed Refused)) (taken : List Taken)
       → AreHanded blocks handed
-      → map (λ (k : Hashed). k.data_hash) hashed ≡ map (λ (h : Handed). data_hash_of (txs_in h.block)) handed
-      → map (λ (k : Hashed). k.bytes) hashed ≡ map (λ (h : Handed). h.bytes.now) handed
+      → map block_in waiting ≡ map (λ (h : Handed). h.block) handed
       → map shown taken ≡ map (taken_of channel accepts) (map tx_of (txs_of_all handed))
-      → Waits channel accepts blocks handed hashed taken
-  all_wait [] handed hashed taken are hashes kept is = tt
-  all_wait (bytes ∷ blocks) [] hashed taken are hashes kept is = tt
-  all_wait (bytes ∷ blocks) (h ∷ handed) [] taken are hashes kept is = tt
-  all_wait (bytes ∷ blocks) (h ∷ handed) (k ∷ hashed) taken are hashes kept is =
+      → Waits channel accepts blocks waiting taken
+  all_wait [] handed waiting taken are same is = tt
+  all_wait (bytes ∷ blocks) handed [] taken are same is = tt
+  all_wait (bytes ∷ blocks) [] (r ∷ waiting) taken are same is = absurd are
+  all_wait (bytes ∷ blocks) (h ∷ handed) (r ∷ waiting) taken are same is =
+      let first : h.block ≡ block_in r = sym (ap (first_or (block_in r)) same) in
       let txs = txs_in h.block in
       let both : map shown taken ≡ map (taken_of channel accepts) (map tx_of txs ++ map tx_of (txs_of_all handed)) = is ∙ ap (map (taken_of channel accepts)) (map-append tx_of txs (txs_of_all handed)) in
-      let count : length (map tx_of txs) ≡ length txs = length-map txs tx_of in (
-        are.1,
-        ap (first_or k.data_hash) hashes,
-        ap (first_or k.bytes) kept ∙ are.0,
+      let count : length (map tx_of txs) ≡ length txs = length-map txs tx_of in
+      let Here : Result Block Refused → Type 0 = λ b. IsDecoded bytes b
+      × (map shown (take (length (txs_in b)) taken) ≡ map (taken_of channel accepts) (map tx_of (txs_in b)))
+      × Waits channel accepts blocks waiting (drop (length (txs_in b)) taken) in
+      subst Here first (
+        are.0,
         subst (λ (n : ℕ). map shown (take n taken) ≡ map (taken_of channel accepts) (map tx_of txs)) count (begins shown (taken_of channel accepts) taken (map tx_of txs) (map tx_of (txs_of_all handed)) both),
-        subst (λ (n : ℕ). Waits channel accepts blocks handed hashed (drop n taken)) count
-            (all_wait blocks handed hashed (drop (length (map tx_of txs)) taken) are.2 (ap behind_first hashes) (ap behind_first kept) (ends shown (taken_of channel accepts) taken (map tx_of txs) (map tx_of (txs_of_all handed)) both)),
+        subst (λ (n : ℕ). Waits channel accepts blocks waiting (drop n taken)) count
+            (all_wait blocks handed waiting (drop (length (map tx_of txs)) taken) are.1 (ap behind_first same) (ends shown (taken_of channel accepts) taken (map tx_of txs) (map tx_of (txs_of_all handed)) both)),
       )
 
-  -- what waits first, and what behind it
-  pub taken_out : (bytes : List ℕ) (blocks : List (List ℕ)) (h : Handed) (handed handed' : List Handed) (k : Hashed) (hashed hashed' : List Hashed) (taken : List Taken)
-      → handed' ≡ h ∷ handed → hashed' ≡ k ∷ hashed → Waits channel accepts (bytes ∷ blocks) handed' hashed' taken
-      → Waits channel accepts (bytes ∷ blocks) (h ∷ handed) (k ∷ hashed) taken
-  taken_out bytes blocks h handed handed' k hashed hashed' taken first_h first_k waits =
-      subst (λ (ks : List Hashed). Waits channel accepts (bytes ∷ blocks) (h ∷ handed) ks taken) first_k
-      (subst (λ (hs : List Handed). Waits channel accepts (bytes ∷ blocks) hs hashed' taken) first_h waits)
+-- what waits first
+pub taken_out : (channel : Configuration) (accepts : Accepts) (bytes : List ℕ) (blocks : List (List ℕ)) (r : Result Hashed Refused) (waiting waiting' : List (Result Hashed Refused)) (taken : List Taken)
+    → waiting' ≡ r ∷ waiting → Waits channel accepts (bytes ∷ blocks) waiting' taken → Waits channel accepts (bytes ∷ blocks) (r ∷ waiting) taken
+taken_out channel accepts bytes blocks r waiting waiting' taken first waits = subst (λ (rs : List (Result Hashed Refused)). Waits channel accepts (bytes ∷ blocks) rs taken) first waits
 
 -- one string more is handed in
-pub handed-push : (blocks : List (List ℕ)) (handed : List Handed) (bytes : List ℕ) (h : Handed) → AreHanded blocks handed → h.bytes.now ≡ bytes → IsDecoded bytes h.block → AreHanded (blocks ++ bytes ∷ []) (handed ++ h ∷ [])
-handed-push [] [] bytes h are same is = (same, is, tt)
-handed-push (b ∷ blocks) (g ∷ handed) bytes h are same is = (are.0, are.1, handed-push blocks handed bytes h are.2 same is)
-handed-push [] (g ∷ handed) bytes h are same is = absurd are
-handed-push (b ∷ blocks) [] bytes h are same is = absurd are
+pub handed-push : (blocks : List (List ℕ)) (handed : List Handed) (bytes : List ℕ) (h : Handed) → AreHanded blocks handed → IsDecoded bytes h.block → AreHanded (blocks ++ bytes ∷ []) (handed ++ h ∷ [])
+handed-push [] [] bytes h are is = (is, tt)
+handed-push (b ∷ blocks) (g ∷ handed) bytes h are is = (are.0, handed-push blocks handed bytes h are.1 is)
+handed-push [] (g ∷ handed) bytes h are is = absurd are
+handed-push (b ∷ blocks) [] bytes h are is = absurd are

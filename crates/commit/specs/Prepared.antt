@@ -1,59 +1,81 @@
 -- What was taken in of blocks before their worlds are known. No public contract cites this.
-use Rattle.std.specs.Prelude.{◌≡◌, ◌∷◌, [], ℕ, List, map, take, drop, length, Result, MatchResult}
+use Rattle.std.specs.Prelude.{◌≡◌, ◌∷◌, [], ℕ, List, map, take, drop, length, Option, Result, IfSome, MatchResult}
 use Rattle.std.specs.Vec.Iter.{into_iter_items}
 use Rattle.block.specs.declared.block.Block.{Block}
-use Rattle.block.specs.Grammar.{Spells}
+use Rattle.block_steps.specs.OnItsWay.{IsDecoded, bytes_of}
 use Rattle.channel.specs.Configuration.{Configuration}
-use Rattle.header_hash.specs.Hashes.{data_hash_of}
 use Rattle.intake.specs.declared.taking.Taken.{Taken}
 use Rattle.intake.specs.Place.{taken_of, shown}
 use Rattle.intake_workers.specs.declared.handed.Handed.{Handed}
-use Rattle.intake_workers.specs.declared.taking.Hashed.{Hashed}
+use Rattle.intake_workers.specs.declared.hashed.Hashed.{Hashed}
+use Rattle.intake_workers.specs.Made.{block_in}
 use Rattle.intake_workers.specs.Pieces.{txs_in, all_taken}
+use Rattle.ledger.specs.NextDelta.{IsNextDelta}
 use Rattle.ledger.specs.Taken.{IsTaken}
 use Rattle.policy_eval.specs.Accepts.{Accepts}
 use Rattle.rules.specs.declared.answer.Refused.{Refused}
-use Rattle.rules.specs.Linked.{IsRefused}
+use Rattle.rules.specs.declared.delta.Delta.{Delta}
+use Rattle.rules.specs.Linked.{IsLinked, IsRefused, IsUnlinked}
 use Rattle.rules.specs.World.{World}
 use Rattle.transaction.specs.Decoded.{tx_of}
 use Rattle.commit.specs.declared.prepared.Ahead.{Ahead}
 use Rattle.commit.specs.declared.prepared.Prepared.{Prepared}
 
 -- taken in by workers
-pub record IsPrepared (channel : Configuration) (accepts : Accepts) (bytes : List ℕ) (p : Prepared) : Type 0 where
-  pub is_taken : IsTaken channel accepts bytes p.block p.taken.items
-  pub hash : p.data_hash ≡ data_hash_of p.block.txs
-  pub kept : p.bytes ≡ bytes
+abbrev pub IsPrepared : Configuration → Accepts → List ℕ → Prepared → Type 0
+IsPrepared channel accepts bytes p = IsTaken channel accepts bytes p.hashed.block p.taken.items
 
 -- this, or why the bytes are refused by this world
 abbrev pub IsTakenIn : Configuration → Accepts → World → List ℕ → Result Prepared Refused → Type 0
 IsTakenIn channel accepts w bytes r = MatchResult r (IsPrepared channel accepts bytes) (IsRefused w bytes)
 
--- ---- blocks that wait to be committed
+-- this, where it waits
+abbrev pub MayWait : Configuration → Accepts → World → List ℕ → Option (Result Prepared Refused) → Type 0
+MayWait channel accepts w bytes next = IfSome next (IsTakenIn channel accepts w bytes)
 
--- what the bytes spell, or why they are refused by any world
-abbrev pub IsDecoded : List ℕ → Result Block Refused → Type 0
-IsDecoded bytes r = MatchResult r (Spells bytes) (λ refused. (w : World) → IsRefused w bytes refused)
+-- the delta of the next block, with a number of which nothing is said; or why the bytes are refused
+abbrev pub IsNextDeltaOr : Configuration → Accepts → World → List ℕ → Result (Delta × ℕ) Refused → Type 0
+IsNextDeltaOr channel accepts w bytes r = MatchResult r (λ d. IsNextDelta channel accepts w bytes d.0) (IsRefused w bytes)
+
+-- the block that was hashed, which is the next one of the world, and its bytes; or why it isn't
+abbrev pub IsNextOfHashed : World → Hashed → Result (Block × List ℕ) Refused → Type 0
+IsNextOfHashed w hashed r =
+    MatchResult r (λ next. (next.0 ≡ hashed.block) × IsLinked w next.0 × (next.1 ≡ bytes_of next.0)) (IsUnlinked w hashed.block)
+
+-- ---- blocks that wait to be committed
 
 -- these bytes are handed in, one string after the other
 abbrev pub AreHanded : List (List ℕ) → List Handed → Type 0
 AreHanded [] [] = Unit {0}
-AreHanded (bytes ∷ blocks) (h ∷ handed) = (h.bytes.now ≡ bytes) × IsDecoded bytes h.block × AreHanded blocks handed
+AreHanded (bytes ∷ blocks) (h ∷ handed) = IsDecoded bytes h.block × AreHanded blocks handed
 AreHanded [] (h ∷ handed) = ⊥
 AreHanded (bytes ∷ blocks) [] = ⊥
 
--- For each string of bytes there wait what it spells, what was hashed of it and its transactions, taken in. Where memory was
--- refused, nothing waits for it and for those behind it.
-abbrev pub Waits : Configuration → Accepts → List (List ℕ) → List Handed → List Hashed → List Taken → Type 0
-Waits channel accepts [] handed hashed taken = Unit {0}
-Waits channel accepts (bytes ∷ blocks) [] hashed taken = Unit {0}
-Waits channel accepts (bytes ∷ blocks) (h ∷ handed) [] taken = Unit {0}
-Waits channel accepts (bytes ∷ blocks) (h ∷ handed) (k ∷ hashed) taken =
-    IsDecoded bytes h.block
-    × (k.data_hash ≡ data_hash_of (txs_in h.block))
-    × (k.bytes ≡ bytes)
-    × (map shown (take (length (txs_in h.block)) taken) ≡ map (taken_of channel accepts) (map tx_of (txs_in h.block)))
-    × Waits channel accepts blocks handed hashed (drop (length (txs_in h.block)) taken)
+-- For each string of bytes there wait what it spells, hashed, and its transactions, taken in. Where memory was refused, nothing
+-- waits for it and for those behind it.
+abbrev pub Waits : Configuration → Accepts → List (List ℕ) → List (Result Hashed Refused) → List Taken → Type 0
+Waits channel accepts [] waiting taken = Unit {0}
+Waits channel accepts (bytes ∷ blocks) [] taken = Unit {0}
+Waits channel accepts (bytes ∷ blocks) (r ∷ waiting) taken =
+    IsDecoded bytes (block_in r)
+    × (map shown (take (length (txs_in (block_in r))) taken) ≡ map (taken_of channel accepts) (map tx_of (txs_in (block_in r))))
+    × Waits channel accepts blocks waiting (drop (length (txs_in (block_in r))) taken)
 
 abbrev pub IsAhead : Configuration → Accepts → List (List ℕ) → Ahead → Type 0
-IsAhead channel accepts blocks ahead = Waits channel accepts blocks (into_iter_items ahead.handed) (into_iter_items ahead.hashed) (all_taken (into_iter_items ahead.lists))
+IsAhead channel accepts blocks ahead = Waits channel accepts blocks (into_iter_items ahead.blocks) (all_taken (into_iter_items ahead.lists))
+
+-- where these are handed in, their blocks are ahead
+abbrev pub WaitWhereHanded : Configuration → Accepts → List Handed → Ahead → Type 0
+WaitWhereHanded channel accepts handed ahead = (blocks : List (List ℕ)) → AreHanded blocks handed → IsAhead channel accepts blocks ahead
+
+-- of blocks that are ahead the first, whatever the world
+abbrev pub IsFirstOf : Ahead → Option (Result Prepared Refused) → Type 0
+IsFirstOf ahead next =
+    (channel : Configuration) (accepts : Accepts) (bytes : List ℕ) (blocks : List (List ℕ)) → IsAhead channel accepts (bytes ∷ blocks) ahead
+    → (w : World) → MayWait channel accepts w bytes next
+
+-- of blocks that are ahead those behind the first
+abbrev pub AreBehindFirst : Ahead → Ahead → Type 0
+AreBehindFirst ahead behind =
+    (channel : Configuration) (accepts : Accepts) (bytes : List ℕ) (blocks : List (List ℕ)) → IsAhead channel accepts (bytes ∷ blocks) ahead
+    → IsAhead channel accepts blocks behind

@@ -3,6 +3,7 @@ ghost use Rattle.std.specs.List.{All};
 ghost use Rattle.rules.specs.World.{empty_world};
 ghost use Rattle.commit.specs.Committing.{Submits, Runs};
 
+use crate::means::Means;
 use crate::not_committed::NotCommitted;
 use crate::opening::OpenFault;
 use crate::published::Published;
@@ -77,7 +78,8 @@ impl Committer {
         self.published.gathered()
     }
 
-    /// Takes the bytes of the next block: commits and publishes them, or refuses them and changes nothing.
+    /// Takes the bytes of the next block: commits and publishes them, or refuses them and changes nothing. Where memory is
+    /// refused while they are published, what was published before stays, and it has stopped; from then on it takes no block.
     pub fn submit<R: Threads + Wait + Sync, V: Verify + Sync, G: Gate + Sync>(
         &mut self,
         rt: &R,
@@ -90,25 +92,16 @@ impl Committer {
         if self.published.has_stopped() {
             return Err(NotCommitted::Stopped);
         }
-        let prepared = self.published.take_in_next(
+        let means = Means {
             rt,
-            self.alloc,
-            &self.channel,
-            self.workers,
-            bytes,
+            alloc: self.alloc,
+            channel: &self.channel,
+            workers: self.workers,
             verifier,
             gate,
-        );
-        self.published.commit(
-            rt,
-            self.alloc,
-            &self.channel,
-            self.workers,
-            bytes,
-            prepared,
-            verifier,
-            gate,
-        )
+        };
+        let prepared = self.published.take_in_next(&means, bytes);
+        self.published.commit(&means, self.workers, bytes, prepared)
     }
 
     /// Takes the bytes of blocks one after the other, and answers to all as `submit` would. An `Err` means that no block
@@ -129,17 +122,15 @@ impl Committer {
         ensures err { OnErr result (self.new ≡ self.old) }
     {
         let answers = Vec::with_capacity(self.alloc, blocks.len())?;
-        Ok(run_all(
+        let means = Means {
             rt,
-            self.alloc,
-            &self.channel,
-            self.workers,
+            alloc: self.alloc,
+            channel: &self.channel,
+            workers: self.workers,
             verifier,
             gate,
-            &mut self.published,
-            blocks,
-            answers,
-        ))
+        };
+        Ok(run_all(&means, &mut self.published, blocks, answers))
     }
 
     /// Ends it, and waits for queries that have begun. Its handles get no entry from then on.

@@ -4,6 +4,7 @@
 mod by_workers;
 mod committer;
 mod laws;
+mod means;
 mod not_committed;
 mod opening;
 mod prepared;

@@ -1,16 +1,12 @@
 //! Blocks that were taken in, whatever the world before them.
-ghost use Rattle.std.specs.Prelude.{◌≡◌, ◌∷◌, [], ℕ, List, take, drop, None, IfOk, IfSome, OnSome};
+ghost use Rattle.std.specs.Prelude.{◌≡◌, [], take, drop, None, IfOk, IfSome, OnSome};
 ghost use Rattle.std.specs.Vec.Iter.{into_iter_items};
-ghost use Rattle.channel.specs.Configuration.{Configuration};
+ghost use Rattle.block_steps.specs.OnItsWay.{IsDecoded};
 ghost use Rattle.intake_workers.specs.Pieces.{all_taken};
-ghost use Rattle.policy_eval.specs.Accepts.{Accepts};
-ghost use Rattle.rules.specs.World.{World};
-ghost use Rattle.commit.specs.Prepared.{IsTakenIn, IsDecoded, AreHanded, IsAhead};
+ghost use Rattle.commit.specs.Prepared.{AreBehindFirst, AreHanded, IsAhead, IsFirstOf, WaitWhereHanded};
 
-use crate::workers::Workers;
-use block::Block;
-use block_steps::decoded;
-use channel::Channel;
+use crate::means::Means;
+use block_steps::DecodedBlock;
 use gates::Gate;
 use intake::Taken;
 use intake_workers::{Handed, Hashed, TakenIn, take_in_beside};
@@ -19,22 +15,19 @@ use rules::Refused;
 use std::alloc::{AllocError, Global};
 use std::thread::Threads;
 use std::vec;
-use values::{Bytes, Hash, Shared};
+use values::Bytes;
 
-/// A block, what can be said of its transactions without the world, and a copy of its bytes.
+/// A block, hashed, and what can be said of its transactions without the world.
 #[derive(Drop)]
 pub(crate) struct Prepared<'b> {
-    pub(crate) block: Block<'b>,
+    pub(crate) hashed: Hashed<'b>,
     pub(crate) taken: Vec<Taken<'b>>,
-    pub(crate) data_hash: Hash,
-    pub(crate) bytes: Shared<Bytes>,
 }
 
 /// Blocks that were taken in, to be committed one after the other.
 #[derive(Drop)]
 pub(crate) struct Ahead<'b> {
-    handed: vec::IntoIter<Handed<'b>>,
-    hashed: vec::IntoIter<Hashed>,
+    blocks: vec::IntoIter<Result<Hashed<'b>, Refused>>,
     lists: vec::IntoIter<Vec<Taken<'b>>>,
 }
 
@@ -60,33 +53,30 @@ fn next_taken<'b>(
 }
 
 impl<'b> Ahead<'b> {
-    fn of(handed: Vec<Handed<'b>>, taken_in: TakenIn<'b>) -> Ahead<'b>
-        ensures handed { into_iter_items result.handed ≡ handed.entry.items }
-        ensures hashed { into_iter_items result.hashed ≡ taken_in.entry.hashed.items }
+    fn of(taken_in: TakenIn<'b>) -> Ahead<'b>
+        ensures blocks { into_iter_items result.blocks ≡ taken_in.entry.blocks.items }
         ensures lists { into_iter_items result.lists ≡ taken_in.entry.taken.items }
     {
-        let TakenIn { hashed, taken } = taken_in;
+        let TakenIn { blocks, taken } = taken_in;
         Ahead {
-            handed: handed.into_iter(),
-            hashed: hashed.into_iter(),
+            blocks: blocks.into_iter(),
             lists: taken.into_iter(),
         }
     }
 
     /// No memory was left for them.
     fn none(alloc: Global) -> Ahead<'b>
-        ensures { into_iter_items result.handed ≡ [] }
+        ensures { into_iter_items result.blocks ≡ [] }
     {
         Ahead {
-            handed: Vec::new(alloc).into_iter(),
-            hashed: Vec::new(alloc).into_iter(),
+            blocks: Vec::new(alloc).into_iter(),
             lists: Vec::new(alloc).into_iter(),
         }
     }
 
     /// Drops what waits.
     fn stop(&mut self, alloc: Global) -> Option<Result<Prepared<'b>, Refused>>
-        ensures none { into_iter_items self.new.handed ≡ [] }
+        ensures none { into_iter_items self.new.blocks ≡ [] }
         ensures nothing { result ≡ None }
     {
         *self = Ahead::none(alloc);
@@ -95,39 +85,28 @@ impl<'b> Ahead<'b> {
 
     /// The next one, if it waits. Where memory was refused, neither it nor those behind it do.
     pub(crate) fn next(&mut self, alloc: Global) -> Option<Result<Prepared<'b>, Refused>>
-        ensures next { (channel : Configuration) (accepts : Accepts) (bytes : List ℕ) (blocks : List (List ℕ)) → IsAhead channel accepts (bytes ∷ blocks) self.old → (w : World) → IfSome result (IsTakenIn channel accepts w bytes) }
-        ensures behind { (channel : Configuration) (accepts : Accepts) (bytes : List ℕ) (blocks : List (List ℕ)) → IsAhead channel accepts (bytes ∷ blocks) self.old → IsAhead channel accepts blocks self.new }
+        ensures next { IsFirstOf self.old result }
+        ensures behind { AreBehindFirst self.old self.new }
     {
-        let Some(handed) = self.handed.next() else {
+        let Some(next) = self.blocks.next() else {
             return self.stop(alloc);
         };
-        let Some(hashed) = self.hashed.next() else {
-            return self.stop(alloc);
-        };
-        let block = match handed.block {
-            Ok(block) => block,
+        let hashed = match next {
+            Ok(hashed) => hashed,
             Err(refused) => return Some(Err(refused)),
         };
-        let Some(taken) = next_taken(alloc, &mut self.lists, block.txs.len()) else {
+        let Some(taken) = next_taken(alloc, &mut self.lists, hashed.block.txs().len()) else {
             return self.stop(alloc);
         };
-        let Hashed { data_hash, bytes } = hashed;
-        Some(Ok(Prepared {
-            block,
-            taken,
-            data_hash,
-            bytes,
-        }))
+        Some(Ok(Prepared { hashed, taken }))
     }
 }
 
 fn handed<'b>(alloc: Global, bytes: &'b [u8]) -> Handed<'b>
-    ensures bytes { result.bytes.now ≡ bytes.now }
-    ensures decoded { IsDecoded bytes.now result.block }
+    ensures { IsDecoded bytes.now result.block }
 {
     Handed {
-        bytes,
-        block: decoded(alloc, bytes),
+        block: DecodedBlock::decode(alloc, bytes),
     }
 }
 
@@ -142,38 +121,33 @@ fn decoded_all<'b>(alloc: Global, blocks: &'b [Bytes]) -> Result<Vec<Handed<'b>>
     Ok(all)
 }
 
-/// Takes blocks in by so many workers, the calling thread behind work of its own.
+/// Takes blocks in, the calling thread behind work of its own.
 pub(crate) fn take_in<'b, R: Threads + Sync, V: Verify + Sync, G: Gate + Sync, Z, F: FnMut() -> Z>(
-    rt: &R,
-    alloc: Global,
-    channel: &Channel,
-    workers: Workers,
+    means: &Means<'_, R, V, G>,
     handed: Vec<Handed<'b>>,
-    verifier: &V,
-    gate: &G,
     own: &mut F,
 ) -> (Ahead<'b>, Z)
     requires { F.pre own.old }
-    ensures ahead { (blocks : List (List ℕ)) → AreHanded blocks handed.entry.items → IsAhead channel.now (V.accepts verifier.now) blocks result.0 }
+    ensures ahead { WaitWhereHanded means.now.channel.now (V.accepts means.now.verifier.now) handed.entry.items result.0 }
     ensures own { F.step own.old result.1 own.new }
 {
     let (taken_in, done) = take_in_beside(
-        rt,
-        alloc,
-        channel,
-        verifier,
-        gate,
-        handed.as_slice(),
-        workers.count,
+        means.rt,
+        means.alloc,
+        means.channel,
+        means.verifier,
+        means.gate,
+        handed,
+        means.workers.count,
         own,
     );
     match taken_in {
-        Ok(taken_in) => (Ahead::of(handed, taken_in), done),
-        Err(AllocError) => (Ahead::none(alloc), done),
+        Ok(taken_in) => (Ahead::of(taken_in), done),
+        Err(AllocError) => (Ahead::none(means.alloc), done),
     }
 }
 
-/// Takes the blocks of these bytes in by so many workers, the calling thread behind work of its own.
+/// Takes the blocks of these bytes in, the calling thread behind work of its own.
 pub(crate) fn take_in_ahead<
     'b,
     R: Threads + Sync,
@@ -181,22 +155,13 @@ pub(crate) fn take_in_ahead<
     G: Gate + Sync,
     Z,
     F: FnMut() -> Z,
->(
-    rt: &R,
-    alloc: Global,
-    channel: &Channel,
-    workers: Workers,
-    blocks: &'b [Bytes],
-    verifier: &V,
-    gate: &G,
-    own: &mut F,
-) -> (Ahead<'b>, Z)
+>(means: &Means<'_, R, V, G>, blocks: &'b [Bytes], own: &mut F) -> (Ahead<'b>, Z)
     requires { F.pre own.old }
-    ensures ahead { IsAhead channel.now (V.accepts verifier.now) blocks.now result.0 }
+    ensures ahead { IsAhead means.now.channel.now (V.accepts means.now.verifier.now) blocks.now result.0 }
     ensures own { F.step own.old result.1 own.new }
 {
-    match decoded_all(alloc, blocks) {
-        Ok(handed) => take_in(rt, alloc, channel, workers, handed, verifier, gate, own),
-        Err(AllocError) => (Ahead::none(alloc), own()),
+    match decoded_all(means.alloc, blocks) {
+        Ok(handed) => take_in(means, handed, own),
+        Err(AllocError) => (Ahead::none(means.alloc), own()),
     }
 }

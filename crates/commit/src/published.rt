@@ -1,18 +1,17 @@
 //! What a committer has published, which it checks the next block against.
-ghost use Rattle.std.specs.Prelude.{◌≡◌, ◌<◌, ◌↔◌, [], false, length, Err, IfOk, IfSome};
+ghost use Rattle.std.specs.Prelude.{◌≡◌, ◌<◌, ◌↔◌, [], false, length, Err, IfOk};
 ghost use Rattle.std.specs.List.{All};
 ghost use Rattle.query.specs.Published.{published_world};
 ghost use Rattle.query.specs.declared.opening.OpenFault.TheVariants as open_fault;
 ghost use Rattle.rules.specs.World.{empty_world};
-ghost use Rattle.commit.specs.Committing.{Submits};
-ghost use Rattle.commit.specs.Prepared.{IsTakenIn};
-ghost use Rattle.commit.specs.Running.{committing};
+ghost use Rattle.commit.specs.Prepared.{IsTakenIn, MayWait};
+ghost use Rattle.commit.specs.Running.{SubmitsTo};
 
 use crate::by_workers::{next_delta, take_in_next};
+use crate::means::Means;
 use crate::not_committed::NotCommitted;
 use crate::prepared::Prepared;
 use crate::workers::Workers;
-use channel::Channel;
 use gates::Gate;
 use policy_eval::Verify;
 use query::{Publisher, QueryHandle, Receipt};
@@ -84,81 +83,55 @@ impl Published {
     /// Takes the next block in by workers, unless its place tells already that it is another one.
     pub(crate) fn take_in_next<'b, R: Threads + Sync, V: Verify + Sync, G: Gate + Sync>(
         &self,
-        rt: &R,
-        alloc: Global,
-        channel: &Channel,
-        workers: Workers,
+        means: &Means<'_, R, V, G>,
         bytes: &'b [u8],
-        verifier: &V,
-        gate: &G,
     ) -> Result<Prepared<'b>, Refused>
         requires { self.now.failed ≡ false }
-        ensures { IsTakenIn channel.now (V.accepts verifier.now) (published_world self.now) bytes.now result }
+        ensures { IsTakenIn means.now.channel.now (V.accepts means.now.verifier.now) (published_world self.now) bytes.now result }
     {
-        take_in_next(
-            rt,
-            alloc,
-            channel,
-            self.publisher.published(),
-            workers,
-            bytes,
-            verifier,
-            gate,
-        )
+        take_in_next(means, self.publisher.published(), bytes)
     }
 
     /// The next block, where it was taken in together with others. Where it wasn't, for want of memory, it is now, alone.
     pub(crate) fn prepared<'b, R: Threads + Sync, V: Verify + Sync, G: Gate + Sync>(
         &self,
-        rt: &R,
-        alloc: Global,
-        channel: &Channel,
-        workers: Workers,
+        means: &Means<'_, R, V, G>,
         bytes: &'b [u8],
         ahead: Option<Result<Prepared<'b>, Refused>>,
-        verifier: &V,
-        gate: &G,
     ) -> Result<Prepared<'b>, Refused>
-        requires { IfSome ahead (IsTakenIn channel.now (V.accepts verifier.now) (published_world self.now) bytes.now) }
-        ensures { IsTakenIn channel.now (V.accepts verifier.now) (published_world self.now) bytes.now result }
+        requires { MayWait means.now.channel.now (V.accepts means.now.verifier.now) (published_world self.now) bytes.now ahead }
+        ensures { IsTakenIn means.now.channel.now (V.accepts means.now.verifier.now) (published_world self.now) bytes.now result }
     {
         match ahead {
             Some(prepared) => prepared,
             None if self.publisher.failed() => Err(Refused::Memory),
-            None => self.take_in_next(rt, alloc, channel, workers, bytes, verifier, gate),
+            None => self.take_in_next(means, bytes),
         }
     }
 
-    /// Commits and publishes the block that was taken in, or refuses it.
+    /// Commits and publishes the block that was taken in, which so many workers check, or refuses it and publishes nothing. Where
+    /// memory is refused while it is published, nothing more is from then on.
     pub(crate) fn commit<R: Threads + Wait + Sync, V: Verify, G: Gate + Sync>(
         &mut self,
-        rt: &R,
-        alloc: Global,
-        channel: &Channel,
-        workers: Workers,
+        means: &Means<'_, R, V, G>,
+        checkers: Workers,
         bytes: &[u8],
         prepared: Result<Prepared<'_>, Refused>,
-        verifier: &V,
-        gate: &G,
     ) -> Result<Receipt, NotCommitted>
-        requires { IsTakenIn channel.now (V.accepts verifier.now) (published_world self.old) bytes.now prepared }
-        ensures { Submits (V.accepts verifier.now) (committing channel.now self.old) bytes.now result (committing channel.now self.new) }
+        requires { IsTakenIn means.now.channel.now (V.accepts means.now.verifier.now) (published_world self.old) bytes.now prepared }
+        ensures { SubmitsTo means.now.channel.now (V.accepts means.now.verifier.now) self.old bytes.now result self.new }
     {
         if self.publisher.failed() {
             return Err(NotCommitted::Stopped);
         }
         let (delta, gathered) = next_delta(
-            rt,
-            alloc,
-            channel,
+            means,
             self.publisher.published(),
-            workers,
+            checkers,
             bytes,
             prepared?,
-            verifier,
-            gate,
         )?;
-        match self.publisher.publish(rt, delta) {
+        match self.publisher.publish(means.rt, delta) {
             Ok(receipt) => {
                 self.gathered = gathered;
                 Ok(receipt)

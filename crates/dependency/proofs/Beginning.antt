@@ -3,8 +3,8 @@ use Rattle.std.proofs.Common.{◌≡◌, ◌≢◌, ◌⊎◌, inl, inr, ℕ, �
 use Rattle.std.specs.Prelude.{slice_set}
 use Rattle.std.proofs.lemmas.Bool.Decides.{eqb_tells}
 use Rattle.std.proofs.lemmas.List.{get_or-set_same, get_or-set_other, get_or-map, get_or_default, length-set, length-map, same_lists}
-use Rattle.rules.specs.declared.flag.Flag.{Flag}
-use Rattle.rules.specs.declared.flag.Flag.TheVariants.{BadPayload}
+use Rattle.rules.specs.declared.early_flag.EarlyFlag.{EarlyFlag}
+use Rattle.rules.specs.declared.early_flag.EarlyFlag.TheVariants.{BadPayload}
 use Rattle.rules.specs.Candidate.{Candidate, flagged, opened}
 use Rattle.rules.specs.Job.{Job, candidate_at}
 use Rattle.rules.specs.Machine.{first_endorsement, first_flag, first_board}
@@ -41,7 +41,7 @@ begun-more j i old new begun same here others = record {
     by k lt (inl d) = ap (cells_at new) d.1 ∙ here ∙ ap (λ n. first_cells (candidate_at j n)) (sym d.1)
     by k lt (inr d) = others k d.1 ∙ begun.taken k (let apart = d.1 in omega (arith, apart))
 
-pub begun-flagged : (j : Job) (i : ℕ) (flag : Flag) (old mid new : List Cells) → Begun j i old → i < length j.candidates → candidate_at j i ≡ flagged flag
+pub begun-flagged : (j : Job) (i : ℕ) (flag : EarlyFlag) (old mid new : List Cells) → Begun j i old → i < length j.candidates → candidate_at j i ≡ flagged flag
     → mid ≡ slice_set old i (first_cells (flagged flag)) → new ≡ mid → Begun j (i + 1) new
 begun-flagged j i flag old mid new begun lt is set same =
     begun-more j i old new begun

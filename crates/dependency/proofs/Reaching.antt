@@ -1,16 +1,12 @@
 -- What checks from the first board reach.
-use Rattle.std.proofs.Common.{◌≡◌, List, [], ◌∷◌, ◌++◌, length, refl, sym, ap, subst, ◌∙◌}
-use Rattle.std.proofs.lemmas.List.{get_or-map, length-map}
-use Rattle.rules.specs.declared.flag.Flag.TheVariants.{BadPayload}
+use Rattle.std.proofs.Common.{◌≡◌, List, [], ◌∷◌, ◌++◌, length, refl, sym, subst, ◌∙◌}
+use Rattle.std.proofs.lemmas.List.{length-map}
 use Rattle.rules.specs.declared.event.Event.{Event}
-use Rattle.rules.specs.Candidate.{flagged}
 use Rattle.rules.specs.Job.{Job}
-use Rattle.rules.specs.Machine.{Board, first_flag, first_board, MachineStep, Run}
-use Rattle.rules.proofs.Runs.{runs_keep, runs_have_lengths}
+use Rattle.rules.specs.Machine.{Board, first_board, MachineStep, Run}
+use Rattle.rules.proofs.Runs.{runs_have_lengths}
 use Rattle.key_chains.specs.declared.plain_board.Cells.{Cells}
 use Rattle.dependency.specs.Rows.{board_of}
-use Rattle.dependency.specs.Reached.{IsReached}
-use Rattle.dependency.proofs.Stepping.{flags_row}
 
 -- one check more
 pub run_more : (j : Job) (es : List Event) (e : Event) (a b c : Board) → Run j a es b → MachineStep j e b c → Run j a (es ++ e ∷ []) c
@@ -19,9 +15,3 @@ run_more j (first ∷ es) e a b c run step = (run.0, run.1, run_more j es e run.
 
 pub run_counts : (j : Job) (es : List Event) (cells : List Cells) → Run j (first_board j) es (board_of cells) → length cells ≡ length j.candidates
 run_counts j es cells run = sym (length-map cells (λ (c : Cells). c.endorsed)) ∙ (runs_have_lengths j es (board_of cells) run).0
-
-pub run_reaches : (j : Job) (es : List Event) (cells : List Cells) → Run j (first_board j) es (board_of cells) → IsReached j cells
-run_reaches j es cells run = record {
-  count = run_counts j es cells run;
-  flagged = λ i f lt is. sym (flags_row cells i) ∙ (runs_keep j es (first_board j) (board_of cells) run).flags i f (get_or-map first_flag j.candidates i (flagged BadPayload) _ lt ∙ ap first_flag is);
-}

@@ -5,7 +5,6 @@ use Rattle.std.proofs.Math.ListN.{get_or-map}
 use Rattle.std.proofs.Math.Seq.{map-set_same}
 use Rattle.std.proofs.lemmas.List.{map-set}
 use Rattle.rules.specs.declared.flag.Flag.{Flag}
-use Rattle.rules.specs.declared.flag.Flag.TheVariants.{EndorsementPolicyFailure}
 use Rattle.rules.specs.declared.read_verdict.ReadVerdict.{ReadVerdict}
 use Rattle.rules.specs.declared.read_verdict.ReadVerdict.TheVariants.{Good}
 use Rattle.rules.specs.declared.event.Event.TheVariants.{Endorse, Reads}
@@ -20,7 +19,6 @@ use Rattle.key_chains.specs.declared.plain_board.Cells.{Cells}
 use Rattle.key_chains.specs.Known.{valid_in}
 use Rattle.key_chains.specs.Cells.{no_cells, cells_at, known_of}
 use Rattle.dependency.specs.Rows.{board_of}
-use Rattle.dependency.specs.Reached.{IsReached}
 
 pub unknown : {X : Type 0} (o : Option X) → is_some o ≡ false → o ≡ None
 unknown None none = refl
@@ -105,29 +103,14 @@ by_reads_step j i old new e lt none endorsed step =
 pub reads_come_too_early : (j : Job) (i : ℕ) (old : List Cells) → i < length j.candidates → is_some (cells_at old i).flag ≡ false → (cells_at old i).endorsed ≡ None → MachineStep j (Reads i) (board_of old) (board_of old)
 reads_come_too_early j i old lt none endorsed = by_reads_step j i old (board_of old) None lt none endorsed refl
 
--- a candidate whose flag is unknown is open
-open_flag_is : (j : Job) (i : ℕ) (old : List Cells) (e : Bool) (v : ReadVerdict) (f : Flag) → IsReached j old → i < length j.candidates → is_some (cells_at old i).flag ≡ false
-    → ((tx : _) (signers : _) → flag_by (opened tx signers) e v ≡ f) → flag_by (candidate_at j i) e v ≡ f
-open_flag_is j i old e v f reached lt none is = by (candidate_at j i) refl
-  where
-    by : (c : Candidate) → candidate_at j i ≡ c → flag_by c e v ≡ f
-    by (flagged g) is_c = absurd (let wrong : false ≡ true = sym none ∙ ap is_some (reached.flagged i g lt is_c) in cc)
-    by (opened tx signers) is_c = is tx signers
-
-pub reads_refused : (j : Job) (i : ℕ) (old : List Cells) (new : Board) → IsReached j old → i < length j.candidates → is_some (cells_at old i).flag ≡ false → (cells_at old i).endorsed ≡ Some false
-    → SetsFlag (board_of old) i EndorsementPolicyFailure new → MachineStep j (Reads i) (board_of old) new
-reads_refused j i old new reached lt none endorsed sets =
-    by_reads_step j i old new (Some false) lt none endorsed
-    (subst (λ (f : Flag). SetsFlag (board_of old) i f new) (sym (open_flag_is j i old false Good EndorsementPolicyFailure reached lt none (λ tx signers. refl))) sets)
-
-pub reads_decide : (j : Job) (i : ℕ) (old mid : List Cells) (new : Board) (v : ReadVerdict) (f : Flag) → IsReached j old → i < length j.candidates → is_some (cells_at old i).flag ≡ false → (cells_at old i).endorsed ≡ Some true
-    → mid ≡ old → Sure (reads_under j) (valid_in (known_of mid)) i v → f ≡ read_flag v → SetsFlag (board_of mid) i f new → MachineStep j (Reads i) (board_of old) new
-reads_decide j i old mid new v f reached lt none endorsed same sure is sets =
+pub reads_decide : (j : Job) (i : ℕ) (old mid : List Cells) (new : Board) (v : ReadVerdict) (f : Flag) → i < length j.candidates → is_some (cells_at old i).flag ≡ false → (cells_at old i).endorsed ≡ Some true
+    → mid ≡ old → Sure (reads_under j) (valid_in (known_of mid)) i v → f ≡ flag_by (candidate_at j i) true v → SetsFlag (board_of mid) i f new → MachineStep j (Reads i) (board_of old) new
+reads_decide j i old mid new v f lt none endorsed same sure is sets =
     by_reads_step j i old new (Some true) lt none endorsed
     (inl (
       v,
       sure_of_flags j old i v (subst (λ (cells : List Cells). Sure (reads_under j) (valid_in (known_of cells)) i v) same sure),
-      subst (λ (g : Flag). SetsFlag (board_of old) i g new) (is ∙ sym (open_flag_is j i old true v (read_flag v) reached lt none (λ tx signers. refl)))
+      subst (λ (g : Flag). SetsFlag (board_of old) i g new) is
           (subst (λ (cells : List Cells). SetsFlag (board_of cells) i f new) same sets),
     ))
 

@@ -3,10 +3,9 @@ ghost use Rattle.std.specs.Prelude.{◌≡◌, ◌<◌, length};
 ghost use Rattle.rules.specs.declared.event.Event.TheVariants.{Endorse, Reads};
 ghost use Rattle.rules.specs.Machine.{SetsEndorsement, SetsFlag, MachineStep};
 ghost use Rattle.dependency.specs.Rows.{board_of};
-ghost use Rattle.dependency.specs.Reached.{IsReached};
 
 use key_chains::{Cells, Decision, Job, PlainBoard};
-use rules::{Event, Flag};
+use rules::{Event, Flag, ReadVerdict};
 
 fn set_endorsed(board: &mut PlainBoard, i: u32, endorsed: bool)
     requires { i < length board.old }
@@ -38,7 +37,7 @@ fn set_flag(board: &mut PlainBoard, i: u32, flag: Flag)
 
 /// The endorsement check of candidate i.
 fn check_endorsement(job: &Job<'_>, i: u32, board: &mut PlainBoard)
-    requires { IsReached job.now board.old }
+    requires { length board.old ≡ length job.now.candidates }
     ensures { MachineStep job.now (Endorse i) (board_of board.old) (board_of board.new) }
 {
     if i >= job.len() {
@@ -54,7 +53,7 @@ fn check_endorsement(job: &Job<'_>, i: u32, board: &mut PlainBoard)
 
 /// The read check of candidate i.
 fn check_reads(job: &Job<'_>, i: u32, board: &mut PlainBoard)
-    requires { IsReached job.now board.old }
+    requires { length board.old ≡ length job.now.candidates }
     ensures { MachineStep job.now (Reads i) (board_of board.old) (board_of board.new) }
 {
     if i >= job.len() {
@@ -66,10 +65,10 @@ fn check_reads(job: &Job<'_>, i: u32, board: &mut PlainBoard)
     }
     match cells.endorsed {
         None => {}
-        Some(false) => set_flag(board, i, Flag::EndorsementPolicyFailure),
+        Some(false) => set_flag(board, i, job.flag(i, false, ReadVerdict::Good)),
         Some(true) => {
             if let Decision::Sure(verdict) = mvcc::decide(job, i, board) {
-                set_flag(board, i, verdict.flag());
+                set_flag(board, i, job.flag(i, true, verdict));
             }
         }
     }
@@ -77,7 +76,7 @@ fn check_reads(job: &Job<'_>, i: u32, board: &mut PlainBoard)
 
 /// One check. One that is out of range, repeated or too early changes nothing.
 pub(crate) fn check(job: &Job<'_>, event: Event, board: &mut PlainBoard)
-    requires { IsReached job.now board.old }
+    requires { length board.old ≡ length job.now.candidates }
     ensures { MachineStep job.now event (board_of board.old) (board_of board.new) }
 {
     match event {

@@ -20,7 +20,7 @@ fn first_board(alloc: Global, job: &Job<'_>) -> Result<PlainBoard, AllocError>
                 i,
                 Cells {
                     endorsed: Some(false),
-                    flag: Some(flag),
+                    flag: Some(flag.flag()),
                 },
             );
         }

@@ -2,9 +2,9 @@
 
 mod vectors;
 
-use crate::failed::Failed;
 use crate::fixture::drafted;
 use block::{Header, Previous};
+use failing::Failed;
 use key_book::KeyBook;
 use std::alloc::Global;
 use vectors::{drafts, keys};

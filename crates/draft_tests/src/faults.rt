@@ -1,7 +1,7 @@
 //! Scripts of each form of line and of each fault, with the first faulty line.
 
-use crate::failed::Failed;
 use crate::fixture::{book, faulty_line};
+use failing::Failed;
 use key_book::KeyBook;
 use std::alloc::Global;
 

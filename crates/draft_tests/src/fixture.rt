@@ -1,8 +1,8 @@
 //! A channel and a key book, and what a script drafts there.
 
-use crate::failed::Failed;
 use block::Header;
 use drafts::{DraftFault, draft};
+use failing::Failed;
 use key_book::{KeyBook, KeyBookFault};
 use std::alloc::Global;
 use values::{Bytes, Name, is_name};
@@ -38,7 +38,7 @@ pub fn drafted(
     match draft(alloc, &channel, keys, after, script) {
         Ok(block) => Ok(Ok(block)),
         Err(DraftFault::Line(line)) => Ok(Err(line)),
-        Err(DraftFault::Memory) => Err(Failed::Memory),
+        Err(DraftFault::Memory) => Err(Failed::from(DraftFault::Memory)),
     }
 }
 

@@ -1,7 +1,7 @@
 //! Parts and lists of scripts at their limits, and one beyond.
 
-use crate::failed::Failed;
 use crate::fixture::{book, faulty_line};
+use failing::Failed;
 use key_book::KeyBook;
 use std::alloc::{AllocError, Global};
 

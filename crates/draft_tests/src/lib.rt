@@ -5,8 +5,6 @@
 #[cfg(test)]
 mod drafting;
 #[cfg(test)]
-mod failed;
-#[cfg(test)]
 mod faults;
 #[cfg(test)]
 mod fixture;

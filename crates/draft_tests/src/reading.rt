@@ -1,7 +1,7 @@
 //! What is read of a script, up to its first faulty line.
 
-use crate::failed::Failed;
 use crate::fixture::book;
+use failing::Failed;
 use key_book::KeyBook;
 use scripts::{Draft, Item, OwnedNsSet, Script, read};
 use std::alloc::{AllocError, Global};

@@ -1,16 +1,17 @@
 -- The changes to the rows that the state after a block has.
-use Rattle.std.proofs.Common.{◌≡◌, ◌⊎◌, ⊎_elim, ℕ, zero, suc, ◌<◌, Bool, true, false, cond, ◌||◌, List, [], ◌∷◌, ◌++◌, map, length, get_or, Option, Some, None, refl, sym, ap, subst, ◌∙◌, arith}
+use Rattle.std.proofs.Common.{◌≡◌, ◌⊎◌, ⊎_elim, ℕ, zero, suc, ◌<◌, Bool, true, false, cond, ◌||◌, ◌&&◌, List, [], ◌∷◌, ◌++◌, map, length, get_or, Option, Some, None, refl, sym, ap, subst, ◌∙◌, arith}
 use Rattle.std.specs.Prelude.{unwrap_or, slice_get, flat_map}
 use Rattle.std.specs.FinMap.{get, same_map}
-use Rattle.std.specs.List.{zip, AllByRecursion}
+use Rattle.std.specs.List.{zip, list_all, AllByRecursion}
 use Rattle.std.specs.List.Sorted.{IsStrictlySortedBy}
 use Rattle.std.specs.declared.cmp.Ordering.TheVariants.{Less}
 use Rattle.std.proofs.lemmas.List.Concat.{flat_map-cons}
 use Rattle.std.proofs.lemmas.List.Folds.{list_any-append}
 use Rattle.rules.specs.declared.row.Row.{Row}
 use Rattle.rules.specs.State.{StateKey, State, key_cmp, is_same_key, is_among, with_changes}
+use Rattle.rules.specs.Delta.{is_real}
 use Rattle.rules.specs.Candidate.{Candidate, flagged}
-use Rattle.rules.specs.declared.flag.Flag.TheVariants.{BadPayload}
+use Rattle.rules.specs.declared.early_flag.EarlyFlag.TheVariants.{BadPayload}
 use Rattle.rules.specs.Job.{Job, candidate_at, operated_by}
 use Rattle.rules.specs.Fold.{final_state}
 use Rattle.rules.proofs.Booleans.{neither}
@@ -20,7 +21,7 @@ use Rattle.rules.proofs.PerKey.{row_under}
 use Rattle.rules.proofs.Bridge.{valid}
 use Rattle.rules.proofs.Net.{CoversWrites, final_state-by_keys}
 use Rattle.key_chains.specs.Job.{keys_of, written_by}
-use Rattle.effects.specs.Rows.{ShowRows, change_at, changes_at}
+use Rattle.effects.specs.Rows.{ShowRows, is_real_row, change_at, changes_at}
 use Rattle.effects.proofs.EntryOrder.{KeepKeys}
 
 -- ---- the keys that have a change
@@ -59,6 +60,20 @@ keys_changed (k ∷ ks) (Some row ∷ rows) = ap (map (λ c. c.0)) (changes-cons
 
 pub keys_rise : (ks : List StateKey) (rows : List (Option (Option Row))) → IsStrictlySortedBy key_cmp ks → IsStrictlySortedBy key_cmp (map (λ c. c.0) (changes_at ks rows))
 keys_rise ks rows h = subst (IsStrictlySortedBy key_cmp) (sym (keys_changed ks rows)) (changed_rise ks rows h)
+
+-- ---- none removes a key that isn't there
+
+module _ (s : State) where
+  abbrev Real : List StateKey → List (Option (Option Row)) → Type 0
+  Real ks rows = (n : ℕ) (k : StateKey) → slice_get ks n ≡ Some k → is_real_row (get s k) (get_or rows n None) ≡ true
+
+  pub changes_real : (ks : List StateKey) (rows : List (Option (Option Row))) → Real ks rows → list_all (is_real s) (changes_at ks rows) ≡ true
+  changes_real [] rows h = ap (list_all (is_real s)) (no_keys rows)
+  changes_real (k ∷ ks) [] h = refl
+  changes_real (k ∷ ks) (None ∷ rows) h = ap (list_all (is_real s)) (changes-cons k ks None rows) ∙ changes_real ks rows (λ n. h (suc n))
+  changes_real (k ∷ ks) (Some row ∷ rows) h =
+      ap (list_all (is_real s)) (changes-cons k ks (Some row) rows)
+      ∙ ap (λ (b : Bool). b && list_all (is_real s) (changes_at ks rows)) (h 0 k refl) ∙ changes_real ks rows (λ n. h (suc n))
 
 -- ---- what they have
 

@@ -15,7 +15,7 @@ use Rattle.rules.specs.Job.{Job}
 use Rattle.rules.proofs.Changes.{get-set_at}
 use Rattle.rules.proofs.Keys.{key_ties, same_key_is, same_as_itself}
 use Rattle.key_chains.specs.Job.{keys_of}
-use Rattle.effects.specs.Rows.{ShowRows}
+use Rattle.effects.specs.Rows.{ShowRows, AreRealRows, change_of_row, is_real_row}
 
 -- ---- no key stands twice in a list that strictly rises
 
@@ -46,31 +46,64 @@ one_place (x ∷ ks) k (suc m) (suc n) h a b = ap suc (one_place ks k m n h.1 a 
 
 -- ---- one row is written
 
-pub shows_one_more : (j : Job) (rows : List (Option (Option Row))) (s : State) (n : ℕ) (k : StateKey) (row : Option Row) → IsStrictlySortedBy key_cmp (keys_of j) → slice_get (keys_of j) n ≡ Some k → n < length rows
-    → ShowRows j rows s → ShowRows j (set rows n (Some row)) (set_at s k row)
-shows_one_more j rows s n k row rising here below before m q at = by (cases_eq m n)
+-- what stands for it at its place
+pub shows_one_more : (j : Job) (rows : List (Option (Option Row))) (s : State) (n : ℕ) (k : StateKey) (row : Option Row) (written : Option (Option Row)) → unwrap_or written (get j.state k) ≡ row
+    → IsStrictlySortedBy key_cmp (keys_of j) → slice_get (keys_of j) n ≡ Some k → n < length rows
+    → ShowRows j rows s → ShowRows j (set rows n written) (set_at s k row)
+shows_one_more j rows s n k row written stands rising here below before m q at = by (cases_eq m n)
   where
     apart : m ≢ n → (b : Bool) → is_same_key q k ≡ b → get s q ≡ cond b row (get s q)
     apart ne true e = absurd (ne (one_place (keys_of j) q m n rising at (here ∙ ap Some (sym (same_key_is q k e)))))
     apart ne false e = refl
 
-    by : (m ≡ n) ⊎ (m ≢ n) → unwrap_or (get_or (set rows n (Some row)) m None) (get j.state q) ≡ get (set_at s k row) q
+    by : (m ≡ n) ⊎ (m ≢ n) → unwrap_or (get_or (set rows n written) m None) (get j.state q) ≡ get (set_at s k row) q
     by (inl same) =
         let key : Some q ≡ Some k = sym at ∙ ap (slice_get (keys_of j)) same ∙ here in
         let is : q ≡ k = cc in
-        ap (λ x. unwrap_or (get_or (set rows n (Some row)) x None) (get j.state q)) same
-        ∙ ap (λ x. unwrap_or x (get j.state q)) (get_or-set_same rows n (Some row) None below)
+        ap (λ x. unwrap_or (get_or (set rows n written) x None) (get j.state q)) same
+        ∙ ap (λ x. unwrap_or x (get j.state q)) (get_or-set_same rows n written None below)
+        ∙ ap (λ x. unwrap_or written (get j.state x)) is ∙ stands
         ∙ ap (λ (b : Bool). cond b row (get s k)) (sym (same_as_itself k)) ∙ sym (get-set_at s k row k) ∙ ap (get (set_at s k row)) (sym is)
     by (inr ne) =
-        ap (λ x. unwrap_or x (get j.state q)) (get_or-set_other rows n m (Some row) None ne)
+        ap (λ x. unwrap_or x (get j.state q)) (get_or-set_other rows n m written None ne)
         ∙ before m q at ∙ apart ne (is_same_key q k) refl ∙ sym (get-set_at s k row q)
+
+pub change_stands : (before row : Option Row) → unwrap_or (change_of_row before row) before ≡ row
+change_stands None None = refl
+change_stands None (Some row) = refl
+change_stands (Some before) row = refl
+
+change_is_real : (before row : Option Row) → is_real_row before (change_of_row before row) ≡ true
+change_is_real None None = refl
+change_is_real None (Some row) = refl
+change_is_real (Some before) None = refl
+change_is_real (Some before) (Some row) = refl
+
+pub real_one_more : (j : Job) (rows : List (Option (Option Row))) (n : ℕ) (k : StateKey) (row : Option Row) → slice_get (keys_of j) n ≡ Some k → n < length rows
+    → AreRealRows j rows → AreRealRows j (set rows n (change_of_row (get j.state k) row))
+real_one_more j rows n k row here below before m q at = by (cases_eq m n)
+  where
+    written : Option (Option Row)
+    written = change_of_row (get j.state k) row
+
+    by : (m ≡ n) ⊎ (m ≢ n) → is_real_row (get j.state q) (get_or (set rows n written) m None) ≡ true
+    by (inl same) =
+        let key : Some q ≡ Some k = sym at ∙ ap (slice_get (keys_of j)) same ∙ here in
+        let is : q ≡ k = cc in
+        ap (λ x. is_real_row (get j.state q) (get_or (set rows n written) x None)) same
+        ∙ ap (is_real_row (get j.state q)) (get_or-set_same rows n written None below)
+        ∙ ap (λ x. is_real_row (get j.state x) written) is ∙ change_is_real (get j.state k) row
+    by (inr ne) = ap (is_real_row (get j.state q)) (get_or-set_other rows n m written None ne) ∙ before m q at
 
 -- ---- before all
 
+nothing : (count n : ℕ) → ◌≡◌ {A = Option (Option Row)} (get_or (replicate count None) n None) None
+nothing zero n = refl
+nothing (suc count) zero = refl
+nothing (suc count) (suc n) = nothing count n
+
 pub shows_none : (j : Job) (count : ℕ) → ShowRows j (replicate count None) j.state
 shows_none j count n k at = ap (λ x. unwrap_or x (get j.state k)) (nothing count n)
-  where
-    nothing : (count n : ℕ) → ◌≡◌ {A = Option (Option Row)} (get_or (replicate count None) n None) None
-    nothing zero n = refl
-    nothing (suc count) zero = refl
-    nothing (suc count) (suc n) = nothing count n
+
+pub real_none : (j : Job) (count : ℕ) → AreRealRows j (replicate count None)
+real_none j count n k at = ap (is_real_row (get j.state k)) (nothing count n)

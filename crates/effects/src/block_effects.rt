@@ -1,10 +1,9 @@
 //! What the valid transactions of a block make of the state and of the history.
-ghost use Rattle.std.specs.Prelude.{◌≡◌, length, map, IfOk};
-ghost use Rattle.std.specs.List.Sorted.{IsStrictlySortedBy};
-ghost use Rattle.rules.specs.State.{key_cmp, with_changes};
+ghost use Rattle.std.specs.Prelude.{◌≡◌, length, IfOk};
+ghost use Rattle.rules.specs.State.{with_changes};
 ghost use Rattle.rules.specs.History as history;
 ghost use Rattle.rules.specs.History.{with_entries};
-ghost use Rattle.rules.specs.Delta.{changes_in, entries_in};
+ghost use Rattle.rules.specs.Delta.{AreRealChanges, changes_in, entries_in};
 ghost use Rattle.rules.specs.Fold as fold;
 ghost use Rattle.rules.specs.Fold.{final_state, entries_to};
 
@@ -20,7 +19,8 @@ use values::{Bytes, Shared};
 /// What a block changes, but for the ids that it uses.
 #[derive(Drop)]
 pub struct Effects {
-    /// One for each key that some valid transaction writes, in the keys' order, with what the key has behind all of them.
+    /// One for each key that some valid transaction writes, in the keys' order, with what the key has behind all of them; but none
+    /// for a key that has no row then and had none before the block.
     pub changes: Vec<Change>,
     /// One for each value write or delete of a valid transaction: transaction by transaction, and in each in the keys'
     /// order.
@@ -40,7 +40,7 @@ pub fn effects_of(
 ) -> Result<Effects, AllocError>
     requires { flags.now ≡ fold.flags job.now }
     ensures state { IfOk result (λ e. with_changes job.now.state (changes_in e.changes.items) ≡ final_state job.now) }
-    ensures keys { IfOk result (λ e. IsStrictlySortedBy key_cmp (map (λ c. c.0) (changes_in e.changes.items))) }
+    ensures changes { IfOk result (λ e. AreRealChanges job.now.state (changes_in e.changes.items)) }
     ensures history { IfOk result (λ e. (h : history.History) → with_entries h (entries_in e.entries.items) ≡ with_entries h (entries_to job.now (length job.now.candidates))) }
 {
     keys_have_one_order();

@@ -9,7 +9,7 @@ ghost use Rattle.rules.specs.Fold as fold;
 ghost use Rattle.rules.specs.Fold.{running, final_state};
 ghost use Rattle.key_chains.specs.Job.{IsOpened, keys_of};
 ghost use Rattle.effects.specs.Entries.{entry_at, entry_written, entries_written, MakeHistory};
-ghost use Rattle.effects.specs.Rows.{ShowRows};
+ghost use Rattle.effects.specs.Rows.{ShowRows, AreRealRows, change_of_row};
 ghost use Rattle.effects.specs.WrittenRow.{with_write, with_writes};
 
 use crate::keeping::Keeping;
@@ -22,8 +22,8 @@ use std::alloc::{AllocError, Global};
 use transaction::{TxId, Version};
 use values::{Part, Shared};
 
-/// What the valid transactions so far made of a key's row, `Some(None)` where they removed it; `None` where none of
-/// them wrote the key.
+/// What the valid transactions so far made of a key's row, `Some(None)` where they removed it; `None` where none of them wrote
+/// the key, or where it has no row now as before the block.
 pub(crate) type WrittenRow = Option<Option<Row>>;
 
 /// What the valid transactions of a block write.
@@ -40,6 +40,16 @@ fn row_now<'r>(written: &'r WrittenRow, before: Option<&'r Row>) -> Option<&'r R
     match written {
         Some(row) => row.as_ref(),
         None => before,
+    }
+}
+
+/// What a row is to the one before the block: no change, where there is none and was none.
+fn change_of_row(before: Option<&Row>, row: Option<Row>) -> WrittenRow
+    ensures { result ≡ change_of_row (option_copied before.entry) row }
+{
+    match (before, &row) {
+        (None, None) => None,
+        _ => Some(row),
     }
 }
 
@@ -94,14 +104,16 @@ fn write_one(
     requires place { slice_get (keys_of job.now) number ≡ Some written.now.key }
     requires count { length rows.old.items ≡ length (keys_of job.now) }
     ensures rows { OnOk result ((s : State) → ShowRows job.now rows.old.items s → ShowRows job.now rows.new.items (with_write version s written.now)) }
+    ensures real { OnOk result (AreRealRows job.now rows.old.items → AreRealRows job.now rows.new.items) }
     ensures count { OnOk result (length rows.new.items ≡ length rows.old.items) }
     ensures entries { OnOk result (entries_in entries.new.items ≡ entries_in entries.old.items ++ entry_written version id written.now) }
 {
     keeping.note(version.tx, number, written);
     let value = new_value(keeping, number, written)?;
-    let now = row_now(&rows[number as usize], job.row_of(number));
+    let before = job.row_of(number);
+    let now = row_now(&rows[number as usize], before);
     let row = row_after(version, &value, &written.policy, now)?;
-    rows[number as usize] = Some(row);
+    rows[number as usize] = change_of_row(before, row);
     add_entry(
         alloc,
         keeping,
@@ -129,6 +141,7 @@ fn write_all(
     requires opened { IsOpened job.now i open_tx.now }
     requires count { length rows.old.items ≡ length (keys_of job.now) }
     ensures rows { OnOk result ((s : State) → ShowRows job.now rows.old.items s → ShowRows job.now rows.new.items (with_writes (version_of job.now i) s open_tx.now.written.items)) }
+    ensures real { OnOk result (AreRealRows job.now rows.old.items → AreRealRows job.now rows.new.items) }
     ensures count { OnOk result (length rows.new.items ≡ length rows.old.items) }
     ensures entries { OnOk result (entries_in entries.new.items ≡ entries_in entries.old.items ++ entries_written (version_of job.now i) open_tx.now.tx.id open_tx.now.written.items) }
 {
@@ -167,6 +180,7 @@ fn take(
     requires flag { flag ≡ fold.flag job.now i }
     requires count { length rows.old.items ≡ length (keys_of job.now) }
     ensures rows { OnOk result (ShowRows job.now rows.old.items (running job.now i).state → ShowRows job.now rows.new.items (running job.now (i + 1)).state) }
+    ensures real { OnOk result (AreRealRows job.now rows.old.items → AreRealRows job.now rows.new.items) }
     ensures count { OnOk result (length rows.new.items ≡ length rows.old.items) }
     ensures entries { OnOk result (MakeHistory job.now entries.old.items i → MakeHistory job.now entries.new.items (i + 1)) }
 {
@@ -201,6 +215,7 @@ pub(crate) fn write_block(
 ) -> Result<Written, AllocError>
     requires { flags.now ≡ fold.flags job.now }
     ensures rows { IfOk result (λ w. ShowRows job.now w.rows.items (final_state job.now)) }
+    ensures real { IfOk result (λ w. AreRealRows job.now w.rows.items) }
     ensures count { IfOk result (λ w. length w.rows.items ≡ length (keys_of job.now)) }
     ensures entries { IfOk result (λ w. MakeHistory job.now w.entries.items (length job.now.candidates)) }
 {

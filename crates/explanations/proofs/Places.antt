@@ -1,21 +1,24 @@
--- What a candidate tells of the transaction at its place.
-use Rattle.std.proofs.Common.{◌≡◌, ℕ, zero, suc, Bool, true, false, not, List, [], ◌∷◌, ◌++◌, get_or, Option, Some, None, sym, ap, ◌∙◌}
+-- What a candidate tells of the transaction at its place, and of its flag.
+use Rattle.std.proofs.Common.{◌≡◌, ℕ, zero, suc, Bool, true, false, List, [], ◌∷◌, ◌++◌, get_or, Option, Some, None, refl, sym, ap, ◌∙◌}
 use Rattle.std.specs.Prelude.{option_to_list}
-use Rattle.std.specs.Str.{bytes_eq}
 use Rattle.transaction.specs.declared.identity.Identity.{Identity}
 use Rattle.transaction.specs.declared.transaction.Tx.{Tx}
-use Rattle.transaction.specs.Grammar.{identity_bytes, signed_bytes}
-use Rattle.header_hash.specs.Hashes.{tx_id_of}
 use Rattle.policy_eval.specs.Accepts.{Accepts}
 use Rattle.policy_eval.specs.Signers.{signers_of}
 use Rattle.channel.specs.Configuration.{Configuration}
+use Rattle.rules.specs.declared.early_flag.EarlyFlag.{EarlyFlag}
+use Rattle.rules.specs.declared.early_flag.EarlyFlag.TheVariants.{BadPayload, BadCreatorSignature, BadProposalTxId, DuplicateTxId, TargetChainNotFound, BadRwset, InvalidChaincode}
 use Rattle.rules.specs.declared.flag.Flag.{Flag}
-use Rattle.rules.specs.declared.flag.Flag.TheVariants.{BadPayload, BadCreatorSignature, BadProposalTxId, DuplicateTxId, TargetChainNotFound, BadRwset, InvalidChaincode}
-use Rattle.rules.specs.ReadWriteSets.{is_in_form}
+use Rattle.rules.specs.declared.read_verdict.ReadVerdict.{ReadVerdict}
+use Rattle.rules.specs.declared.read_verdict.ReadVerdict.TheVariants.{Good, Stale, Phantom}
+use Rattle.rules.specs.Flags.{is_valid, flag_of}
+use Rattle.rules.specs.Job.{Job, reads, flag_by, open_flag}
+use Rattle.rules.specs.Fold.{running, endorsed, flag}
 use Rattle.rules.specs.FirstUses.{FirstUses}
-use Rattle.rules.specs.Candidate.{flagged, opened, first_failed, flagged_or, is_all_defined, used_id, is_used, candidate_of, candidates_from}
+use Rattle.rules.specs.Candidate.{Candidate, flagged, opened, used_id, is_used, candidate_of, candidates_from}
 use Rattle.rules.proofs.OpenCandidates.{open_only_if}
 use Rattle.reasons.specs.Reason.{tx_at}
+use Rattle.key_chains.specs.Job.{IsOpen}
 use Rattle.explanations.specs.Told.{is_told_by_state}
 
 module _ (channel : Configuration) (accepts : Accepts) (uses : FirstUses) where
@@ -31,24 +34,24 @@ module _ (channel : Configuration) (accepts : Accepts) (uses : FirstUses) where
   opened_at earlier (tx ∷ txs) zero t ss e = opened_of (is_used uses earlier (used_id channel accepts tx)) tx t ss e
   opened_at earlier (tx ∷ txs) (suc i) t ss e = opened_at (earlier ++ option_to_list (used_id channel accepts tx)) txs i t ss e
 
-  flagged_by : (t : Tx) (ss : List Identity) (f : Flag) (a b c u g d : Bool)
-      → flagged_or (first_failed ((a, TargetChainNotFound) ∷ (b, BadCreatorSignature) ∷ (c, BadProposalTxId) ∷ []))
-      (flagged_or (first_failed ((u, DuplicateTxId) ∷ (g, BadRwset) ∷ (d, InvalidChaincode) ∷ [])) (opened t ss)) ≡ flagged f → is_told_by_state f ≡ false
-  flagged_by t ss f false b c u g d e = let is : TargetChainNotFound ≡ f = cc in ap is_told_by_state (sym is)
-  flagged_by t ss f true false c u g d e = let is : BadCreatorSignature ≡ f = cc in ap is_told_by_state (sym is)
-  flagged_by t ss f true true false u g d e = let is : BadProposalTxId ≡ f = cc in ap is_told_by_state (sym is)
-  flagged_by t ss f true true true false g d e = let is : DuplicateTxId ≡ f = cc in ap is_told_by_state (sym is)
-  flagged_by t ss f true true true true false d e = let is : BadRwset ≡ f = cc in ap is_told_by_state (sym is)
-  flagged_by t ss f true true true true true false e = let is : InvalidChaincode ≡ f = cc in ap is_told_by_state (sym is)
-  flagged_by t ss f true true true true true true e = absurd cc
+-- a flag that is given before the rules on the state is none that the state tells
+pub early_is_not_told : (f : EarlyFlag) → is_told_by_state (flag_of f) ≡ false
+early_is_not_told BadPayload = refl
+early_is_not_told TargetChainNotFound = refl
+early_is_not_told BadCreatorSignature = refl
+early_is_not_told BadProposalTxId = refl
+early_is_not_told DuplicateTxId = refl
+early_is_not_told BadRwset = refl
+early_is_not_told InvalidChaincode = refl
 
-  flagged_of : (used : Bool) (tx : Option Tx) (f : Flag) → candidate_of channel accepts used tx ≡ flagged f → is_told_by_state f ≡ false
-  flagged_of used None f e = let is : BadPayload ≡ f = cc in ap is_told_by_state (sym is)
-  flagged_of used (Some tx) f e =
-      flagged_by tx (signers_of accepts tx) f (bytes_eq tx.channel channel.name) (accepts tx.creator (signed_bytes tx) tx.signature) (bytes_eq tx.id (tx_id_of tx.nonce (identity_bytes tx.creator)))
-      (not used) (is_in_form tx) (is_all_defined channel.definitions tx) e
+-- an open candidate that isn't valid has a flag that the state tells
+open_is_told : (e : Bool) (v : ReadVerdict) → is_valid (open_flag e v) ≡ false → is_told_by_state (open_flag e v) ≡ true
+open_is_told false v fails = refl
+open_is_told true Good fails = absurd cc
+open_is_told true Stale fails = refl
+open_is_told true Phantom fails = refl
 
-  pub flagged_at : (earlier : List (List ℕ)) (txs : List (Option Tx)) (i : ℕ) (f : Flag) → get_or (candidates_from channel accepts uses earlier txs) i (flagged BadPayload) ≡ flagged f → is_told_by_state f ≡ false
-  flagged_at earlier [] i f e = let is : BadPayload ≡ f = cc in ap is_told_by_state (sym is)
-  flagged_at earlier (tx ∷ txs) zero f e = flagged_of (is_used uses earlier (used_id channel accepts tx)) tx f e
-  flagged_at earlier (tx ∷ txs) (suc i) f e = flagged_at (earlier ++ option_to_list (used_id channel accepts tx)) txs i f e
+pub invalid_is_told : (j : Job) (i : ℕ) (f : Flag) → IsOpen j i → f ≡ flag j i → is_valid f ≡ false → is_told_by_state f ≡ true
+invalid_is_told j i f opens is fails =
+    let own : f ≡ open_flag (endorsed j i) (reads j i (running j i).state) = is ∙ ap (λ (c : Candidate). flag_by c (endorsed j i) (reads j i (running j i).state)) opens.2 in
+    ap is_told_by_state own ∙ open_is_told (endorsed j i) (reads j i (running j i).state) (ap is_valid (sym own) ∙ fails)

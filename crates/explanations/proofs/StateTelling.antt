@@ -8,6 +8,8 @@ use Rattle.policy_eval.specs.Signers.{signers_of}
 use Rattle.channel.specs.Configuration.{Configuration}
 use Rattle.rules.specs.declared.flag.Flag.{Flag}
 use Rattle.rules.specs.declared.flag.Flag.TheVariants.{EndorsementPolicyFailure, MvccReadConflict, PhantomReadConflict}
+use Rattle.rules.specs.declared.early_flag.EarlyFlag.{EarlyFlag}
+use Rattle.rules.specs.Flags as flags
 use Rattle.rules.specs.ReadWriteSets.{is_in_form}
 use Rattle.rules.specs.Candidate.{Candidate, flagged, opened}
 use Rattle.rules.specs.Job.{Job, candidate_at, flag_by, reads}
@@ -29,7 +31,7 @@ use Rattle.explanations.specs.Found.{stale_in, IsFoundInSets}
 use Rattle.explanations.specs.Told.{is_told_by_state, IsTheReason}
 use Rattle.explanations.proofs.Conflicts.{stale_read_is_first, found_phantom}
 use Rattle.transaction_reasons.proofs.Inverted.{of_flag}
-use Rattle.explanations.proofs.Places.{opened_at, flagged_at}
+use Rattle.explanations.proofs.Places.{opened_at, early_is_not_told}
 
 -- a place has one reason
 abbrev IsOne : Type 0
@@ -81,11 +83,11 @@ module _ (channel : Configuration) (accepts : Accepts) (w : World) (txs : List (
         let it = found_phantom j i tx o k.0 (sets_in_form tx in_form) found phantom in
         ap (option_map PhantomConflict) it.1 ∙ same_reason one (PhantomConflict it.0) f (tx, is_tx, it.2)
 
-  none_told : (f : Flag) → candidate_at j i ≡ flagged f → (told : Flag) → is_told_by_state told ≡ true → flag_of r ≡ told → ⊥
+  none_told : (f : EarlyFlag) → candidate_at j i ≡ flagged f → (told : Flag) → is_told_by_state told ≡ true → flag_of r ≡ told → ⊥
   none_told f is told by_state e =
-      let own : flag j i ≡ f = ap (λ (c : Candidate). flag_by c (endorsed j i) (reads j i (running j i).state)) is in
-      let same : told ≡ f = sym e ∙ sym reason.flag_is ∙ own in
-      absurd (cc (sym by_state ∙ ap is_told_by_state same ∙ flagged_at channel accepts w.first_uses [] txs i f is))
+      let own : flag j i ≡ flags.flag_of f = ap (λ (c : Candidate). flag_by c (endorsed j i) (reads j i (running j i).state)) is in
+      let same : told ≡ flags.flag_of f = sym e ∙ sym reason.flag_is ∙ own in
+      absurd (cc (sym by_state ∙ ap is_told_by_state same ∙ early_is_not_told f))
 
 -- ---- whatever block the job is of
 
@@ -109,6 +111,6 @@ module _ (j : Job) (i : ℕ) where
       phantom_told channel accepts w txs i r reason tx signers (subst (λ (k : Job). candidate_at k i ≡ opened tx signers) same opens) one f o in_form
       (subst (λ (k : Job). IsFoundInSets (running k i).state tx.namespaces o) same found)
 
-  pub tells_nothing : (f : Flag) → candidate_at j i ≡ flagged f → (told : Flag) → is_told_by_state told ≡ true → IsTheReason j i told None
+  pub tells_nothing : (f : EarlyFlag) → candidate_at j i ≡ flagged f → (told : Flag) → is_told_by_state told ≡ true → IsTheReason j i told None
   tells_nothing f is told by_state channel accepts w txs r same e reason =
       absurd (none_told channel accepts w txs i r reason f (subst (λ (k : Job). candidate_at k i ≡ flagged f) same is) told by_state e)

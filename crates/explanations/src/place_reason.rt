@@ -1,5 +1,5 @@
 //! The reason of a place of a block.
-ghost use Rattle.std.specs.Prelude.{◌≡◌, ◌<◌, ◌≤◌, List, Some, Option, false, length, map, IfOk};
+ghost use Rattle.std.specs.Prelude.{◌≡◌, ◌<◌, ◌≤◌, List, Some, Option, length, map, IfOk};
 ghost use Rattle.block.specs.Limits.{max_txs};
 ghost use Rattle.transaction.specs.declared.transaction.Tx.{Tx};
 ghost use Rattle.transaction.specs.Decoded.{tx_of};
@@ -7,56 +7,18 @@ ghost use Rattle.policy_eval.specs.Accepts.{Accepts};
 ghost use Rattle.rules.specs.Candidate.{used_id};
 ghost use Rattle.rules.specs.Commit.{job_of};
 ghost use Rattle.reasons.specs.declared.reason.Reason as reason_spec;
-ghost use Rattle.reasons.specs.Reason as spec;
 ghost use Rattle.reasons.specs.Reason.{tx_at, IsReason};
 ghost use Rattle.key_chains.specs.Shown.{Shows};
-ghost use Rattle.transaction_reasons.specs.Told.{is_told_by_tx};
-ghost use Rattle.explanations.specs.Told.{is_told_by_state};
 
 use crate::state_reasons::state_reason;
 use crate::verdicts::flag_of;
 use channel::Channel;
 use key_chains::{Job, PlainBoard};
 use reasons::Reason;
-use rules::Flag;
 use std::alloc::{AllocError, Global};
 use transaction::TxId;
 use transaction_reasons::reason_in_bytes;
 use world::World;
-
-fn is_told_by_tx(flag: Flag) -> bool
-    ensures { result ≡ is_told_by_tx flag }
-{
-    matches!(
-        flag,
-        Flag::BadProposalTxId
-            | Flag::DuplicateTxId
-            | Flag::TargetChainNotFound
-            | Flag::BadRwset
-            | Flag::InvalidChaincode
-    )
-}
-
-fn is_told_by_state(flag: Flag) -> bool
-    ensures { result ≡ is_told_by_state flag }
-{
-    matches!(
-        flag,
-        Flag::EndorsementPolicyFailure | Flag::MvccReadConflict | Flag::PhantomReadConflict
-    )
-}
-
-/// The reason that says no more than the flag.
-fn bare_reason(flag: Flag) -> Option<Reason>
-    ensures { (r : reason_spec.Reason) → spec.flag_of r ≡ flag → is_told_by_tx flag ≡ false → is_told_by_state flag ≡ false → result ≡ Some r }
-{
-    match flag {
-        Flag::Valid => Some(Reason::NoFault),
-        Flag::BadPayload => Some(Reason::NoTransaction),
-        Flag::BadCreatorSignature => Some(Reason::BadSignature),
-        _ => None,
-    }
-}
 
 /// Why place i of a block has its flag: of its job over this world, the ids that its transactions use, the bytes of the
 /// place, and all verdicts. Where these are a block's there is a reason, and it is this one; a place that is valid costs
@@ -83,12 +45,12 @@ pub fn reason_of(
         → ids.now ≡ map (used_id channel.now accepts) txs → tx_at txs i ≡ tx_of bytes.now → IsReason channel.now accepts world.now txs i r → x ≡ Some r) }
     ensures board { board.new ≡ board.old }
 {
-    let flag = flag_of(job, i, board);
-    if is_told_by_tx(flag) {
+    if let Some(flag) = job.flagged(i) {
         return reason_in_bytes(alloc, channel, world, ids, i, flag, bytes);
     }
-    if is_told_by_state(flag) {
-        return state_reason(alloc, job, i, flag, board);
+    let flag = flag_of(job, i, board);
+    if flag.is_valid() {
+        return Ok(Some(Reason::NoFault));
     }
-    Ok(bare_reason(flag))
+    state_reason(alloc, job, i, flag, board)
 }

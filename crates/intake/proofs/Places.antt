@@ -6,8 +6,8 @@ use Rattle.transaction.specs.declared.transaction.Tx.{Tx}
 use Rattle.policy_eval.specs.Accepts.{Accepts}
 use Rattle.policy_eval.specs.Signers.{signers_of}
 use Rattle.channel.specs.Configuration.{Configuration}
-use Rattle.rules.specs.declared.flag.Flag.{Flag}
-use Rattle.rules.specs.declared.flag.Flag.TheVariants.{DuplicateTxId}
+use Rattle.rules.specs.declared.early_flag.EarlyFlag.{EarlyFlag}
+use Rattle.rules.specs.declared.early_flag.EarlyFlag.TheVariants.{DuplicateTxId}
 use Rattle.rules.specs.FirstUses.{FirstUses}
 use Rattle.rules.specs.Candidate.{Candidate, opened, flagged_or, origin_fault, content_fault, candidate_of, used_id, is_used, candidates_from}
 use Rattle.txid_index.specs.Marks.{marks}
@@ -19,12 +19,12 @@ use Rattle.intake.specs.Placed.{placed}
 
 -- ---- one place
 
-new_or_used : (content : Bool → Option Flag) (whole : Candidate) (t : Taken) (used : Bool) → content true ≡ Some DuplicateTxId → seen t.candidate ≡ flagged_or (content false) whole → seen (placed t used) ≡ flagged_or (content used) whole
+new_or_used : (content : Bool → Option EarlyFlag) (whole : Candidate) (t : Taken) (used : Bool) → content true ≡ Some DuplicateTxId → seen t.candidate ≡ flagged_or (content false) whole → seen (placed t used) ≡ flagged_or (content used) whole
 new_or_used content whole t true twice is = ap (λ f. flagged_or f whole) (sym twice)
 new_or_used content whole t false twice is = is
 
 -- a fault of the origin comes before the id is asked
-by_origin : (fault : Option Flag) (content : Bool → Option Flag) (whole : Candidate) (uses : FirstUses) (earlier : List (List ℕ)) (id : List ℕ) (t : Taken) → content true ≡ Some DuplicateTxId
+by_origin : (fault : Option EarlyFlag) (content : Bool → Option EarlyFlag) (whole : Candidate) (uses : FirstUses) (earlier : List (List ℕ)) (id : List ℕ) (t : Taken) → content true ≡ Some DuplicateTxId
     → seen t.candidate ≡ flagged_or fault (flagged_or (content false) whole)
     → seen (placed t (is_used uses earlier (if is_none fault then Some id else None))) ≡ flagged_or fault (flagged_or (content (is_used uses earlier (if is_none fault then Some id else None))) whole)
 by_origin (Some flag) content whole uses earlier id t twice is = is

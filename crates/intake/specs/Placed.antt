@@ -1,6 +1,6 @@
 -- A taken transaction where its id is used, or new. No public contract cites this.
 use Rattle.std.specs.Prelude.{Bool, if◌then◌else◌}
-use Rattle.rules.specs.declared.flag.Flag.TheVariants.{DuplicateTxId}
+use Rattle.rules.specs.declared.early_flag.EarlyFlag.TheVariants.{DuplicateTxId}
 use Rattle.candidates.specs.declared.candidate.Candidate.{Candidate}
 use Rattle.candidates.specs.declared.candidate.Candidate.TheVariants.{Flagged}
 use Rattle.intake.specs.declared.taking.Taken.{Taken}

@@ -13,7 +13,7 @@ ghost use Rattle.intake.specs.Placed.{placed};
 
 use crate::taking::Taken;
 use candidates::Candidate;
-use rules::Flag;
+use rules::EarlyFlag;
 use std::alloc::{AllocError, Global};
 use transaction::TxId;
 
@@ -33,7 +33,7 @@ fn placed<'a>(taken: Taken<'a>, used: bool) -> Candidate<'a>
     ensures { result ≡ placed taken.entry used }
 {
     if used {
-        return Candidate::Flagged(Flag::DuplicateTxId);
+        return Candidate::Flagged(EarlyFlag::DuplicateTxId);
     }
     taken.candidate
 }

@@ -14,7 +14,7 @@ use candidates::{Candidate, InForm};
 use channel::Channel;
 use policy::Definitions;
 use policy_eval::{Verify, signers_with_body};
-use rules::Flag;
+use rules::EarlyFlag;
 use std::alloc::{AllocError, Global};
 use transaction::{Tx, TxId};
 use values::Slice;
@@ -50,7 +50,7 @@ fn candidate_of<'a, V: Verify>(
     }
 }
 
-fn without_id<'a>(flag: Flag) -> Taken<'a>
+fn without_id<'a>(flag: EarlyFlag) -> Taken<'a>
     ensures { shown result ≡ (None, flagged flag) }
 {
     Taken {
@@ -69,7 +69,7 @@ pub fn take_in_one<'a, V: Verify>(
     ensures { IfOk result (λ t. shown t ≡ taken_of channel.now (V.accepts verifier.now) (tx_of bytes.now)) }
 {
     let Some(tx) = decoded_tx(alloc, bytes)? else {
-        return Ok(without_id(Flag::BadPayload));
+        return Ok(without_id(EarlyFlag::BadPayload));
     };
     if let Some(flag) = origin_fault(channel, verifier, &tx) {
         return Ok(without_id(flag));

@@ -32,13 +32,6 @@ all_shown seen f g (p ∷ ps) (taken ∷ lists) made =
     ∙ (sym (map-append f (map g p.txs.now) (map g (transactions_of ps)))
     ∙ ap (map f) (sym (map-append g p.txs.now (transactions_of ps))))))
 
--- of what was made of each piece, one side
-pub each : {P X Y : Type 0} (made : P → X → Type 0) (f : X → Y) (g : P → Y) → ((p : P) (x : X) → made p x → f x ≡ g p) → (ps : List P) (xs : List X) → AreMade made ps xs → map f xs ≡ map g ps
-each made f g side [] [] are = refl
-each made f g side [] (x ∷ xs) are = absurd are
-each made f g side (p ∷ ps) [] are = absurd are
-each made f g side (p ∷ ps) (x ∷ xs) are = ap (λ y. y ∷ map f xs) (side p x are.0) ∙ ap (λ l. g p ∷ l) (each made f g side ps xs are.1)
-
 pub one_more : (before after : List Piece) (p : Piece) (start count : ℕ) (old txs : List (List ℕ)) → after ≡ before ++ p ∷ [] → p.txs.now ≡ take count (drop start txs) → transactions_of before ≡ old ++ take start txs → transactions_of after ≡ old ++ take (start + count) txs
 one_more before after p start count old txs is piece so_far =
     ap transactions_of is

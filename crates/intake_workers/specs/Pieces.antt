@@ -2,6 +2,7 @@
 use Rattle.std.specs.Prelude.{◌++◌, ◌∷◌, ℕ, List, [], Result, Ok, Err, Vec}
 use Rattle.std.specs.declared.alloc.Global.{Global}
 use Rattle.block.specs.declared.block.Block.{Block}
+use Rattle.block_steps.specs.OnItsWay.{bytes_of}
 use Rattle.rules.specs.declared.answer.Refused.{Refused}
 use Rattle.intake.specs.declared.taking.Taken.{Taken}
 use Rattle.intake_workers.specs.declared.handed.Handed.{Handed}
@@ -12,7 +13,12 @@ abbrev pub txs_in : Result Block Refused → List (List ℕ)
 txs_in (Ok b) = b.txs
 txs_in (Err refused) = []
 
--- those of all blocks, one after the other
+-- the bytes that spell it, none where it is no block
+abbrev pub bytes_in : Result Block Refused → List ℕ
+bytes_in (Ok b) = bytes_of b
+bytes_in (Err refused) = []
+
+-- the transactions of all blocks, one after the other
 abbrev pub txs_of_all : List Handed → List (List ℕ)
 txs_of_all [] = []
 txs_of_all (handed ∷ all) = txs_in handed.block ++ txs_of_all all

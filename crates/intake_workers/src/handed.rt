@@ -1,15 +1,15 @@
-ghost use Rattle.std.specs.Prelude.{◌≡◌};
-ghost use Rattle.intake_workers.specs.Pieces.{txs_in};
+ghost use Rattle.std.specs.Prelude.{◌≡◌, IfOk};
+ghost use Rattle.intake_workers.specs.Pieces.{bytes_in, txs_in};
 
-use block::Block;
+use block_steps::DecodedBlock;
 use rules::Refused;
-use values::Slice;
+use std::alloc::{AllocError, Global};
+use values::{Bytes, Shared, Slice};
 
-/// A block that is handed in: its bytes, and what they spell, or why they spell none.
+/// What a string of bytes that is handed in spells, or why it spells no block.
 #[derive(Drop)]
 pub struct Handed<'a> {
-    pub bytes: &'a [u8],
-    pub block: Result<Block<'a>, Refused>,
+    pub block: Result<DecodedBlock<'a>, Refused>,
 }
 
 impl<'a> Handed<'a> {
@@ -18,8 +18,18 @@ impl<'a> Handed<'a> {
         ensures { result.now ≡ txs_in self.now.block }
     {
         match &self.block {
-            Ok(block) => block.txs.as_slice(),
+            Ok(block) => block.txs(),
             Err(_) => &[],
+        }
+    }
+
+    /// A copy of its bytes, of none where it is no block.
+    pub(crate) fn kept_bytes(&self, alloc: Global) -> Result<Shared<Bytes>, AllocError>
+        ensures { IfOk result (λ kept. kept ≡ bytes_in self.now.block) }
+    {
+        match &self.block {
+            Ok(block) => block.kept_bytes(alloc),
+            Err(_) => Shared::new(alloc, Bytes::from_vec(Vec::new(alloc))),
         }
     }
 }

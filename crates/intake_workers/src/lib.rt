@@ -2,8 +2,11 @@
 #![tactic(auto)]
 
 mod handed;
+mod hashed;
+mod made;
 mod piece;
 mod taking;
 
 pub use handed::Handed;
-pub use taking::{Hashed, TakenIn, take_in_beside};
+pub use hashed::Hashed;
+pub use taking::{TakenIn, take_in_beside};

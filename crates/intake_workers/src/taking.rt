@@ -1,21 +1,24 @@
 //! Workers hash and copy blocks, and take pieces of them in.
-ghost use Rattle.std.specs.Prelude.{◌≡◌, map, Ok, IfOk};
-ghost use Rattle.header_hash.specs.Hashes.{data_hash_of};
+ghost use Rattle.std.specs.Prelude.{◌≡◌, map, IfOk, IsOkAnd};
 ghost use Rattle.transaction.specs.Decoded.{tx_of};
 ghost use Rattle.intake.specs.Place.{taken_of, shown};
-ghost use Rattle.intake_workers.specs.Pieces.{txs_in, txs_of_all, all_taken};
+ghost use Rattle.pieces.specs.Pieces.{AreMade};
+ghost use Rattle.intake_workers.specs.Made.{IsMadeOf, block_in};
+ghost use Rattle.intake_workers.specs.Pieces.{all_taken, txs_of_all};
 
 use crate::handed::Handed;
+use crate::hashed::Hashed;
+use crate::made::{HashAndCopy, Made, hashed_all};
 use crate::piece::{Piece, cut};
 use channel::Channel;
 use gates::{Gate, Phase};
-use header_hash::data_hash;
 use intake::{Taken, take_in_one};
 use pieces::{Work, in_pieces_beside};
 use policy_eval::Verify;
+use rules::Refused;
 use std::alloc::{AllocError, Global};
 use std::thread::Threads;
-use values::{Bytes, Hash, Shared, Slice};
+use values::Slice;
 
 /// Takes in the transactions of pieces. Each passes the gate first.
 #[derive(Clone, Copy)]
@@ -60,52 +63,13 @@ fn take_piece<'a, V: Verify, G: Gate>(
     Ok(all)
 }
 
-/// A copy, to be kept.
-fn kept(alloc: Global, bytes: &[u8]) -> Result<Shared<Bytes>, AllocError>
-    ensures { IfOk result (λ kept. kept ≡ bytes.now) }
-{
-    Shared::new(alloc, Bytes::from_slice(alloc, bytes)?)
-}
-
-/// A block's data hash, and a copy of its bytes.
-#[derive(Drop)]
-pub struct Hashed {
-    pub data_hash: Hash,
-    /// Its bytes, to be kept.
-    pub bytes: Shared<Bytes>,
-}
-
-/// Makes the data hashes of blocks, and copies of their bytes.
-#[derive(Clone, Copy)]
-struct HashAndCopy;
-
-impl<'a> Work<Handed<'a>, Hashed> for HashAndCopy {
-    ghost gives = { λ s handed made. (made.data_hash ≡ data_hash_of (txs_in handed.block)) × (made.bytes ≡ handed.bytes.now) };
-
-    fn make(&self, alloc: Global, handed: &Handed<'a>) -> Result<Hashed, AllocError> {
-        Ok(Hashed {
-            data_hash: data_hash(handed.txs()),
-            bytes: kept(alloc, handed.bytes)?,
-        })
-    }
-}
-
 /// What was taken in of blocks, which follow one another.
 #[derive(Drop)]
 pub struct TakenIn<'a> {
-    /// One for each block.
-    pub hashed: Vec<Hashed>,
+    /// Each block, or why there is none.
+    pub blocks: Vec<Result<Hashed<'a>, Refused>>,
     /// All transactions of all blocks, in lists that follow one another.
     pub taken: Vec<Vec<Taken<'a>>>,
-}
-
-fn taken_in<'a>(
-    made: Result<(Vec<Hashed>, Vec<Vec<Taken<'a>>>), AllocError>,
-) -> Result<TakenIn<'a>, AllocError>
-    ensures { IfOk result (λ r. made.entry ≡ Ok (r.hashed, r.taken)) }
-{
-    let (hashed, taken) = made?;
-    Ok(TakenIn { hashed, taken })
 }
 
 // A thread of its own costs as much as a few transactions.
@@ -123,13 +87,8 @@ fn useful(workers: usize, pieces: &[Piece<'_, '_>]) -> usize {
     workers.min(pieces.len().saturating_add(1))
 }
 
-/// Takes in all transactions of blocks, in order, by so many workers, as [`intake::take_in`] does on one thread, and
-/// makes the data hash of each block and a copy of its bytes. Each transaction passes the gate first.
-///
-/// The calling thread does its own work first, and then what is left. The other workers are threads, which hash and copy
-/// blocks before they take in pieces of at most 32 transactions and, where there are more than one, at most 1 MiB; one that
-/// can't be started is done without. No more are started than there are pieces.
-pub fn take_in_beside<'a, R: Threads + Sync, V: Verify + Sync, G: Gate + Sync, Z, F: FnMut() -> Z>(
+/// What is made of blocks, each by itself, and of their pieces.
+fn made_beside<'a, R: Threads + Sync, V: Verify + Sync, G: Gate + Sync, Z, F: FnMut() -> Z>(
     rt: &R,
     alloc: Global,
     channel: &Channel,
@@ -138,11 +97,10 @@ pub fn take_in_beside<'a, R: Threads + Sync, V: Verify + Sync, G: Gate + Sync, Z
     blocks: &[Handed<'a>],
     workers: usize,
     own: &mut F,
-) -> (Result<TakenIn<'a>, AllocError>, Z)
+) -> (Result<(Vec<Made>, Vec<Vec<Taken<'a>>>), AllocError>, Z)
     requires { F.pre own.old }
-    ensures taken { IfOk result.0 (λ r. map shown (all_taken r.taken.items) ≡ map (taken_of channel.now (V.accepts verifier.now)) (map tx_of (txs_of_all blocks.now))) }
-    ensures hash { IfOk result.0 (λ r. map (λ h. h.data_hash) r.hashed.items ≡ map (λ h. data_hash_of (txs_in h.block)) blocks.now) }
-    ensures bytes { IfOk result.0 (λ r. map (λ h. h.bytes) r.hashed.items ≡ map (λ h. h.bytes.now) blocks.now) }
+    ensures made { IfOk result.0 (λ r. AreMade IsMadeOf blocks.now r.0.items) }
+    ensures taken { IfOk result.0 (λ r. map shown (all_taken r.1.items) ≡ map (taken_of channel.now (V.accepts verifier.now)) (map tx_of (txs_of_all blocks.now))) }
     ensures own { F.step own.old result.1 own.new }
 {
     let pieces = match cut(alloc, blocks) {
@@ -155,7 +113,7 @@ pub fn take_in_beside<'a, R: Threads + Sync, V: Verify + Sync, G: Gate + Sync, Z
         verifier,
         gate,
     };
-    let (made, done) = in_pieces_beside(
+    in_pieces_beside(
         rt,
         alloc,
         blocks,
@@ -164,6 +122,53 @@ pub fn take_in_beside<'a, R: Threads + Sync, V: Verify + Sync, G: Gate + Sync, Z
         &work,
         useful(workers, pieces),
         own,
+    )
+}
+
+fn taken_in<'a>(
+    alloc: Global,
+    blocks: Vec<Handed<'a>>,
+    made: Result<(Vec<Made>, Vec<Vec<Taken<'a>>>), AllocError>,
+) -> Result<TakenIn<'a>, AllocError>
+    requires { IfOk made (λ m. AreMade IsMadeOf blocks.items m.0.items) }
+    ensures blocks { IfOk result (λ r. map block_in r.blocks.items ≡ map (λ h. h.block) blocks.entry.items) }
+    ensures taken { IfOk result (λ r. IsOkAnd made.entry (λ m. m.1 ≡ r.taken)) }
+{
+    let (made, taken) = made?;
+    let blocks = hashed_all(alloc, blocks, made)?;
+    Ok(TakenIn { blocks, taken })
+}
+
+/// Takes in all transactions of blocks, in order, by so many workers, as [`intake::take_in`] does on one thread, and
+/// makes the data hash of each block and a copy of its bytes. Each transaction passes the gate first.
+///
+/// The calling thread does its own work first, and then what is left. The other workers are threads, which hash and copy
+/// blocks before they take in pieces of at most 32 transactions and, where there are more than one, at most 1 MiB; one that
+/// can't be started is done without. No more are started than there are pieces.
+pub fn take_in_beside<'a, R: Threads + Sync, V: Verify + Sync, G: Gate + Sync, Z, F: FnMut() -> Z>(
+    rt: &R,
+    alloc: Global,
+    channel: &Channel,
+    verifier: &V,
+    gate: &G,
+    blocks: Vec<Handed<'a>>,
+    workers: usize,
+    own: &mut F,
+) -> (Result<TakenIn<'a>, AllocError>, Z)
+    requires { F.pre own.old }
+    ensures blocks { IfOk result.0 (λ r. map block_in r.blocks.items ≡ map (λ h. h.block) blocks.entry.items) }
+    ensures taken { IfOk result.0 (λ r. map shown (all_taken r.taken.items) ≡ map (taken_of channel.now (V.accepts verifier.now)) (map tx_of (txs_of_all blocks.entry.items))) }
+    ensures own { F.step own.old result.1 own.new }
+{
+    let (made, done) = made_beside(
+        rt,
+        alloc,
+        channel,
+        verifier,
+        gate,
+        blocks.as_slice(),
+        workers,
+        own,
     );
-    (taken_in(made), done)
+    (taken_in(alloc, blocks, made), done)
 }

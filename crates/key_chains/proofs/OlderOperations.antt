@@ -4,7 +4,7 @@ use Rattle.std.specs.Prelude.{option_map, option_to_list}
 use Rattle.std.proofs.Math.ListN.{get_or-eq_default}
 use Rattle.std.proofs.lemmas.Bool.Decides.{leb_tells, nat_tests}
 use Rattle.std.proofs.lemmas.Bool.{lt-ltb}
-use Rattle.rules.specs.declared.flag.Flag.TheVariants.{BadPayload}
+use Rattle.rules.specs.declared.early_flag.EarlyFlag.TheVariants.{BadPayload}
 use Rattle.rules.specs.State.{StateKey}
 use Rattle.rules.specs.Candidate.{Candidate, flagged}
 use Rattle.key_chains.specs.declared.operation.Kind.{Kind}

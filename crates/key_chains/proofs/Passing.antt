@@ -3,7 +3,7 @@ use Rattle.std.proofs.Common.{◌≡◌, ℕ, suc, List, [], ◌∷◌, ◌++◌
 use Rattle.std.specs.Prelude.{flat_map}
 use Rattle.std.proofs.lemmas.List.{append-nil, length-map}
 use Rattle.transaction.specs.declared.transaction.NsSet.{NsSet}
-use Rattle.rules.specs.declared.flag.Flag.{Flag}
+use Rattle.rules.specs.declared.early_flag.EarlyFlag.{EarlyFlag}
 use Rattle.rules.specs.Candidate.{Candidate, flagged, opened}
 use Rattle.candidates.specs.declared.open_tx.OpenTx.{OpenTx}
 use Rattle.key_chains.specs.declared.chains.Chains.{Chains}
@@ -17,7 +17,7 @@ use Rattle.key_chains.proofs.OpenWrites.{keys_are}
 use Rattle.key_chains.proofs.Finishing.{finished, reads_linked, read_of}
 
 -- a flagged one
-pub flagged_passes : (cs : List Candidate) (i n m : ℕ) (flag : Flag) (old new : Chains) → candidate_in cs i ≡ flagged flag → IsBuilt cs i i 0 old → n ≡ length old.reads.items → m ≡ length old.written.items
+pub flagged_passes : (cs : List Candidate) (i n m : ℕ) (flag : EarlyFlag) (old new : Chains) → candidate_in cs i ≡ flagged flag → IsBuilt cs i i 0 old → n ≡ length old.reads.items → m ≡ length old.written.items
     → new.first_reads.items ≡ old.first_reads.items ++ n ∷ [] → new.first_written.items ≡ old.first_written.items ++ m ∷ []
     → new.keys ≡ old.keys → new.operations ≡ old.operations → new.policy_writers ≡ old.policy_writers → new.written ≡ old.written → new.reads ≡ old.reads → IsBuilt cs (suc i) (suc i) 0 new
 flagged_passes cs i n m flag old new is b count counted first first_written keys ops pols written reads =

@@ -5,17 +5,17 @@ use Rattle.std.specs.Coded.{Coded, codes, coded×, coded_list, coded_ℕ, code_b
 use Rattle.transaction.specs.declared.transaction.Tx.{Tx}
 use Rattle.transaction.specs.declared.identity.Identity.{Identity}
 use Rattle.policy.specs.Policies.{Policies, policies_code}
-use Rattle.rules.specs.declared.flag.Flag.{Flag}
+use Rattle.rules.specs.declared.early_flag.EarlyFlag.{EarlyFlag}
 use Rattle.rules.specs.State.{State}
 use Rattle.rules.specs.Code.{state_code}
 use Rattle.rules.specs.Candidate.{Candidate, flagged, opened}
 use Rattle.rules.specs.Job.{Job}
 
-abbrev split : Candidate → Flag ⊎ (Tx × List Identity)
+abbrev split : Candidate → EarlyFlag ⊎ (Tx × List Identity)
 split (flagged f) = inl f
 split (opened t signers) = inr (t, signers)
 
-abbrev join : Flag ⊎ (Tx × List Identity) → Candidate
+abbrev join : EarlyFlag ⊎ (Tx × List Identity) → Candidate
 join (inl f) = flagged f
 join (inr p) = opened p.0 p.1
 
@@ -25,7 +25,7 @@ join-split (opened t signers) = refl
 
 pub candidate_code : Coded Candidate
 candidate_code =
-    code_by (Flag ⊎ (Tx × List Identity)) (Prim.hlevel codes) split join join-split
+    code_by (EarlyFlag ⊎ (Tx × List Identity)) (Prim.hlevel codes) split join join-split
 
 pub job_code : Coded Job
 job_code =

@@ -3,7 +3,7 @@ use Rattle.std.specs.Prelude.{◌≡◌, ℕ, List, [], ◌&&◌, Bool, map, fil
 use Rattle.std.specs.Str.{bytes_eq}
 use Rattle.transaction.specs.declared.identity.Identity.{Identity}
 use Rattle.transaction.specs.declared.transaction.Tx.{Tx}
-use Rattle.rules.specs.declared.flag.Flag.{Flag}
+use Rattle.rules.specs.declared.early_flag.EarlyFlag.{EarlyFlag}
 use Rattle.rules.specs.State.{StateKey}
 use Rattle.rules.specs.Candidate.{Candidate, flagged, opened}
 use Rattle.rules.specs.Job.{Job, candidate_at, operated_by}
@@ -18,7 +18,7 @@ abbrev pub IsOpen : Job → ℕ → Type 0
 IsOpen j i = (tx : Tx) × (signers : List Identity) × (candidate_at j i ≡ opened tx signers)
 
 abbrev pub IsFlagged : Job → ℕ → Type 0
-IsFlagged j i = (flag : Flag) × (candidate_at j i ≡ flagged flag)
+IsFlagged j i = (flag : EarlyFlag) × (candidate_at j i ≡ flagged flag)
 
 -- the keys that it reads, in the order of its namespaces and reads
 abbrev pub read_keys : Tx → List StateKey

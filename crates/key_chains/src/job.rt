@@ -4,7 +4,7 @@ ghost use Rattle.std.specs.FinMap.{get};
 ghost use Rattle.block.specs.Limits.{max_txs};
 ghost use Rattle.rules.specs.State.{StateKey, is_among};
 ghost use Rattle.rules.specs.Ranges.{is_within, rows_where};
-ghost use Rattle.rules.specs.Job.{candidate_at};
+ghost use Rattle.rules.specs.Job.{candidate_at, flag_by};
 ghost use Rattle.key_chains.specs.Job.{IsOpened, IsOpen, IsFlagged, read_by, written_by, keys_of, keys_where};
 ghost use Rattle.rules.specs.Candidate.{flagged};
 ghost use Rattle.candidates.specs.Seen.{seen};
@@ -16,7 +16,7 @@ use crate::chains::{Chains, newest_on};
 use crate::links::{Operations, PolicyWriters};
 use candidates::{Candidate, OpenTx, StateKey};
 use policy::{Definitions, Policy};
-use rules::{Flag, Row};
+use rules::{EarlyFlag, Flag, ReadVerdict, Row};
 use state_db::{Rows, StateDb};
 use std::alloc::{AllocError, Global};
 use std::marker::Model;
@@ -131,7 +131,7 @@ impl<'a> Job<'a> {
     }
 
     /// The flag of a candidate that is flagged.
-    pub fn flagged(&self, i: u32) -> Option<Flag>
+    pub fn flagged(&self, i: u32) -> Option<EarlyFlag>
         requires { i < length self.now.candidates }
         ensures { MatchOption result (IsOpen self.now i) (λ flag. candidate_at self.now i ≡ flagged flag) }
     {
@@ -139,6 +139,15 @@ impl<'a> Job<'a> {
             Candidate::Flagged(flag) => Some(*flag),
             Candidate::Opened(_) => None,
         }
+    }
+
+    /// The flag of a candidate whose checks say this. One that is flagged has its flag whatever they say, and where the
+    /// endorsement rule fails the reads don't count.
+    pub fn flag(&self, i: u32, is_endorsed: bool, reads: ReadVerdict) -> Flag
+        requires { i < length self.now.candidates }
+        ensures { result ≡ flag_by (candidate_at self.now i) is_endorsed reads }
+    {
+        self.candidates[i as usize].flag(is_endorsed, reads)
     }
 
     /// The row of a key before the block. Logarithmic in the number of rows.

@@ -11,7 +11,7 @@ use Rattle.rules.specs.declared.committed.CommittedBlock.{CommittedBlock}
 use Rattle.rules.specs.declared.delta.Delta.{Delta}
 use Rattle.rules.specs.Candidate.{used_id}
 use Rattle.rules.specs.Commit.{txs_of, job_of, committed_of}
-use Rattle.rules.specs.Delta.{applied, IsDelta}
+use Rattle.rules.specs.Delta.{AreRealChanges, IsDelta, applied, changes_in}
 use Rattle.rules.specs.FirstUses.{with_uses}
 use Rattle.rules.specs.Job.{Job}
 use Rattle.rules.specs.Linked.{IsLinked}
@@ -33,28 +33,33 @@ module _ (channel : Configuration) (accepts : Accepts) (w : World) where
   pub changes-is_delta : (bytes : List ℕ) (b : Block) (j : Job) (ids : List (Option (List ℕ))) (header_hash : List ℕ) (d : Delta)
       → j ≡ job_of channel accepts w (txs_of b) → ids ≡ map (used_id channel accepts) (txs_of b) → header_hash ≡ header_hash_of b.header
       → Changes j ids bytes header_hash d
-      → IsDelta channel accepts w (txs_of b) (committed_of bytes b (job_of channel accepts w (txs_of b))) d
+      → IsDelta channel accepts w (txs_of b) (committed_of bytes b (job_of channel accepts w (txs_of b))) d × AreRealChanges w.state (changes_in d.changes)
   changes-is_delta bytes b j ids header_hash d job_is ids_are hash_is changes =
       let own = subst (λ (h : List ℕ). Changes (job_of channel accepts w (txs_of b)) (map (used_id channel accepts) (txs_of b)) bytes h d) hash_is (
       subst (λ (us : List (Option (List ℕ))). Changes (job_of channel accepts w (txs_of b)) us bytes header_hash d) ids_are (
-      subst (λ (k : Job). Changes k ids bytes header_hash d) job_is changes)) in
-      record {
-        state = own.state;
-        history = own.history w.history;
-        first_uses = ap (with_uses w.first_uses) own.uses;
-        block = own.block;
-      }
+      subst (λ (k : Job). Changes k ids bytes header_hash d) job_is changes)) in (
+        record {
+          state = own.state;
+          history = own.history w.history;
+          first_uses = ap (with_uses w.first_uses) own.uses;
+          block = own.block;
+        },
+        own.real,
+      )
 
   -- the delta of a job is the next one where the job is that of the next block
   pub is_next : (bytes kept : List ℕ) (b : Block) (j : Job) (ids : List (Option (List ℕ))) (d : Delta)
       → kept ≡ bytes → Spells bytes b → IsLinked w b → j ≡ job_of channel accepts w (txs_of b) → ids ≡ map (used_id channel accepts) (txs_of b)
       → IsDeltaOfJob j ids kept b d → IsNextDelta channel accepts w bytes d
-  is_next bytes kept b j ids d same spelled linked job_is ids_are is = record {
-    block = b;
-    spelled = spelled;
-    linked = linked;
-    delta = subst (λ (k : List ℕ). IsDelta channel accepts w (txs_of b) (committed_of k b (job_of channel accepts w (txs_of b))) d) same (is channel accepts w job_is ids_are);
-  }
+  is_next bytes kept b j ids d same spelled linked job_is ids_are is =
+      let both = is channel accepts w job_is ids_are in
+      record {
+        block = b;
+        spelled = spelled;
+        linked = linked;
+        delta = subst (λ (k : List ℕ). IsDelta channel accepts w (txs_of b) (committed_of k b (job_of channel accepts w (txs_of b))) d) same both.0;
+        changes = both.1;
+      }
 
   -- a world to which the delta of its next block is applied, with the answer that the delta keeps, is a step
   pub next_delta-step : (bytes : List ℕ) (d : Delta) (answer : Accepted) (new : World) → IsNextDelta channel accepts w bytes d

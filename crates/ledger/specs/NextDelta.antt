@@ -3,25 +3,47 @@ use Rattle.std.specs.Prelude.{◌≡◌, ℕ, List, map, Option}
 use Rattle.block.specs.declared.block.Block.{Block}
 use Rattle.block.specs.Grammar.{Spells}
 use Rattle.channel.specs.Configuration.{Configuration}
+use Rattle.intake.specs.declared.taking.Taken.{Taken}
+use Rattle.intake.specs.Place.{taken_of, shown}
 use Rattle.policy_eval.specs.Accepts.{Accepts}
+use Rattle.transaction.specs.declared.transaction.Tx.{Tx}
+use Rattle.rules.specs.declared.answer.Accepted.{Accepted}
 use Rattle.rules.specs.declared.delta.Delta.{Delta}
 use Rattle.rules.specs.Candidate.{used_id}
 use Rattle.rules.specs.Job.{Job}
-use Rattle.rules.specs.World.{World}
+use Rattle.rules.specs.World.{World, height_of}
 use Rattle.rules.specs.Linked.{IsLinked}
 use Rattle.rules.specs.Commit.{txs_of, job_of, committed_of}
-use Rattle.rules.specs.Delta.{IsDelta}
+use Rattle.rules.specs.Delta.{AreRealChanges, IsDelta, changes_in}
 
--- The bytes spell a block that is the next one, and what the delta makes of the world is what that block makes of it.
+-- The bytes spell a block that is the next one, and what the delta makes of the world is what that block makes of it. Of the state it
+-- lists no more than it must: one change of a key, in the keys' order, and none that removes a key without a row.
 pub record IsNextDelta (channel : Configuration) (accepts : Accepts) (w : World) (bytes : List ℕ) (d : Delta) : Type 0 where
   pub block : Block
   pub spelled : Spells bytes block
   pub linked : IsLinked w block
   pub delta : IsDelta channel accepts w (txs_of block) (committed_of bytes block (job_of channel accepts w (txs_of block))) d
+  pub changes : AreRealChanges w.state (changes_in d.changes)
+
+-- Whatever the verifier and the transactions of which this was taken in, the job is theirs, and the ids are theirs.
+abbrev pub IsJobOfTaken : Configuration → World → List Taken → Job → Type 0
+IsJobOfTaken channel w taken j =
+    (accepts : Accepts) (txs : List (Option Tx)) → map shown taken ≡ map (taken_of channel accepts) txs → j ≡ job_of channel accepts w txs
+
+abbrev pub AreIdsOfTaken : Configuration → List Taken → List (Option (List ℕ)) → Type 0
+AreIdsOfTaken channel taken ids =
+    (accepts : Accepts) (txs : List (Option Tx)) → map shown taken ≡ map (taken_of channel accepts) txs
+    → ids ≡ map (used_id channel accepts) txs
 
 -- Of whatever world and verifier the job is that of this block, and the ids are its, this is the block's delta, which keeps these
 -- bytes. A step to the former.
 abbrev pub IsDeltaOfJob : Job → List (Option (List ℕ)) → List ℕ → Block → Delta → Type 0
 IsDeltaOfJob j ids bytes b d =
-    (channel : Configuration) (accepts : Accepts) (w : World) → j ≡ job_of channel accepts w (txs_of b) → ids ≡ map (used_id channel accepts) (txs_of b)
+    (channel : Configuration) (accepts : Accepts) (w : World) → j ≡ job_of channel accepts w (txs_of b)
+    → ids ≡ map (used_id channel accepts) (txs_of b)
     → IsDelta channel accepts w (txs_of b) (committed_of bytes b (job_of channel accepts w (txs_of b))) d
+    × AreRealChanges w.state (changes_in d.changes)
+
+-- what is answered to the block of this delta
+abbrev pub answer_to : World → Delta → Accepted
+answer_to w d = record { number = height_of w; header_hash = d.block.header_hash; flags = d.block.flags }

@@ -100,6 +100,5 @@ pub(crate) fn next_reasons<V: Verify>(
 {
     let (block, taken) = take_in_next(alloc, channel, world, bytes, verifier)?;
     let (job, ids) = job_of(alloc, channel, world, taken)?;
-    let txs = block.txs.as_slice();
-    there(found_reasons(alloc, channel, world, txs, &job, ids.as_slice()))
+    there(found_reasons(alloc, channel, world, block.txs(), &job, ids.as_slice()))
 }

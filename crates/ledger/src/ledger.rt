@@ -1,11 +1,11 @@
 ghost use Rattle.std.specs.Prelude.{◌≡◌, IfOk, IfErr, OnOk, OnErr, MatchResult};
 ghost use Rattle.rules.specs.declared.answer.Refused.TheVariants.{Memory};
-ghost use Rattle.rules.specs.World.{empty_world, height_of};
+ghost use Rattle.rules.specs.World.{empty_world};
 ghost use Rattle.rules.specs.Delta.{applied};
 ghost use Rattle.rules.specs.Linked.{IsRefused};
 ghost use Rattle.rules.specs.Step.{Step};
 ghost use Rattle.rules.specs.Chain.{Chain};
-ghost use Rattle.ledger.specs.NextDelta.{IsNextDelta};
+ghost use Rattle.ledger.specs.NextDelta.{IsNextDelta, answer_to};
 ghost use Rattle.ledger.specs.NextReasons.{AreNextReasons};
 ghost use Rattle.ledger.specs.Submissions.{submissions};
 
@@ -106,7 +106,7 @@ impl Ledger {
 
     /// Applies the delta of the next block, and answers to that block. An `Err` has changed nothing.
     fn apply(&mut self, delta: &Delta) -> Result<Accepted, Refused>
-        ensures accepted { IfOk result (λ a. a ≡ record { number = height_of self.old.world; header_hash = delta.now.block.header_hash; flags = delta.now.block.flags }) }
+        ensures accepted { IfOk result (λ a. a ≡ answer_to self.old.world delta.now) }
         ensures applied { OnOk result (self.new ≡ record self.old { world = applied self.old.world delta.now }) }
         ensures refused { IfErr result (λ refused. refused ≡ Memory) }
         ensures err { OnErr result (self.new ≡ self.old) }
@@ -123,7 +123,8 @@ impl Ledger {
         blocks: &[Bytes],
         verifier: &V,
     ) -> Result<Items<Result<Accepted, Refused>>, AllocError>
-        ensures chain { IfOk result (λ answers. Chain self.old.channel self.old.world (submissions (V.accepts verifier.now) blocks.now) answers self.new.world) }
+        ensures chain { IfOk result (λ answers.
+            Chain self.old.channel self.old.world (submissions (V.accepts verifier.now) blocks.now) answers self.new.world) }
         ensures channel { self.new.channel ≡ self.old.channel }
         ensures err { OnErr result (self.new ≡ self.old) }
     {

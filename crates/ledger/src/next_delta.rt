@@ -1,23 +1,14 @@
 //! What the next block of a ledger makes of it, as a delta.
-ghost use Rattle.std.specs.Prelude.{◌≡◌, ◌≤◌, List, Option, length, map, IfOk};
+ghost use Rattle.std.specs.Prelude.{◌≡◌, ◌≤◌, length, IfOk};
 ghost use Rattle.block.specs.Limits.{max_txs};
-ghost use Rattle.transaction.specs.declared.transaction.Tx.{Tx};
-ghost use Rattle.policy_eval.specs.Accepts.{Accepts};
-ghost use Rattle.channel.specs.Configuration.{Configuration};
-ghost use Rattle.rules.specs.Candidate.{used_id};
-ghost use Rattle.rules.specs.Commit as commit;
-ghost use Rattle.rules.specs.Delta.{changes_in, entries_in};
+ghost use Rattle.rules.specs.Delta.{AreRealChanges, changes_in};
 ghost use Rattle.rules.specs.Fold as fold;
-ghost use Rattle.rules.specs.Fold.{final_state, entries_to};
-ghost use Rattle.rules.specs.History as history;
-ghost use Rattle.rules.specs.History.{with_entries};
+ghost use Rattle.rules.specs.Fold.{final_state};
 ghost use Rattle.rules.specs.State.{with_changes};
-ghost use Rattle.intake.specs.Place.{taken_of, shown};
-ghost use Rattle.ledger.specs.Changes.{Changes};
-ghost use Rattle.ledger.specs.NextDelta.{IsDeltaOfJob};
+ghost use Rattle.ledger.specs.Changes.{AddEntriesOf, Changes};
+ghost use Rattle.ledger.specs.NextDelta.{AreIdsOfTaken, IsDeltaOfJob, IsJobOfTaken};
 
-use block::Block;
-use block_steps::uses_of;
+use block_steps::{LinkedBlock, uses_of};
 use channel::Channel;
 use effects::{Effects, effects_of};
 use header_hash::header_hash;
@@ -43,8 +34,8 @@ pub fn job_of<'a>(
     taken: Vec<Taken<'a>>,
 ) -> Result<(Job<'a>, Vec<Option<TxId>>), AllocError>
     requires { length taken.items ≤ max_txs }
-    ensures job { IfOk result (λ r. (accepts : Accepts) (txs : List (Option Tx)) → map shown taken.entry.items ≡ map (taken_of channel.entry.now accepts) txs → r.0 ≡ commit.job_of channel.entry.now accepts world.entry.now txs) }
-    ensures ids { IfOk result (λ r. (accepts : Accepts) (txs : List (Option Tx)) → map shown taken.entry.items ≡ map (taken_of channel.entry.now accepts) txs → r.1.items ≡ map (used_id channel.entry.now accepts) txs) }
+    ensures job { IfOk result (λ r. IsJobOfTaken channel.entry.now world.entry.now taken.entry.items r.0) }
+    ensures ids { IfOk result (λ r. AreIdsOfTaken channel.entry.now taken.entry.items r.1.items) }
 {
     let ids = ids_of(alloc, taken.as_slice())?;
     let used = world.mark(alloc, ids.as_slice())?;
@@ -85,7 +76,8 @@ fn effects_in(
 ) -> Result<Effects, AllocError>
     requires { block.now.flags ≡ fold.flags job.now }
     ensures state { IfOk result (λ e. with_changes job.now.state (changes_in e.changes.items) ≡ final_state job.now) }
-    ensures history { IfOk result (λ e. (h : history.History) → with_entries h (entries_in e.entries.items) ≡ with_entries h (entries_to job.now (length job.now.candidates))) }
+    ensures changes { IfOk result (λ e. AreRealChanges job.now.state (changes_in e.changes.items)) }
+    ensures history { IfOk result (λ e. AddEntriesOf job.now e.entries.items) }
 {
     let starts = starts_of(alloc, block.bytes.get().len(), txs)?;
     effects_of(
@@ -120,14 +112,14 @@ fn changes_of(
     })
 }
 
-/// The delta of a block that is the next one and that these bytes spell, which it keeps; of its job, ids and flags.
+/// The delta of a block that is the next one, which keeps these bytes; of its job, ids and flags.
 ///
 /// Linear in the block and in what it writes, and a search for each key that it writes. Memory for the delta alone, whose keys
 /// and values are parts of the bytes where they stand in them.
 pub fn delta_of(
     alloc: Global,
     bytes: Shared<Bytes>,
-    block: &Block<'_>,
+    block: &LinkedBlock<'_>,
     job: &Job<'_>,
     ids: &[Option<TxId>],
     flags: Vec<Flag>,
@@ -141,9 +133,9 @@ pub fn delta_of(
         alloc,
         CommittedBlock {
             bytes,
-            header_hash: header_hash(&block.header),
+            header_hash: header_hash(block.header()),
             flags: Items::from_vec(flags),
         },
     )?;
-    changes_of(alloc, job, ids, block.txs.as_slice(), kept)
+    changes_of(alloc, job, ids, block.txs(), kept)
 }

@@ -1,3 +1,5 @@
+ghost use Rattle.std.specs.Prelude.{⊤, ℕ, List, IfOk};
+
 use std::alloc::Global;
 use std::fs::File;
 use std::io;
@@ -22,8 +24,12 @@ impl From<io::Error> for FileFault {
 
 /// Where the program's files lie.
 pub trait Files {
+    // That a file's whole content may be these bytes. Who says nothing of it can still be read by its paths alone.
+    ghost holds: { Self → List ℕ → List ℕ → Type 0 } = { λ _ _ _. ⊤ };
+
     /// The whole content of the file of this path.
-    fn read(&self, alloc: Global, path: &str) -> Result<Bytes, FileFault>;
+    fn read(&self, alloc: Global, path: &str) -> Result<Bytes, FileFault>
+        ensures { IfOk result (λ bytes. holds self.now path.now bytes) };
 
     /// Makes these bytes the file's whole content, whether there was a file of this path or not.
     /// After an error nothing is known of what it holds.

@@ -1,4 +1,7 @@
 //! What the files hold, each read and checked before the next.
+ghost use Rattle.std.specs.Prelude.{IfOk};
+ghost use Rattle.ledger_commands.specs.Reading.{AreHeld};
+
 use crate::fault::Fault;
 use crate::files::Files;
 use channel::Channel;
@@ -26,7 +29,9 @@ pub(crate) fn read_file<'a, F: Files>(
     alloc: Global,
     files: &F,
     path: &'a str,
-) -> Result<Bytes, Fault<'a>> {
+) -> Result<Bytes, Fault<'a>>
+    ensures { IfOk result (λ bytes. F.holds files.now path.now bytes) }
+{
     files
         .read(alloc, path)
         .map_err(|fault| Fault::of_file(path, fault))
@@ -64,18 +69,32 @@ impl Configuration {
     }
 }
 
+// What the files of these paths hold, in their order.
+fn read_files<'a, F: Files>(
+    alloc: Global,
+    files: &F,
+    paths: &Vec<&'a str>,
+) -> Result<Vec<Bytes>, Fault<'a>>
+    ensures { IfOk result (λ all. AreHeld (λ path. F.holds files.now path.now) paths.now.items all.items) }
+{
+    let mut all = Vec::new(alloc);
+    for path in paths {
+        all.push(read_file(alloc, files, path)?)?;
+    }
+    Ok(all)
+}
+
 impl Inputs {
-    /// Reads the channel, the keys and the blocks. The memory is linear in the files' bytes.
+    /// Reads the channel, the keys, and the blocks in their order. The memory is linear in the files' bytes.
     pub fn read<'a, F: Files>(
         alloc: Global,
         files: &F,
         paths: &LedgerPaths<'a>,
-    ) -> Result<Inputs, Fault<'a>> {
+    ) -> Result<Inputs, Fault<'a>>
+        ensures { IfOk result (λ inputs. AreHeld (λ path. F.holds files.now path.now) paths.now.blocks.items inputs.blocks.items) }
+    {
         let configuration = Configuration::read(alloc, files, &paths.configuration)?;
-        let mut blocks = Vec::new(alloc);
-        for path in &paths.blocks {
-            blocks.push(read_file(alloc, files, path)?)?;
-        }
+        let blocks = read_files(alloc, files, &paths.blocks)?;
         Ok(Inputs {
             configuration,
             blocks,

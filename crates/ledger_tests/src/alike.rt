@@ -1,7 +1,6 @@
 //! The ledger over bytes, and over their transactions what has no cleverness: `plain` for the flags and what is behind them,
 //! the rules of linked blocks as they are written, and a list of the blocks that were accepted.
 
-use crate::failed::Failed;
 use crate::fixture::{configuration, key, name};
 use block::{Block, BlockFault, MAX_TXS, Previous, decode_block};
 use chain_vectors::first_blocks::first_blocks;
@@ -11,6 +10,7 @@ use chain_vectors::uses::uses;
 use chain_vectors::{Committed, SaysOk, read_use};
 use channel::Channel;
 use commit::{Ledger, Reason};
+use failing::Failed;
 use header_hash::{data_hash, header_hash};
 use policy_eval::Verify;
 use rules::{Accepted, CommittedBlock, Flag, HistoryEntry, Refused, Row};

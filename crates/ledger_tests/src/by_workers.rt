@@ -1,127 +1,212 @@
 //! The chains once more, by committers of few and of many workers.
 
-use crate::failed::Failed;
+use crate::asked::is_left;
 use crate::fixture::{are_numbered, configuration};
+use crate::refusals::{Changed, changed_bytes};
 use crate::scripted::ScriptedPeer;
+use crate::worked_chains::worked;
 use block::MAX_TXS;
 use chain_vectors::first_blocks::first_blocks;
 use chain_vectors::later_blocks::later_blocks;
-use chain_vectors::worked::worked;
-use chain_vectors::{Committed, SaysOk, Scripted, WorkedChain};
-use commit::Committer;
+use chain_vectors::rows::rows;
+use chain_vectors::uses::uses;
+use chain_vectors::{Committed, SaysOk, WorkedChain};
+use commit::{Committer, NotCommitted, QueryHandle};
+use failing::Failed;
 use gates::{Gate, Open, Reverse};
+use key_book::KeyBook;
 use std::alloc::{AllocError, Global};
 use std::sync::Wait;
 use std::thread::Threads;
+use values::Bytes;
 
-const WORKERS: [usize; 3] = [1, 2, 64];
+pub const WORKERS: [usize; 3] = [1, 2, 64];
+
+/// How blocks are handed in: by how many workers, and whether checks go in reverse.
+#[derive(Clone, Copy)]
+struct Way {
+    workers: usize,
+    is_reverse: bool,
+}
+
+const WAYS: [Way; 6] = [
+    Way {
+        workers: 1,
+        is_reverse: false,
+    },
+    Way {
+        workers: 2,
+        is_reverse: false,
+    },
+    Way {
+        workers: 64,
+        is_reverse: false,
+    },
+    Way {
+        workers: 1,
+        is_reverse: true,
+    },
+    Way {
+        workers: 2,
+        is_reverse: true,
+    },
+    Way {
+        workers: 64,
+        is_reverse: true,
+    },
+];
+
+/// A committer with this many workers and one handle.
+pub fn opened<R: Wait>(
+    rt: &R,
+    alloc: Global,
+    workers: usize,
+) -> Result<(Committer, Vec<QueryHandle>), Failed> {
+    match Committer::open(alloc, rt, configuration(alloc)?, workers, 1) {
+        Ok(opened) => Ok(opened),
+        Err(_) => Err(Failed::Missing("a committer")),
+    }
+}
 
 fn is_committed<R: Threads + Wait + Sync, G: Gate + Sync>(
     rt: &R,
     committer: &mut Committer,
-    peer: &ScriptedPeer,
+    keys: &KeyBook,
     bytes: &[u8],
     flags: &[u8],
     gate: &G,
 ) -> bool {
-    match committer.submit(rt, bytes, peer.keys(), gate) {
+    match committer.submit(rt, bytes, keys, gate) {
         Ok(receipt) => are_numbered(receipt.flags.as_slice(), flags) && committer.gathered() == 0,
         Err(_) => false,
     }
 }
 
-// Whether both committers, one of which checks in reverse, find these flags.
-fn are_committed<R: Threads + Wait + Sync>(
+fn is_committed_in<R: Threads + Wait + Sync>(
     rt: &R,
     alloc: Global,
+    way: Way,
     committer: &mut Committer,
-    in_reverse: &mut Committer,
-    peer: &ScriptedPeer,
+    keys: &KeyBook,
     bytes: &[u8],
     flags: &[u8],
 ) -> Result<bool, AllocError> {
+    if !way.is_reverse {
+        return Ok(is_committed(rt, committer, keys, bytes, flags, &Open));
+    }
     let reverse = Reverse::new(alloc, flags.len().min(MAX_TXS) as u32)?;
-    Ok(
-        is_committed(rt, committer, peer, bytes, flags, &Open)
-            && is_committed(rt, in_reverse, peer, bytes, flags, &reverse),
-    )
+    Ok(is_committed(rt, committer, keys, bytes, flags, &reverse))
 }
 
-// Whether both committers find the flags that the peer finds.
-fn is_taken<R: Threads + Wait + Sync>(
+fn are_committed<R: Threads + Wait + Sync>(
     rt: &R,
     alloc: Global,
+    way: Way,
     committer: &mut Committer,
-    in_reverse: &mut Committer,
-    peer: &mut ScriptedPeer,
-    block: &Scripted,
-) -> Result<bool, Failed> {
-    let bytes = peer.block(alloc, block.script)?;
-    let bytes = bytes.as_slice();
-    Ok(
-        are_committed(rt, alloc, committer, in_reverse, peer, bytes, block.flags)?
-            && peer.is_taken(alloc, block.script, block.flags)?,
-    )
+    keys: &KeyBook,
+    blocks: &[Bytes],
+    chain: &WorkedChain,
+) -> Result<bool, AllocError> {
+    for (bytes, block) in blocks.iter().zip(chain.blocks) {
+        let (bytes, flags) = (bytes.as_slice(), block.flags);
+        if !is_committed_in(rt, alloc, way, committer, keys, bytes, flags)? {
+            return Ok(false);
+        }
+    }
+    Ok(blocks.len() == chain.blocks.len())
 }
 
-fn are_taken<R: Threads + Wait + Sync>(
+// Whether the committer finds the flags, and its handle what is left.
+fn is_so_of<R: Threads + Wait + Sync>(
     rt: &R,
     alloc: Global,
+    way: Way,
     committer: &mut Committer,
-    in_reverse: &mut Committer,
-    peer: &mut ScriptedPeer,
+    handles: &mut Vec<QueryHandle>,
+    keys: &KeyBook,
+    blocks: &[Bytes],
     chain: &WorkedChain,
 ) -> Result<bool, Failed> {
-    for block in chain.blocks {
-        if !is_taken(rt, alloc, committer, in_reverse, peer, block)? {
+    let Some(handle) = handles.first_mut() else {
+        return Err(Failed::Missing("a handle"));
+    };
+    Ok(
+        are_committed(rt, alloc, way, committer, keys, blocks, chain)?
+            && is_left(alloc, handle, chain.left, chain.uses.as_chunks().0)?,
+    )
+}
+
+fn is_so_in<R: Threads + Wait + Sync>(
+    rt: &R,
+    alloc: Global,
+    way: Way,
+    keys: &KeyBook,
+    blocks: &[Bytes],
+    chain: &WorkedChain,
+) -> Result<bool, Failed> {
+    let (mut committer, mut handles) = opened(rt, alloc, way.workers)?;
+    let is_so = is_so_of(
+        rt,
+        alloc,
+        way,
+        &mut committer,
+        &mut handles,
+        keys,
+        blocks,
+        chain,
+    );
+    committer.close(rt);
+    is_so
+}
+
+fn is_so_in_all<R: Threads + Wait + Sync>(
+    rt: &R,
+    alloc: Global,
+    keys: &KeyBook,
+    blocks: &[Bytes],
+    chain: &WorkedChain,
+) -> Result<bool, Failed> {
+    for way in WAYS {
+        if !is_so_in(rt, alloc, way, keys, blocks, chain)? {
             return Ok(false);
         }
     }
     Ok(true)
 }
 
-fn opened<R: Wait>(rt: &R, alloc: Global, workers: usize) -> Result<Committer, Failed> {
-    match Committer::open(alloc, rt, configuration(alloc)?, workers, 0) {
-        Ok((committer, _handles)) => Ok(committer),
-        Err(_) => Err(Failed::Missing("a committer")),
+// The blocks of the chain, which the peer has taken.
+fn drafted(
+    alloc: Global,
+    peer: &mut ScriptedPeer,
+    chain: &WorkedChain,
+) -> Result<Vec<Bytes>, Failed> {
+    let mut blocks = Vec::new(alloc);
+    for block in chain.blocks {
+        blocks.push(peer.block(alloc, block.script)?)?;
+        if !peer.is_taken(alloc, block.script, block.flags)? {
+            return Err(Failed::Missing("the flags by one thread"));
+        }
     }
+    Ok(blocks)
 }
 
-fn is_so_beside<R: Threads + Wait + Sync>(
-    rt: &R,
+fn is_so_by(
+    rt: &(impl Threads + Wait + Sync),
     alloc: Global,
-    workers: usize,
-    committer: &mut Committer,
     peer: &mut ScriptedPeer,
     chain: &WorkedChain,
 ) -> Result<bool, Failed> {
-    let mut in_reverse = opened(rt, alloc, workers)?;
-    let is_so = are_taken(rt, alloc, committer, &mut in_reverse, peer, chain);
-    in_reverse.close(rt);
-    is_so
-}
-
-fn is_so_for<R: Threads + Wait + Sync>(
-    rt: &R,
-    alloc: Global,
-    workers: usize,
-    peer: &mut ScriptedPeer,
-    chain: &WorkedChain,
-) -> Result<bool, Failed> {
-    let mut committer = opened(rt, alloc, workers)?;
-    let is_so = is_so_beside(rt, alloc, workers, &mut committer, peer, chain);
-    committer.close(rt);
-    is_so
+    let blocks = drafted(alloc, peer, chain)?;
+    is_so_in_all(rt, alloc, peer.keys(), &blocks, chain)
 }
 
 fn is_so<R: Threads + Wait + Sync>(
     rt: &R,
     alloc: Global,
-    workers: usize,
     chain: &WorkedChain,
 ) -> Result<bool, Failed> {
     let mut peer = ScriptedPeer::open(alloc)?;
-    is_so_for(rt, alloc, workers, &mut peer, chain)
+    is_so_by(rt, alloc, &mut peer, chain)
 }
 
 // The name of the first chain that isn't so.
@@ -129,9 +214,9 @@ fn first_other<R: Threads + Wait + Sync>(
     rt: &R,
     alloc: Global,
 ) -> Result<Option<&'static str>, Failed> {
-    for chain in worked() {
-        for workers in &WORKERS {
-            if !is_so(rt, alloc, *workers, chain)? {
+    for chains in worked() {
+        for chain in chains {
+            if !is_so(rt, alloc, chain)? {
                 return Ok(Some(chain.name));
             }
         }
@@ -140,30 +225,94 @@ fn first_other<R: Threads + Wait + Sync>(
 }
 
 #[test]
-fn flags_by_workers(rt: HostRuntime) -> Result<(), Failed> {
+fn flags_and_what_is_left_by_workers(rt: HostRuntime) -> Result<(), Failed> {
     let other = first_other(&rt, rt.alloc())?;
     assert!(rt; other.is_none(), "{other:?}");
     Ok(())
 }
 
-// Whether the committer accepts these blocks of the chain with their header hashes and flags.
-fn are_accepted<R: Threads + Wait + Sync>(
+// Whether the bytes are refused so, and the handle still answers this height.
+fn is_refused<R: Threads + Wait + Sync>(
     rt: &R,
     committer: &mut Committer,
-    blocks: &[Committed],
-) -> bool {
-    for block in blocks {
-        let Ok(receipt) = committer.submit(rt, block.bytes, &SaysOk, &Open) else {
-            return false;
-        };
-        if receipt.header_hash != *block.header_hash
-            || !are_numbered(receipt.flags.as_slice(), block.flags)
-            || committer.gathered() != 0
-        {
-            return false;
+    handle: &mut QueryHandle,
+    changed: &Changed,
+    height: u64,
+) -> Result<bool, Failed> {
+    let answer = committer.submit(rt, changed.bytes.as_slice(), &SaysOk, &Open);
+    let reply = handle.height()?;
+    Ok(
+        answer.err() == Some(NotCommitted::Refused(changed.refused))
+            && reply.answer == height
+            && reply.height == height,
+    )
+}
+
+fn are_refused<R: Threads + Wait + Sync>(
+    rt: &R,
+    committer: &mut Committer,
+    handle: &mut QueryHandle,
+    all: &[Changed],
+    height: u64,
+) -> Result<bool, Failed> {
+    for changed in all {
+        if !is_refused(rt, committer, handle, changed, height)? {
+            return Ok(false);
         }
     }
-    true
+    Ok(true)
+}
+
+// Before every sixteenth block it is handed in changed.
+fn refuses_changed<R: Threads + Wait + Sync>(
+    rt: &R,
+    alloc: Global,
+    committer: &mut Committer,
+    handle: &mut QueryHandle,
+    bytes: &[u8],
+    height: u64,
+) -> Result<bool, Failed> {
+    if height % 16 != 3 {
+        return Ok(true);
+    }
+    let all = changed_bytes(alloc, bytes, height)?;
+    are_refused(rt, committer, handle, &all, height)
+}
+
+// Whether the committer accepts this block of the chain with its header hash and flags.
+fn is_accepted<R: Threads + Wait + Sync>(
+    rt: &R,
+    committer: &mut Committer,
+    block: &Committed,
+) -> bool {
+    match committer.submit(rt, block.bytes, &SaysOk, &Open) {
+        Ok(receipt) => {
+            receipt.header_hash == *block.header_hash
+                && are_numbered(receipt.flags.as_slice(), block.flags)
+                && committer.gathered() == 0
+        }
+        Err(_) => false,
+    }
+}
+
+fn are_accepted<R: Threads + Wait + Sync>(
+    rt: &R,
+    alloc: Global,
+    committer: &mut Committer,
+    handle: &mut QueryHandle,
+) -> Result<bool, Failed> {
+    for (number, block) in first_blocks()
+        .iter()
+        .chain(later_blocks().iter())
+        .enumerate()
+    {
+        if !refuses_changed(rt, alloc, committer, handle, block.bytes, number as u64)?
+            || !is_accepted(rt, committer, block)
+        {
+            return Ok(false);
+        }
+    }
+    is_left(alloc, handle, rows(), uses())
 }
 
 fn is_chain_accepted<R: Threads + Wait + Sync>(
@@ -171,11 +320,13 @@ fn is_chain_accepted<R: Threads + Wait + Sync>(
     alloc: Global,
     workers: usize,
 ) -> Result<bool, Failed> {
-    let mut committer = opened(rt, alloc, workers)?;
-    let are_accepted = are_accepted(rt, &mut committer, first_blocks())
-        && are_accepted(rt, &mut committer, later_blocks());
+    let (mut committer, mut handles) = opened(rt, alloc, workers)?;
+    let are_accepted = match handles.first_mut() {
+        Some(handle) => are_accepted(rt, alloc, &mut committer, handle),
+        None => Err(Failed::Missing("a handle")),
+    };
     committer.close(rt);
-    Ok(are_accepted)
+    are_accepted
 }
 
 #[test]

@@ -1,14 +1,14 @@
 //! The chain of 32 blocks that reaches every flag.
 
-use crate::failed::Failed;
 use crate::fixture::Peer;
-use crate::shown::{is_row, show_history};
+use crate::shown::{is_history, is_row, is_wanted_use};
 use chain_vectors::first_blocks::first_blocks;
 use chain_vectors::later_blocks::later_blocks;
 use chain_vectors::rows::rows;
 use chain_vectors::uses::uses;
-use chain_vectors::{Committed, Left, SaysOk, Used, read_use};
-use rules::{CommittedBlock, FirstUse};
+use chain_vectors::{Committed, SaysOk, read_use};
+use failing::Failed;
+use rules::CommittedBlock;
 use std::alloc::Global;
 use world::World;
 
@@ -24,17 +24,11 @@ fn take_all(peer: &mut Peer, blocks: &[Committed]) -> Result<(), Failed> {
     Ok(())
 }
 
-fn is_history_left(alloc: Global, world: &World, left: &Left) -> Result<bool, Failed> {
-    let mut history = Vec::new(alloc);
-    show_history(alloc, &mut history, world, left)?;
-    Ok(history.as_slice() == left.history)
-}
-
 // How many keys have the rows and histories that are wanted, up to the first that hasn't.
 fn keys_left(alloc: Global, world: &World) -> Result<usize, Failed> {
     for (count, left) in rows().iter().enumerate() {
         if !is_row(alloc, world, left.namespace, left.key, &left.row)?
-            || !is_history_left(alloc, world, left)?
+            || !is_history(alloc, world, left)?
         {
             return Ok(count);
         }
@@ -42,20 +36,11 @@ fn keys_left(alloc: Global, world: &World) -> Result<usize, Failed> {
     Ok(rows().len())
 }
 
-fn is_used_so(found: Option<FirstUse>, want: Used) -> bool {
-    match found {
-        None => false,
-        Some(used) => {
-            (used.block, used.place, used.flag.number()) == (want.block, want.place, want.flag)
-        }
-    }
-}
-
 // How many ids have the first uses that are wanted, up to the first that hasn't.
 fn ids_used(world: &World) -> usize {
     for (count, bytes) in uses().iter().enumerate() {
         let want = read_use(bytes);
-        if !is_used_so(world.first_use(&want.id), want) {
+        if !is_wanted_use(world.first_use(&want.id), want) {
             return count;
         }
     }

@@ -1,9 +1,9 @@
 //! A peer that takes blocks, and what tests make and look up.
 
-use crate::failed::Failed;
 use chain_vectors::CHANNEL;
 use channel::{Channel, ChannelFault};
 use commit::Ledger;
+use failing::Failed;
 use policy_eval::Verify;
 use rules::{Flag, Refused, Row};
 use std::alloc::{AllocError, Global};

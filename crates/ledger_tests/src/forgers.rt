@@ -1,8 +1,8 @@
 //! Who signs with other keys than those by which signatures verify, so that bad signatures can be drafted.
 
-use crate::failed::Failed;
 use crate::fixture::{CREATOR, Peer};
 use crate::scripted::drafted;
+use failing::Failed;
 use header_hash::tx_id;
 use key_book::KeyBook;
 use rules::{FirstUse, Flag};

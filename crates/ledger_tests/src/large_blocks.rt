@@ -1,8 +1,8 @@
 //! A block of more bytes than a transaction can have.
 
-use crate::failed::Failed;
 use crate::fixture::row_at;
 use crate::scripted::ScriptedPeer;
+use failing::Failed;
 use rules::Row;
 use std::alloc::{AllocError, Global};
 use world::World;

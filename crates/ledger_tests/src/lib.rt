@@ -5,19 +5,21 @@
 #[cfg(test)]
 mod alike;
 #[cfg(test)]
+mod asked;
+#[cfg(test)]
 mod by_workers;
 #[cfg(test)]
 mod chain;
 #[cfg(test)]
 mod explained_memory;
 #[cfg(test)]
-mod failed;
-#[cfg(test)]
 mod fixture;
 #[cfg(test)]
 mod forgers;
 #[cfg(test)]
 mod large_blocks;
+#[cfg(test)]
+mod limits;
 #[cfg(test)]
 mod long_block;
 #[cfg(test)]

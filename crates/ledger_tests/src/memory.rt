@@ -1,7 +1,7 @@
-use crate::failed::Failed;
 use crate::scripted::ScriptedPeer;
 use crate::shown::{is_row, shown};
 use chain_vectors::LeftRow;
+use failing::{Failed, Outcome, begins};
 use rules::Refused;
 use std::alloc::Global;
 
@@ -44,18 +44,6 @@ fn is_as_before(
     )
 }
 
-fn changes_nothing(alloc: Global, peer: &mut ScriptedPeer) -> Result<bool, Failed> {
-    let before = shown(alloc, peer.world())?;
-    let block = peer.block(alloc, THREE)?;
-    if let Some(refused) = peer.refusal_of(block.as_slice()) {
-        return Ok(
-            is_as_before(alloc, peer, refused, &before)?
-                && peer.is_taken(alloc, THREE, &[0, 0, 0])?,
-        );
-    }
-    Ok(true)
-}
-
 fn is_behind_both(alloc: Global, peer: &ScriptedPeer) -> Result<bool, Failed> {
     let row = LeftRow {
         value: b"value",
@@ -66,23 +54,51 @@ fn is_behind_both(alloc: Global, peer: &ScriptedPeer) -> Result<bool, Failed> {
     Ok(peer.world().height() == 2 && is_row(alloc, peer.world(), b"cc", b"k", &Some(row))?)
 }
 
-fn is_so_by(alloc: Global, peer: &mut ScriptedPeer) -> Result<bool, Failed> {
+// Whether the refused bytes changed nothing, and the same are taken next.
+fn is_made_good(
+    alloc: Global,
+    peer: &mut ScriptedPeer,
+    refused: Refused,
+    before: &[u8],
+) -> Result<bool, Failed> {
     Ok(
-        peer.is_taken(alloc, FIRST, &[0])?
-            && changes_nothing(alloc, peer)?
+        is_as_before(alloc, peer, refused, before)?
+            && peer.is_taken(alloc, THREE, &[0, 0, 0])?
             && is_behind_both(alloc, peer)?,
     )
 }
 
-fn is_so(alloc: Global) -> Result<bool, Failed> {
-    let mut peer = ScriptedPeer::open(alloc)?;
-    is_so_by(alloc, &mut peer)
+fn outcome_of_submit(
+    alloc: Global,
+    peer: &mut ScriptedPeer,
+    before: &[u8],
+) -> Result<Outcome, Failed> {
+    let block = peer.block(alloc, THREE)?;
+    begins(alloc)?;
+    match peer.refusal_of(block.as_slice()) {
+        None if is_behind_both(alloc, peer)? => Ok(Outcome::Done),
+        Some(refused) if is_made_good(alloc, peer, refused, before)? => Ok(Outcome::MadeGood),
+        _ => Ok(Outcome::Wrong),
+    }
 }
 
-// To be run with memory that is refused at any one allocation of the submit: then the world is as before, and
-// takes the same bytes next. Where it is refused before or after, the test ends by `?`.
+fn outcome_by(alloc: Global, peer: &mut ScriptedPeer) -> Result<Outcome, Failed> {
+    if !peer.is_taken(alloc, FIRST, &[0])? {
+        return Ok(Outcome::Wrong);
+    }
+    let before = shown(alloc, peer.world())?;
+    outcome_of_submit(alloc, peer, &before)
+}
+
+pub fn outcome(alloc: Global) -> Result<Outcome, Failed> {
+    let mut peer = ScriptedPeer::open(alloc)?;
+    outcome_by(alloc, &mut peer)
+}
+
+// To be tried with memory that is refused at any one allocation of the submit, by `bench/refused_memory.py`: then the world
+// is as before, and takes the same bytes next. Where it is refused before or after, it ends by `?`.
 #[test]
-fn refused_memory_changes_nothing(rt: HostRuntime) -> Result<(), Failed> {
-    assert!(rt; is_so(rt.alloc())?);
+fn three_transactions(rt: HostRuntime) -> Result<(), Failed> {
+    assert!(rt; outcome(rt.alloc())? == Outcome::Done);
     Ok(())
 }

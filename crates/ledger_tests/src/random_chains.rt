@@ -1,11 +1,11 @@
 //! Chains at random, which the ledger takes as they are to be taken.
 
 use crate::alike::Pair;
-use crate::failed::Failed;
 use crate::fixture::CREATOR;
 use crate::forgers::{Books, FORGER, read_books};
 use crate::random_scripts::{KEYS, NAMESPACES, NONCES, script_at_random};
 use crate::scripted::next_block;
+use failing::Failed;
 use header_hash::tx_id;
 use key_book::KeyBook;
 use random_numbers::Random;

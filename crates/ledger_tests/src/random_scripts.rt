@@ -1,8 +1,8 @@
 //! Transactions at random, as lines of a script: few keys, operations and reads of every kind, most of them right.
 
-use crate::failed::Failed;
 use crate::fixture::{key, name};
 use crate::spoiling::raw_line;
+use failing::Failed;
 use key_book::KeyBook;
 use random_numbers::Random;
 use rules::KeyedRow;

@@ -1,34 +1,29 @@
 //! Refused bytes between the blocks of the chain.
 
-use crate::failed::Failed;
 use crate::fixture::Peer;
 use crate::shown::shown;
 use block::BlockFault;
 use chain_vectors::SaysOk;
 use chain_vectors::first_blocks::first_blocks;
 use chain_vectors::later_blocks::later_blocks;
+use failing::Failed;
 use rules::Refused;
 use std::alloc::Global;
 use values::Hash;
 
+/// Bytes that were a block's, and why they are refused.
+#[derive(Drop)]
+pub struct Changed {
+    pub bytes: Vec<u8>,
+    pub refused: Refused,
+}
+
 // The bytes with the lowest bit of one flipped.
 fn flipped(alloc: Global, bytes: &[u8], place: usize) -> Result<Vec<u8>, Failed> {
     let mut changed = Vec::from_slice(alloc, bytes)?;
-    let byte = changed.get_mut(place).ok_or("a byte is there")?;
+    let byte = changed.get_mut(place).ok_or(Failed::Missing("a byte"))?;
     *byte ^= 1;
     Ok(changed)
-}
-
-// Whether the bytes are refused so, and the world is shown as before.
-fn is_refused(
-    alloc: Global,
-    peer: &mut Peer,
-    before: &[u8],
-    bytes: &[u8],
-    want: Refused,
-) -> Result<bool, Failed> {
-    let answer = peer.refusal_of(bytes, &SaysOk);
-    Ok(answer == Some(want) && shown(alloc, peer.world())?.as_slice() == before)
 }
 
 // Bytes of a header with a previous hash: 4 of magic, 8 of the number, 1, 32 of the previous hash, 32 of the
@@ -47,6 +42,9 @@ const FLIPS: [(usize, Refused); 8] = [
 // The lowest byte of the number.
 const NUMBER: usize = 11;
 
+// The highest bytes of the first transaction's length.
+const LENGTH: usize = 81;
+
 const CUTS: [(usize, BlockFault); 8] = [
     (0, BlockFault::BadMagic),
     (3, BlockFault::BadMagic),
@@ -58,67 +56,94 @@ const CUTS: [(usize, BlockFault); 8] = [
     (84, BlockFault::Truncated),
 ];
 
-fn refuses_flip(
-    alloc: Global,
-    peer: &mut Peer,
-    before: &[u8],
-    bytes: &[u8],
-    (place, want): (usize, Refused),
-) -> Result<bool, Failed> {
-    let changed = flipped(alloc, bytes, place)?;
-    is_refused(alloc, peer, before, &changed, want)
-}
-
-fn refuses_flips(
-    alloc: Global,
-    peer: &mut Peer,
-    before: &[u8],
-    bytes: &[u8],
-) -> Result<bool, Failed> {
-    for flip in FLIPS {
-        if !refuses_flip(alloc, peer, before, bytes, flip)? {
-            return Ok(false);
-        }
+fn add_flips(alloc: Global, bytes: &[u8], all: &mut Vec<Changed>) -> Result<(), Failed> {
+    for (place, refused) in FLIPS {
+        let bytes = flipped(alloc, bytes, place)?;
+        all.push(Changed { bytes, refused })?;
     }
-    let want = peer.world().height();
-    let got = want ^ 1;
-    let want = Refused::WrongNumber { want, got };
-    refuses_flip(alloc, peer, before, bytes, (NUMBER, want))
+    Ok(())
 }
 
-fn refuses_cuts(
+fn add_cuts(alloc: Global, bytes: &[u8], all: &mut Vec<Changed>) -> Result<(), Failed> {
+    for (length, fault) in CUTS {
+        let front = bytes.get(..length).ok_or(Failed::Missing("so many bytes"))?;
+        let bytes = Vec::from_slice(alloc, front)?;
+        let refused = Refused::Malformed(fault);
+        all.push(Changed { bytes, refused })?;
+    }
+    Ok(())
+}
+
+// Another number, a byte more, and a first transaction that is too long.
+fn add_others(
+    alloc: Global,
+    bytes: &[u8],
+    height: u64,
+    all: &mut Vec<Changed>,
+) -> Result<(), Failed> {
+    all.push(Changed {
+        bytes: flipped(alloc, bytes, NUMBER)?,
+        refused: Refused::WrongNumber {
+            want: height,
+            got: height ^ 1,
+        },
+    })?;
+    all.push(Changed {
+        bytes: [bytes, b"\0"].concat(alloc)?,
+        refused: Refused::Malformed(BlockFault::TrailingBytes),
+    })?;
+    all.push(Changed {
+        bytes: flipped(alloc, bytes, LENGTH)?,
+        refused: Refused::Malformed(BlockFault::TxTooLong),
+    })?;
+    Ok(())
+}
+
+/// The bytes of the block at this height, which has a transaction, changed in each way for which they are refused.
+pub fn changed_bytes(alloc: Global, bytes: &[u8], height: u64) -> Result<Vec<Changed>, Failed> {
+    let mut all = Vec::new(alloc);
+    add_flips(alloc, bytes, &mut all)?;
+    add_cuts(alloc, bytes, &mut all)?;
+    add_others(alloc, bytes, height, &mut all)?;
+    Ok(all)
+}
+
+// Whether the bytes are refused so, and the world is shown as before.
+fn is_refused(
     alloc: Global,
     peer: &mut Peer,
     before: &[u8],
     bytes: &[u8],
+    want: Refused,
 ) -> Result<bool, Failed> {
-    for (length, fault) in CUTS {
-        let cut = bytes.get(..length).ok_or("so many bytes are there")?;
-        if !is_refused(alloc, peer, before, cut, Refused::Malformed(fault))? {
+    let answer = peer.refusal_of(bytes, &SaysOk);
+    Ok(answer == Some(want) && shown(alloc, peer.world())?.as_slice() == before)
+}
+
+fn are_refused(
+    alloc: Global,
+    peer: &mut Peer,
+    before: &[u8],
+    all: &[Changed],
+) -> Result<bool, Failed> {
+    for changed in all {
+        if !is_refused(
+            alloc,
+            peer,
+            before,
+            changed.bytes.as_slice(),
+            changed.refused,
+        )? {
             return Ok(false);
         }
     }
     Ok(true)
 }
 
-fn refuses_longer(
-    alloc: Global,
-    peer: &mut Peer,
-    before: &[u8],
-    bytes: &[u8],
-) -> Result<bool, Failed> {
-    let longer = [bytes, b"\0"].concat(alloc)?;
-    let trailing = Refused::Malformed(BlockFault::TrailingBytes);
-    is_refused(alloc, peer, before, &longer, trailing)
-}
-
 fn refuses_changed(alloc: Global, peer: &mut Peer, bytes: &[u8]) -> Result<bool, Failed> {
     let before = shown(alloc, peer.world())?;
-    Ok(
-        refuses_flips(alloc, peer, &before, bytes)?
-            && refuses_cuts(alloc, peer, &before, bytes)?
-            && refuses_longer(alloc, peer, &before, bytes)?,
-    )
+    let all = changed_bytes(alloc, bytes, peer.world().height())?;
+    are_refused(alloc, peer, &before, &all)
 }
 
 // Before every sixteenth block it is handed in changed.
@@ -140,7 +165,7 @@ fn is_chain_taken(alloc: Global) -> Result<bool, Failed> {
 }
 
 #[test]
-fn changed_bytes(rt: HostRuntime) -> Result<(), Failed> {
+fn between_blocks(rt: HostRuntime) -> Result<(), Failed> {
     assert!(rt; is_chain_taken(rt.alloc())?);
     Ok(())
 }

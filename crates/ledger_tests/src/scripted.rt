@@ -1,9 +1,9 @@
 //! A peer whose blocks are drafted from scripts.
 
-use crate::failed::Failed;
 use crate::fixture::{Peer, name};
 use block::{Header, decode_block};
 use drafts::draft;
+use failing::Failed;
 use key_book::KeyBook;
 use rules::Refused;
 use std::alloc::Global;

@@ -1,11 +1,11 @@
 //! Parts of a world as bytes, which tell one from another.
 
-use crate::failed::Failed;
 use crate::fixture::{key, name, policy_text, row_at};
 use chain_vectors::rows::rows;
 use chain_vectors::uses::uses;
-use chain_vectors::{Left, LeftRow, read_use};
-use rules::{HistoryEntry, Row};
+use chain_vectors::{Left, LeftRow, Used, read_use};
+use failing::Failed;
+use rules::{FirstUse, HistoryEntry, Row};
 use std::alloc::{AllocError, Global};
 use world::World;
 
@@ -36,6 +36,19 @@ fn show_wanted(wanted: &mut Vec<u8>, row: &Option<LeftRow>) -> Result<(), AllocE
     Ok(())
 }
 
+/// Whether the row that was found is the wanted one, or both are none.
+pub fn is_wanted_row(
+    alloc: Global,
+    found: Option<&Row>,
+    wanted: &Option<LeftRow>,
+) -> Result<bool, AllocError> {
+    let mut shown = Vec::new(alloc);
+    show_row(alloc, &mut shown, found)?;
+    let mut shown_wanted = Vec::new(alloc);
+    show_wanted(&mut shown_wanted, wanted)?;
+    Ok(shown.as_slice() == shown_wanted.as_slice())
+}
+
 // Whether the row is this one, or none.
 pub fn is_row(
     alloc: Global,
@@ -44,11 +57,8 @@ pub fn is_row(
     at: &[u8],
     row: &Option<LeftRow>,
 ) -> Result<bool, Failed> {
-    let mut shown = Vec::new(alloc);
-    show_row(alloc, &mut shown, row_at(alloc, world, namespace, at)?)?;
-    let mut wanted = Vec::new(alloc);
-    show_wanted(&mut wanted, row)?;
-    Ok(shown.as_slice() == wanted.as_slice())
+    let found = row_at(alloc, world, namespace, at)?;
+    Ok(is_wanted_row(alloc, found, row)?)
 }
 
 // As `Left::history` has it.
@@ -68,7 +78,20 @@ fn show_entry(shown: &mut Vec<u8>, entry: &HistoryEntry) -> Result<(), AllocErro
     Ok(())
 }
 
-pub fn show_history(
+/// Whether these entries are a history as `Left::history` has it.
+pub fn is_wanted_history(
+    alloc: Global,
+    entries: &[HistoryEntry],
+    wanted: &[u8],
+) -> Result<bool, AllocError> {
+    let mut shown = Vec::new(alloc);
+    for entry in entries {
+        show_entry(&mut shown, entry)?;
+    }
+    Ok(shown.as_slice() == wanted)
+}
+
+fn show_history(
     alloc: Global,
     shown: &mut Vec<u8>,
     world: &World,
@@ -80,6 +103,24 @@ pub fn show_history(
         show_entry(shown, entry)?;
     }
     Ok(())
+}
+
+/// Whether the history is the wanted one.
+pub fn is_history(alloc: Global, world: &World, left: &Left) -> Result<bool, Failed> {
+    let mut shown = Vec::new(alloc);
+    show_history(alloc, &mut shown, world, left)?;
+    Ok(shown.as_slice() == left.history)
+}
+
+/// Whether the first use that was found is the wanted one.
+pub fn is_wanted_use(found: Option<FirstUse>, wanted: Used) -> bool {
+    match found {
+        None => false,
+        Some(used) => {
+            (used.block, used.place, used.flag.number())
+                == (wanted.block, wanted.place, wanted.flag)
+        }
+    }
 }
 
 fn show_uses(shown: &mut Vec<u8>, world: &World) -> Result<(), AllocError> {

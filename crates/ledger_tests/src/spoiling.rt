@@ -1,9 +1,9 @@
 //! Transactions that no script drafts: bytes that spell none, or another channel, id or set under a good signature of the
 //! creator. They are drafted first, then changed and signed anew, and stand in the script as they are.
 
-use crate::failed::Failed;
 use crate::scripted::drafted;
 use block::decode_block;
+use failing::Failed;
 use key_book::KeyBook;
 use random_numbers::Random;
 use std::alloc::{AllocError, Global};

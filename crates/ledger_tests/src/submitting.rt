@@ -1,10 +1,10 @@
 //! Blocks that are handed in at once.
 
-use crate::failed::Failed;
 use crate::scripted::drafted;
 use block::{Header, decode_block};
 use channel::Channel;
 use commit::{Accepted, Ledger, Refused};
+use failing::Failed;
 use key_book::KeyBook;
 use std::alloc::Global;
 use values::Bytes;

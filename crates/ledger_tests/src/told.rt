@@ -1,5 +1,5 @@
-use crate::failed::Failed;
 use block::BlockFault;
+use failing::Failed;
 use rules::Refused;
 use std::alloc::{AllocError, Global};
 

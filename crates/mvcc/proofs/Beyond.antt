@@ -3,7 +3,7 @@ use Rattle.std.proofs.Common.{◌≡◌, ◌⊎◌, inl, inr, ℕ, zero, suc, �
 use Rattle.std.proofs.Math.ListN.{get_or-eq_default}
 use Rattle.std.proofs.lemmas.Bool.Decides.{leb_tells}
 use Rattle.transaction.specs.declared.transaction.Version.{Version}
-use Rattle.rules.specs.declared.flag.Flag.TheVariants.{BadPayload}
+use Rattle.rules.specs.declared.early_flag.EarlyFlag.TheVariants.{BadPayload}
 use Rattle.rules.specs.State.{StateKey, State, version_in}
 use Rattle.rules.specs.Candidate.{Candidate, flagged}
 use Rattle.rules.specs.Job.{Job, version_of, state_by, state_after}

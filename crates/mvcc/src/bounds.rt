@@ -1,42 +1,21 @@
 //! Which keys of a range are compared, and which are results.
 ghost use Rattle.std.specs.Prelude.{◌≡◌, None, IsTrue};
 ghost use Rattle.std.specs.List.{last_or};
-ghost use Rattle.std.specs.Ordering.{is_le};
 ghost use Rattle.std.specs.FinMap.{find};
 ghost use Rattle.values.specs.Order.{bytes_cmp};
-ghost use Rattle.rules.specs.Ranges.{is_below, is_within, is_up_to, is_compared, results_of};
+ghost use Rattle.rules.specs.Ranges.{is_up_to, is_compared, results_of};
 ghost use Rattle.rules.specs.ReadWriteSets.{has_results_in_form};
 ghost use Rattle.mvcc.specs.RangeChecks.{is_result};
 
+use block_steps::is_within;
 use std::cmp::Ordering;
 use transaction::{Range, Version};
-use values::{BoundRef, KeyRef};
+use values::KeyRef;
 
 fn order(key: &KeyRef<'_>, other: &KeyRef<'_>) -> Ordering
     ensures { result ≡ bytes_cmp key.now other.now }
 {
     key.as_slice().cmp(&other.as_slice())
-}
-
-fn is_from(start: &BoundRef<'_>, key: &KeyRef<'_>) -> bool
-    ensures { result ≡ is_le (bytes_cmp start.now key.now) }
-{
-    start.as_slice().cmp(&key.as_slice()).is_le()
-}
-
-/// Whether the key is before the end, which is no bound where it is empty.
-fn is_below(key: &KeyRef<'_>, end: &BoundRef<'_>) -> bool
-    ensures { result ≡ is_below key.now end.now }
-{
-    let end = end.as_slice();
-    end.is_empty() || key.as_slice().cmp(&end).is_lt()
-}
-
-/// From the start to before the end, which is no bound where it is empty.
-pub fn is_within(start: &BoundRef<'_>, end: &BoundRef<'_>, key: &KeyRef<'_>) -> bool
-    ensures { result ≡ is_within start.now end.now key.now }
-{
-    is_from(start, key) && is_below(key, end)
 }
 
 fn is_up_to_last(range: &Range<'_>, key: &KeyRef<'_>) -> bool

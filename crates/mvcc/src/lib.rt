@@ -11,7 +11,7 @@ mod reads;
 mod version;
 mod walk;
 
-pub use bounds::{is_compared, is_within, version_found};
+pub use bounds::{is_compared, version_found};
 pub use compared::compared_keys;
 pub use deciding::decide;
 pub use version::version_at;

@@ -5,7 +5,7 @@ ghost use Rattle.plain.specs.Keys.{keys_of};
 
 use crate::state_key::StateKey;
 use policy_eval::Signers;
-use rules::Flag;
+use rules::EarlyFlag;
 use transaction::Tx;
 
 /// A transaction whose flag the rules on the state decide.
@@ -22,6 +22,6 @@ pub(crate) struct OpenTx<'a> {
 /// What a transaction is before the rules on the state are asked.
 #[derive(Drop)]
 pub(crate) enum Candidate<'a> {
-    Flagged(Flag),
+    Flagged(EarlyFlag),
     Open(OpenTx<'a>),
 }

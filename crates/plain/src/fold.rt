@@ -140,7 +140,7 @@ impl<'a> Running<'a> {
         ensures flags { OnOk result (self.new.flags.items ≡ self.old.flags.items ++ next_flag definitions.now world.now.state self.old (seen candidate.now) ∷ []) }
     {
         let flag = match candidate {
-            Candidate::Flagged(flag) => *flag,
+            Candidate::Flagged(flag) => flag.flag(),
             Candidate::Open(open_tx) => self.take_open(
                 alloc,
                 definitions,

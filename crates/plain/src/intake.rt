@@ -19,7 +19,7 @@ use block_steps::{decoded_tx, origin_fault};
 use channel::Channel;
 use policy::Definitions;
 use policy_eval::{Verify, signers};
-use rules::Flag;
+use rules::EarlyFlag;
 use std::alloc::{AllocError, Global};
 use transaction::{Tx, TxId};
 use values::{NameRef, Slice};
@@ -63,14 +63,14 @@ fn checked<'a, V: Verify>(
     ensures { IfOk result (λ c. seen c ≡ candidate.flagged_or (candidate.content_fault channel.now used tx.entry) (candidate.opened tx.entry (signers_of (V.accepts verifier.now) tx.entry))) }
 {
     if used {
-        return Ok(Candidate::Flagged(Flag::DuplicateTxId));
+        return Ok(Candidate::Flagged(EarlyFlag::DuplicateTxId));
     }
     if !is_in_form(alloc, &tx)? {
-        return Ok(Candidate::Flagged(Flag::BadRwset));
+        return Ok(Candidate::Flagged(EarlyFlag::BadRwset));
     }
     let written = written_keys(alloc, &tx)?;
     if !is_all_defined(channel.definitions(), &tx.chaincode, written.as_slice()) {
-        return Ok(Candidate::Flagged(Flag::InvalidChaincode));
+        return Ok(Candidate::Flagged(EarlyFlag::InvalidChaincode));
     }
     let signers = signers(alloc, &tx, verifier)?;
     Ok(Candidate::Open(OpenTx {
@@ -118,7 +118,7 @@ fn place_of<'a, V: Verify>(
 {
     let Some(tx) = decoded_tx(alloc, bytes)? else {
         return Ok(Place {
-            candidate: Candidate::Flagged(Flag::BadPayload),
+            candidate: Candidate::Flagged(EarlyFlag::BadPayload),
             id: None,
         });
     };

@@ -7,9 +7,10 @@ ghost use Rattle.rules.specs.ReadWriteSets.{has_results_in_form};
 ghost use Rattle.plain.specs.RangeChecks.{is_found, is_listed};
 ghost use Rattle.plain.specs.StateNow.{state_now};
 
-use crate::sets::{is_at_most, is_within};
+use crate::sets::is_at_most;
 use crate::state::StateNow;
 use crate::state_key::StateKey;
+use block_steps::is_within;
 use rules::Change;
 use transaction::{KeyVersion, Range};
 use values::{KeyRef, NameRef};

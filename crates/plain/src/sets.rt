@@ -1,5 +1,5 @@
 //! Whether read and write sets are in form.
-ghost use Rattle.std.specs.Prelude.{◌≡◌, map, List, ℕ, IfOk};
+ghost use Rattle.std.specs.Prelude.{◌≡◌, map, IfOk};
 ghost use Rattle.std.specs.List.{list_all, list_any};
 ghost use Rattle.std.specs.Ordering.{is_lt, is_le};
 ghost use Rattle.std.specs.Str.{bytes_eq};
@@ -8,10 +8,11 @@ ghost use Rattle.rules.specs.Ranges.{is_within};
 ghost use Rattle.rules.specs.ReadWriteSets.{are_distinct, has_results_in_form, has_policy_in_form, is_set_in_form, is_in_form};
 ghost use Rattle.plain.specs.Rising.{are_rising};
 
+use block_steps::{Labelled, is_within};
 use policy::{Policy, PolicyFault};
 use std::alloc::{AllocError, Global};
-use transaction::{KeyVersion, NsSet, PolicyWrite, Range, Read, Tx, Write};
-use values::{BoundRef, KeyRef};
+use transaction::{KeyVersion, NsSet, PolicyWrite, Range, Tx};
+use values::KeyRef;
 
 fn is_before(bytes: &[u8], others: &[u8]) -> bool
     ensures { result ≡ is_lt (bytes_cmp bytes.now others.now) }
@@ -48,46 +49,6 @@ fn are_distinct(texts: &[&[u8]]) -> bool
     true
 }
 
-/// What has a name or a key, by which a list tells its items apart.
-trait Labelled {
-    ghost label: { Self → List ℕ };
-
-    fn label(&self) -> &[u8]
-        ensures { result.now ≡ label self.now };
-}
-
-impl Labelled for NsSet<'_> {
-    ghost label = { λ set. set.name };
-
-    fn label(&self) -> &[u8] {
-        self.name.as_slice()
-    }
-}
-
-impl Labelled for Read<'_> {
-    ghost label = { λ read. read.key };
-
-    fn label(&self) -> &[u8] {
-        self.key.as_slice()
-    }
-}
-
-impl Labelled for Write<'_> {
-    ghost label = { λ write. write.key };
-
-    fn label(&self) -> &[u8] {
-        self.key.as_slice()
-    }
-}
-
-impl Labelled for PolicyWrite<'_> {
-    ghost label = { λ write. write.key };
-
-    fn label(&self) -> &[u8] {
-        self.key.as_slice()
-    }
-}
-
 fn have_distinct_labels<T: Labelled>(alloc: Global, items: &[T]) -> Result<bool, AllocError>
     ensures { IfOk result (λ distinct. distinct ≡ are_distinct (map T.label items.now)) }
 {
@@ -96,15 +57,6 @@ fn have_distinct_labels<T: Labelled>(alloc: Global, items: &[T]) -> Result<bool,
         labels.push(item.label())?;
     }
     Ok(are_distinct(labels.as_slice()))
-}
-
-/// From the start to before the end, which is no bound where it is empty.
-pub(crate) fn is_within(start: &BoundRef<'_>, end: &BoundRef<'_>, key: &KeyRef<'_>) -> bool
-    ensures { result ≡ is_within start.now end.now key.now }
-{
-    let end = end.as_slice();
-    is_at_most(start.as_slice(), key.as_slice())
-        && (end.is_empty() || is_before(key.as_slice(), end))
 }
 
 fn are_rising(results: &[KeyVersion<'_>]) -> bool

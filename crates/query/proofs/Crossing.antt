@@ -6,18 +6,12 @@ use Rattle.atomic_table.proofs.shared.Shared.TheSendSync as steps
 use Rattle.left_right.proofs.part.Part.TheSendSync as part
 use Rattle.left_right.proofs.part.Deed.TheSendSync as deed
 use Rattle.logbook.proofs.word.Word.TheSendSync as word
-use Rattle.world.proofs.Crossing.{crossing, world_send, world_sync, delta_send, delta_sync}
+use Rattle.world.proofs.Crossing.{crossing, world_send, world_sync, in_ready_deltas}
 use Rattle.query.proofs.front.Front.TheSendSync as front
 use Rattle.query.specs.contracts.shown.Shown as shown
 use Rattle.query.specs.contracts.shown.Entry as entry
 use Rattle.query.specs.contracts.handle.QueryHandle as handle
 use Rattle.query.specs.contracts.publisher.Publisher as publisher
-use Rattle.policy.proofs.tree.Expression.TheLaws.TheKnot as knot
-use Rattle.policy.proofs.tree.Principal.TheSendSync as principal
-use Rattle.policy.specs.contracts.policy.Policy as policy
-use Rattle.rules.proofs.committed.CommittedBlock.TheSendSync as committed
-use Rattle.rules.proofs.delta.NewEntry.TheSendSync as new_entry
-use Rattle.rules.proofs.delta.NewUse.TheSendSync as new_use
 
 ruleset ends = (
   crossing,
@@ -34,12 +28,6 @@ ruleset ends = (
   word.the_send,
 )
 
-policy_send : IsSend policy.the_row
-policy_send = search (crossing, principal.the_send, knot.send-Expression) depth 40 fits 100000
-
-policy_sync : IsSync policy.the_row
-policy_sync = search (crossing, principal.the_sync, knot.sync-Expression) depth 40 fits 100000
-
 shown_send : IsSend shown.the_row
 shown_send = search (crossing, front.the_send, world_send) depth 40 fits 100000
 
@@ -47,7 +35,7 @@ shown_sync : IsSync shown.the_row
 shown_sync = search (crossing, front.the_sync, world_sync) depth 40 fits 100000
 
 entry_send : IsSend entry.the_row
-entry_send = search (crossing, front.the_send, policy_send, policy_sync, new_entry.the_send, new_entry.the_sync, new_use.the_send, committed.the_send, committed.the_sync) depth 40 fits 100000
+entry_send = search (crossing, front.the_send, in_ready_deltas) depth 40 fits 100000
 
 pub handle_send : IsSend handle.the_row
 handle_send = search (ends, shown_sync) depth 40 fits 100000

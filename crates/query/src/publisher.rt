@@ -15,7 +15,7 @@ use rules::Delta;
 use std::alloc::{AllocError, Global};
 use std::marker::Model;
 use std::sync::Wait;
-use world::World;
+use world::{ReadyDelta, World};
 
 /// Publishes blocks, each whole. It isn't `Drop`: `close` ends it.
 ///
@@ -129,8 +129,8 @@ impl Publisher {
 
     /// Publishes the next block, whole: from now on queries answer from the world after it.
     ///
-    /// An `Err` publishes nothing, and leaves the publisher failed. Costs the delta twice, once for each world. It waits for
-    /// queries that began before the publish before this one.
+    /// An `Err` publishes nothing, and leaves the publisher failed. Costs the delta twice, once for each world, and its batch once.
+    /// It waits for queries that began before the publish before this one.
     pub fn publish<R: Wait>(&mut self, rt: &R, delta: Delta) -> Result<Receipt, AllocError>
         requires linked { IsLinkedDelta (published_world self.old) delta }
         requires open { self.old.failed ≡ false }
@@ -144,12 +144,13 @@ impl Publisher {
         self.failed = true;
         let number = self.writer.published().world.height();
         let header_hash = delta.block.get().header_hash;
-        let flags = delta.block.get().flags.copy(self.alloc)?;
-        let Some(front) = self.front.with(&self.counter, &delta) else {
+        let ready = ReadyDelta::new(self.alloc, delta)?;
+        let flags = ready.delta().block.get().flags.copy(self.alloc)?;
+        let Some(front) = self.front.with(&self.counter, ready.delta()) else {
             return Err(AllocError);
         };
         let entry = Entry {
-            delta,
+            delta: ready,
             front: front.again(),
         };
         show(rt, &mut self.writer, entry)?;

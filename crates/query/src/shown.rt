@@ -7,9 +7,8 @@ use crossbeam_utils::rule::{Outcome, Protocol};
 use left_right::Absorb;
 use left_right::reader::{Reader, Reading};
 use left_right::writer::Writer;
-use rules::Delta;
 use std::alloc::AllocError;
-use world::World;
+use world::{ReadyDelta, World};
 
 /// A world, and the list of deltas that made it.
 #[derive(Drop)]
@@ -18,10 +17,10 @@ pub(crate) struct Shown {
     pub front: Front,
 }
 
-/// A delta, and the list that ends with it.
+/// A delta with its batch, and the list that ends with it.
 #[derive(Drop)]
 pub(crate) struct Entry {
-    pub delta: Delta,
+    pub delta: ReadyDelta,
     pub front: Front,
 }
 
@@ -41,9 +40,20 @@ impl Absorb<Entry> for Shown {
     ghost applied = { absorbed };
 
     fn absorb_first(&mut self, operation: &Entry, _other: &Shown) -> Result<(), AllocError> {
-        self.world.apply(&operation.delta)?;
+        self.world.apply_ready(&operation.delta)?;
         self.front = operation.front.again();
         Ok(())
+    }
+
+    fn absorb_second(&mut self, operation: Entry, _other: &Shown) -> Result<(), Entry> {
+        let Entry { delta, front } = operation;
+        match self.world.apply_or_return(delta) {
+            Ok(()) => {
+                self.front = front;
+                Ok(())
+            }
+            Err(delta) => Err(Entry { delta, front }),
+        }
     }
 }
 

@@ -1,6 +1,6 @@
 //! Whether answers are the same.
 
-use crate::failed::Failed;
+use failing::Failed;
 use query::Reply;
 use rules::{CommittedBlock, HistoryEntry, KeyedRow, Row};
 use std::alloc::{AllocError, Global};

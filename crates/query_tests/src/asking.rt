@@ -2,7 +2,7 @@
 
 use crate::alike::{is_of, is_same_block, is_same_entry, is_same_keyed_row, is_same_row};
 use crate::blocks::{bound, key, name};
-use crate::failed::{Failed, check};
+use failing::{Failed, check};
 use query::{QueryHandle, RangeRows, Reply};
 use rules::{CommittedBlock, HistoryEntry, Row};
 use std::alloc::{AllocError, Global};

@@ -1,11 +1,11 @@
 //! Blocks that scripts draft, one behind the other, and what each changes.
 ghost use Rattle.std.specs.Prelude.{◌+◌, ◌<◌, ◌^◌, IfOk, IfSome};
 
-use crate::failed::Failed;
 use block::{Header, decode_block};
 use channel::{Channel, ChannelFault};
 use commit::{Accepted, Ledger, Refused};
 use drafts::draft;
+use failing::Failed;
 use key_book::KeyBook;
 use rules::Delta;
 use std::alloc::Global;

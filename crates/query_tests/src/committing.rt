@@ -3,9 +3,9 @@
 
 use crate::asking::{check_blocks, check_key, check_range, check_use};
 use crate::blocks::{Drafter, configuration};
-use crate::failed::{Failed, check, is_alike};
 use crate::spoiling::spoiled;
 use commit::{Accepted, Committer, NotCommitted, OpenFault, QueryHandle, Receipt, Refused};
+use failing::{Failed, check, is_alike};
 use gates::{Gate, Open, Phase, Reverse};
 use key_book::KeyBook;
 use random_numbers::Random;

@@ -1,7 +1,6 @@
 //! At each height of the chain of 32 blocks each query answers what a world of its own answers.
 
 use crate::asking::{check_blocks, check_key, check_range, check_use};
-use crate::failed::Failed;
 use crate::publishing::publish_next;
 use chain_vectors::first_blocks::first_blocks;
 use chain_vectors::later_blocks::later_blocks;
@@ -10,6 +9,7 @@ use chain_vectors::uses::uses;
 use chain_vectors::{CHANNEL, Left, SaysOk, read_use};
 use channel::Channel;
 use commit::Ledger;
+use failing::Failed;
 use query::{Publisher, QueryHandle, open};
 use rules::Delta;
 use std::alloc::Global;

@@ -10,11 +10,17 @@ mod asking;
 #[cfg(test)]
 mod blocks;
 #[cfg(test)]
+mod closing;
+#[cfg(test)]
+mod committer_memory;
+#[cfg(test)]
 mod committing;
 #[cfg(test)]
-mod failed;
-#[cfg(test)]
 mod heights;
+#[cfg(test)]
+mod long_block;
+#[cfg(test)]
+mod many_rows;
 #[cfg(test)]
 mod memory;
 #[cfg(test)]

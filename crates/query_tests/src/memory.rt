@@ -1,10 +1,11 @@
-//! To be run with memory that is refused at any one allocation. A query then leaves its handle as it was, a publish leaves
-//! what is published, and its publisher failed. Where memory is refused to what a test does beside, it ends by `?`.
+//! To be tried with memory that is refused at any one allocation, by `bench/refused_memory.py`. A query then leaves its handle
+//! as it was, a publish leaves what is published, and its publisher failed. Where memory is refused to what a test does beside,
+//! it ends by `?`.
 
 use crate::asking::{check_block, check_height, check_key, check_range};
 use crate::blocks::{Drafter, key, name};
-use crate::failed::{Failed, is_alike};
 use crate::publishing::publish_next;
+use failing::{Failed, Outcome, begins, is_alike};
 use query::{OpenFault, Publisher, QueryHandle, Reply, open};
 use rules::{Delta, Row};
 use std::alloc::Global;
@@ -25,13 +26,18 @@ fn opened<R: Wait>(rt: &R, alloc: Global) -> Result<usize, OpenFault> {
     Ok(handles.len())
 }
 
+pub fn outcome_of_opening<R: Wait>(rt: &R, alloc: Global) -> Result<Outcome, Failed> {
+    begins(alloc)?;
+    match opened(rt, alloc) {
+        Ok(32) => Ok(Outcome::Done),
+        Err(OpenFault::Memory) if opened(rt, alloc)? == 32 => Ok(Outcome::MadeGood),
+        _ => Ok(Outcome::Wrong),
+    }
+}
+
 #[test]
 fn what_is_opened(rt: HostRuntime) -> Result<(), Failed> {
-    let count = match opened(&rt, rt.alloc()) {
-        Err(OpenFault::Memory) => opened(&rt, rt.alloc())?,
-        count => count?,
-    };
-    assert!(rt; count == 32);
+    assert!(rt; outcome_of_opening(&rt, rt.alloc())? == Outcome::Done);
     Ok(())
 }
 
@@ -61,22 +67,25 @@ fn are_at(handles: &mut Vec<QueryHandle>, height: u64, header_hash: Hash) -> Res
     Ok(true)
 }
 
-// Publishes the second block. Whether handles then answer from behind it or, where that failed, from behind the first.
-fn is_shown_whole<R: Wait>(
+// Publishes the second block. Handles then answer from behind it or, where that failed, from behind the first.
+fn outcome_of_publish<R: Wait>(
     rt: &R,
     alloc: Global,
     publisher: &mut Publisher,
     handles: &mut Vec<QueryHandle>,
     second: Delta,
     before: Hash,
-) -> Result<bool, Failed> {
+) -> Result<Outcome, Failed> {
     let after = second.block.get().header_hash;
-    match publish_next(rt, alloc, publisher, second) {
-        Ok(_receipt) => Ok(!publisher.failed() && are_at(handles, 2, after)?),
-        Err(_) if publisher.failed() => {
-            Ok(publisher.published().height() == 1 && are_at(handles, 1, before)?)
+    begins(alloc)?;
+    let published = publish_next(rt, alloc, publisher, second);
+    match (&published, publisher.failed()) {
+        (Ok(_), false) if are_at(handles, 2, after)? => Ok(Outcome::Done),
+        (Err(failed), true) if failed.is_memory() && are_at(handles, 1, before)? => {
+            Ok(Outcome::Stopped)
         }
-        Err(fault) => Err(fault),
+        (Err(failed), false) => Err(*failed),
+        _ => Ok(Outcome::Wrong),
     }
 }
 
@@ -92,41 +101,41 @@ fn publish_script<R: Wait>(
     Ok(())
 }
 
-fn is_second_shown_whole<R: Wait>(
+fn outcome_of_second<R: Wait>(
     rt: &R,
     alloc: Global,
     publisher: &mut Publisher,
     handles: &mut Vec<QueryHandle>,
     drafter: &mut Drafter,
-) -> Result<bool, Failed> {
+) -> Result<Outcome, Failed> {
     publish_script(rt, alloc, publisher, drafter, FIRST)?;
     let Some(before) = drafter.world().header_hash() else {
         return Err(Failed::Missing("a header hash"));
     };
     let second = drafter.next(SECOND)?;
-    is_shown_whole(rt, alloc, publisher, handles, second, before)
+    outcome_of_publish(rt, alloc, publisher, handles, second, before)
 }
 
-fn is_each_shown_whole<R: Wait>(
+fn outcome_of_both<R: Wait>(
     rt: &R,
     alloc: Global,
     publisher: &mut Publisher,
     handles: &mut Vec<QueryHandle>,
-) -> Result<bool, Failed> {
+) -> Result<Outcome, Failed> {
     let mut drafter = Drafter::open(alloc)?;
-    is_second_shown_whole(rt, alloc, publisher, handles, &mut drafter)
+    outcome_of_second(rt, alloc, publisher, handles, &mut drafter)
 }
 
-fn is_all_shown_whole<R: Wait>(rt: &R, alloc: Global) -> Result<bool, Failed> {
+pub fn outcome_of_publishing<R: Wait>(rt: &R, alloc: Global) -> Result<Outcome, Failed> {
     let (mut publisher, mut handles) = open(alloc, rt, World::new(alloc), World::new(alloc), 2)?;
-    let is_right = is_each_shown_whole(rt, alloc, &mut publisher, &mut handles);
+    let outcome = outcome_of_both(rt, alloc, &mut publisher, &mut handles);
     publisher.close(rt);
-    is_right
+    outcome
 }
 
 #[test]
 fn what_is_published(rt: HostRuntime) -> Result<(), Failed> {
-    assert!(rt; is_all_shown_whole(&rt, rt.alloc())?);
+    assert!(rt; outcome_of_publishing(&rt, rt.alloc())? == Outcome::Done);
     Ok(())
 }
 
@@ -139,53 +148,61 @@ fn check_alike(alloc: Global, handle: &mut QueryHandle, world: &World) -> Result
     check_block(alloc, handle, world, 1)
 }
 
-// Asks once more where memory was refused to a query.
-fn is_alike_at_last(
+// Asks once more where memory was refused to a query, or to what it is compared with.
+fn outcome_of_queries(
     alloc: Global,
     handle: &mut QueryHandle,
     world: &World,
-) -> Result<bool, Failed> {
-    let asked = match check_alike(alloc, handle, world) {
-        Err(Failed::QueryMemory) => check_alike(alloc, handle, world),
-        asked => asked,
-    };
-    is_alike(asked)
+) -> Result<Outcome, Failed> {
+    begins(alloc)?;
+    match check_alike(alloc, handle, world) {
+        Ok(()) => Ok(Outcome::Done),
+        Err(failed) if failed.is_memory() => {
+            let is_alike = is_alike(check_alike(alloc, handle, world))?;
+            Ok(if is_alike {
+                Outcome::MadeGood
+            } else {
+                Outcome::Wrong
+            })
+        }
+        Err(_) => Ok(Outcome::Wrong),
+    }
 }
 
-fn is_answered_behind_both<R: Wait>(
+fn outcome_behind_both<R: Wait>(
     rt: &R,
     alloc: Global,
     publisher: &mut Publisher,
     handles: &mut Vec<QueryHandle>,
     drafter: &mut Drafter,
-) -> Result<bool, Failed> {
+) -> Result<Outcome, Failed> {
     publish_script(rt, alloc, publisher, drafter, FIRST)?;
     publish_script(rt, alloc, publisher, drafter, SECOND)?;
     match handles.first_mut() {
-        Some(handle) => is_alike_at_last(alloc, handle, drafter.world()),
+        Some(handle) => outcome_of_queries(alloc, handle, drafter.world()),
         None => Err(Failed::Missing("a handle")),
     }
 }
 
-fn is_answered_at_last<R: Wait>(
+fn outcome_of_asking_by<R: Wait>(
     rt: &R,
     alloc: Global,
     publisher: &mut Publisher,
     handles: &mut Vec<QueryHandle>,
-) -> Result<bool, Failed> {
+) -> Result<Outcome, Failed> {
     let mut drafter = Drafter::open(alloc)?;
-    is_answered_behind_both(rt, alloc, publisher, handles, &mut drafter)
+    outcome_behind_both(rt, alloc, publisher, handles, &mut drafter)
 }
 
-fn is_all_answered_at_last<R: Wait>(rt: &R, alloc: Global) -> Result<bool, Failed> {
+pub fn outcome_of_asking<R: Wait>(rt: &R, alloc: Global) -> Result<Outcome, Failed> {
     let (mut publisher, mut handles) = open(alloc, rt, World::new(alloc), World::new(alloc), 1)?;
-    let is_right = is_answered_at_last(rt, alloc, &mut publisher, &mut handles);
+    let outcome = outcome_of_asking_by(rt, alloc, &mut publisher, &mut handles);
     publisher.close(rt);
-    is_right
+    outcome
 }
 
 #[test]
 fn what_is_answered(rt: HostRuntime) -> Result<(), Failed> {
-    assert!(rt; is_all_answered_at_last(&rt, rt.alloc())?);
+    assert!(rt; outcome_of_asking(&rt, rt.alloc())? == Outcome::Done);
     Ok(())
 }

@@ -2,9 +2,9 @@
 ghost use Rattle.std.specs.Prelude.{◌≡◌, IsTrue, IfOk};
 ghost use Rattle.rules.specs.Linked.{IsLinkedDelta};
 
-use crate::failed::Failed;
-use block_steps::{check_data_hash, check_place, decoded};
-use header_hash::{data_hash, header_hash};
+use block_steps::DecodedBlock;
+use failing::Failed;
+use header_hash::header_hash;
 use query::{Publisher, Receipt};
 use rules::Delta;
 use std::alloc::Global;
@@ -16,11 +16,10 @@ fn is_linked(alloc: Global, world: &World, delta: &Delta) -> Result<bool, Failed
     ensures { IfOk result (λ linked. IsTrue linked → IsLinkedDelta world.now delta.now) }
 {
     let kept = delta.block.get();
-    let block = decoded(alloc, kept.bytes.get().as_slice())?;
-    let data_hash = data_hash(block.txs.as_slice());
-    check_place(world.height(), world.header_hash(), &block)?;
-    check_data_hash(&block, data_hash)?;
-    Ok(kept.header_hash == header_hash(&block.header) && kept.flags.len() == block.txs.len())
+    let decoded = DecodedBlock::decode(alloc, kept.bytes.get().as_slice())?;
+    let placed = decoded.at_place(world.height(), world.header_hash())?;
+    let block = placed.linked()?;
+    Ok(kept.header_hash == header_hash(block.header()) && kept.flags.len() == block.txs().len())
 }
 
 /// Publishes the next block.

@@ -5,9 +5,9 @@ use crate::blocks::Drafter;
 use crate::committing::{
     BLOCKS, WORKERS, block_of_writes, check_published, is_same, next_block, opened,
 };
-use crate::failed::{Failed, check, is_alike};
 use crate::spoiling::spoiled;
 use commit::{Accepted, Committer, NotCommitted, QueryHandle, Receipt, Refused};
+use failing::{Failed, check, is_alike};
 use gates::{Gate, Phase};
 use random_numbers::Random;
 use std::alloc::Global;

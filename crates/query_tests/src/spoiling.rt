@@ -1,7 +1,7 @@
 //! Blocks that were spoiled on their way.
 
-use crate::failed::Failed;
 use block::{Block, Header, decode_block, encode_block};
+use failing::Failed;
 use header_hash::data_hash;
 use random_numbers::Random;
 use std::alloc::{AllocError, Global};

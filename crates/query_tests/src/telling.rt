@@ -4,8 +4,8 @@ ghost use Rattle.std.specs.Prelude.{◌≡◌, All};
 mod vectors;
 
 use crate::blocks::Drafter;
-use crate::failed::Failed;
 use crate::publishing::publish_next;
+use failing::Failed;
 use query::{Publisher, QueryHandle, Receipt, Reply, open};
 use rules::{CommittedBlock, Delta, Flag};
 use std::alloc::Global;

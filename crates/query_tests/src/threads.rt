@@ -2,9 +2,9 @@
 ghost use Rattle.std.specs.Prelude.{◌≡◌, All, IfOk, IfSome};
 
 use crate::blocks::{Drafter, configuration, key, name};
-use crate::failed::Failed;
 use commit::{Committer, QueryHandle, Receipt, Reply};
-use gates::Open;
+use failing::Failed;
+use gates::{Gate, Open};
 use key_book::KeyBook;
 use rules::Row;
 use std::alloc::{AllocError, Global};
@@ -136,16 +136,18 @@ fn read(alloc: Global, mut handle: QueryHandle, watched: &Watched) {
     }
 }
 
-fn submit_next<R: Threads + Wait + Sync>(
+/// Wants the block committed, and every verdict found by a worker.
+pub fn submit_next<R: Threads + Wait + Sync, G: Gate + Sync>(
     rt: &R,
     committer: &mut Committer,
     keys: &KeyBook,
     bytes: &[u8],
+    gate: &G,
 ) -> Result<Receipt, Failed>
     ensures book { committer.new.book ≡ committer.old.book }
     ensures receipt { IfOk result (λ r. r.front.book ≡ committer.old.book) }
 {
-    let Ok(receipt) = committer.submit(rt, bytes, keys, &Open) else {
+    let Ok(receipt) = committer.submit(rt, bytes, keys, gate) else {
         return Err(Failed::Missing("a receipt"));
     };
     if committer.gathered() != 0 {
@@ -166,7 +168,7 @@ fn submit_all<R: Threads + Wait + Sync>(
     let mut last = None;
     watched.wait_for_readers();
     for bytes in blocks {
-        last = Some(submit_next(rt, committer, keys, bytes.as_slice())?);
+        last = Some(submit_next(rt, committer, keys, bytes.as_slice(), &Open)?);
         watched.wait_for_reply();
     }
     Ok(last)

@@ -8,7 +8,7 @@ use Rattle.header_hash.specs.Hashes.{tx_id_of}
 use Rattle.policy_eval.specs.Accepts.{Accepts}
 use Rattle.policy_eval.specs.Signers.{signers_of}
 use Rattle.channel.specs.Configuration.{Configuration}
-use Rattle.rules.specs.declared.flag.Flag.TheVariants.{BadCreatorSignature, BadProposalTxId, TargetChainNotFound}
+use Rattle.rules.specs.declared.early_flag.EarlyFlag.TheVariants.{BadCreatorSignature, BadProposalTxId, TargetChainNotFound}
 use Rattle.rules.specs.declared.read_verdict.ReadVerdict.{ReadVerdict}
 use Rattle.rules.specs.declared.read_verdict.ReadVerdict.TheVariants.{Good, Stale, Phantom}
 use Rattle.rules.specs.ReadWriteSets.{is_in_form}

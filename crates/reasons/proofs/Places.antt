@@ -4,7 +4,7 @@ use Rattle.std.specs.Prelude.{option_to_list}
 use Rattle.transaction.specs.declared.transaction.Tx.{Tx}
 use Rattle.policy_eval.specs.Accepts.{Accepts}
 use Rattle.channel.specs.Configuration.{Configuration}
-use Rattle.rules.specs.declared.flag.Flag.TheVariants.{BadPayload, BadCreatorSignature, BadProposalTxId, DuplicateTxId, TargetChainNotFound, BadRwset, InvalidChaincode}
+use Rattle.rules.specs.declared.early_flag.EarlyFlag.TheVariants.{BadPayload, BadCreatorSignature, BadProposalTxId, DuplicateTxId, TargetChainNotFound, BadRwset, InvalidChaincode}
 use Rattle.rules.specs.FirstUses.{FirstUses}
 use Rattle.rules.specs.Candidate.{Candidate, flagged, first_failed, flagged_or, used_id, is_used, candidate_of, candidates_from}
 use Rattle.rules.proofs.Candidates.{ids_of}

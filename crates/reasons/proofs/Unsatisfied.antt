@@ -1,5 +1,5 @@
 -- The policy that an endorsement fault names isn't satisfied.
-use Rattle.std.proofs.Common.{◌≡◌, ℕ, Bool, true, false, not, ◌&&◌, ◌||◌, [], List, take, Option, Some, is_some, is_none, ◌⊎◌, inl, inr, refl, sym, ap, ◌∙◌}
+use Rattle.std.proofs.Common.{◌≡◌, ◌≢◌, ℕ, Bool, true, false, not, ◌&&◌, ◌||◌, [], List, take, Option, Some, is_some, is_none, ◌⊎◌, inl, inr, refl, sym, ap, ◌∙◌}
 use Rattle.std.specs.List.{list_all}
 use Rattle.std.specs.Str.{bytes_eq}
 use Rattle.std.specs.FinMap.{get}
@@ -12,10 +12,12 @@ use Rattle.policy_eval.specs.Accepts.{Accepts}
 use Rattle.policy_eval.specs.Evaluating.{is_satisfied}
 use Rattle.policy_eval.specs.Signers.{signers_of}
 use Rattle.channel.specs.Configuration.{Configuration}
-use Rattle.rules.specs.declared.flag.Flag.{Flag}
-use Rattle.rules.specs.declared.flag.Flag.TheVariants.{EndorsementPolicyFailure, BadCreatorSignature, BadProposalTxId, DuplicateTxId, TargetChainNotFound, BadRwset, InvalidChaincode}
+use Rattle.rules.specs.declared.flag.Flag.TheVariants.{EndorsementPolicyFailure}
+use Rattle.rules.specs.declared.early_flag.EarlyFlag.{EarlyFlag}
+use Rattle.rules.specs.declared.early_flag.EarlyFlag.TheVariants.{BadPayload, BadCreatorSignature, BadProposalTxId, DuplicateTxId, TargetChainNotFound, BadRwset, InvalidChaincode}
 use Rattle.rules.specs.declared.read_verdict.ReadVerdict.{ReadVerdict}
 use Rattle.rules.specs.declared.read_verdict.ReadVerdict.TheVariants.{Good, Stale, Phantom}
+use Rattle.rules.specs.Flags.{flag_of}
 use Rattle.rules.specs.State.{StateKey, policy_in, is_among}
 use Rattle.rules.specs.Effect.{written_keys}
 use Rattle.rules.specs.Endorsement.{meets, governing, may_write, has_writes, is_endorsed}
@@ -56,19 +58,24 @@ key_policy_fails j i tx signers namespace key owner policy there x =
 
 -- ---- the policy of the chaincode that is named
 
--- flags before the endorsement rule
-abbrev is_early : Flag → Bool
-is_early EndorsementPolicyFailure = false
-is_early _ = true
+-- no early flag is that of the endorsement rule
+early_is_another : (g : EarlyFlag) → flag_of g ≢ EndorsementPolicyFailure
+early_is_another BadPayload e = absurd cc
+early_is_another TargetChainNotFound e = absurd cc
+early_is_another BadCreatorSignature e = absurd cc
+early_is_another BadProposalTxId e = absurd cc
+early_is_another DuplicateTxId e = absurd cc
+early_is_another BadRwset e = absurd cc
+early_is_another InvalidChaincode e = absurd cc
 
 open_or_early : (a b c u f d : Bool) (tx : Tx) (signers : List Identity)
-    → (tested a b c u f d (opened tx signers) ≡ opened tx signers) ⊎ ((g : Flag) × (tested a b c u f d (opened tx signers) ≡ flagged g) × (is_early g ≡ true))
-open_or_early false b c u f d tx signers = inr (TargetChainNotFound, refl, refl)
-open_or_early true false c u f d tx signers = inr (BadCreatorSignature, refl, refl)
-open_or_early true true false u f d tx signers = inr (BadProposalTxId, refl, refl)
-open_or_early true true true true f d tx signers = inr (DuplicateTxId, refl, refl)
-open_or_early true true true false false d tx signers = inr (BadRwset, refl, refl)
-open_or_early true true true false true false tx signers = inr (InvalidChaincode, refl, refl)
+    → (tested a b c u f d (opened tx signers) ≡ opened tx signers) ⊎ ((g : EarlyFlag) × (tested a b c u f d (opened tx signers) ≡ flagged g))
+open_or_early false b c u f d tx signers = inr (TargetChainNotFound, refl)
+open_or_early true false c u f d tx signers = inr (BadCreatorSignature, refl)
+open_or_early true true false u f d tx signers = inr (BadProposalTxId, refl)
+open_or_early true true true true f d tx signers = inr (DuplicateTxId, refl)
+open_or_early true true true false false d tx signers = inr (BadRwset, refl)
+open_or_early true true true false true false tx signers = inr (InvalidChaincode, refl)
 open_or_early true true true false true true tx signers = inl refl
 
 module _ (channel : Configuration) (accepts : Accepts) (w : World) (txs : List (Option Tx)) (i : ℕ) (tx : Tx) (is : tx_at txs i ≡ Some tx) where
@@ -86,13 +93,10 @@ module _ (channel : Configuration) (accepts : Accepts) (w : World) (txs : List (
       here : candidate_at j i ≡ candidate_of channel accepts (used (Some tx)) (Some tx)
       here = candidate-at channel accepts w.first_uses [] txs i ∙ ap (λ (o : Option Tx). candidate_of channel accepts (used o) o) is
 
-      by : (candidate_of channel accepts (used (Some tx)) (Some tx) ≡ opened tx (signers_of accepts tx)) ⊎ ((g : Flag) × (candidate_of channel accepts (used (Some tx)) (Some tx) ≡ flagged g) × (is_early g ≡ true))
+      by : (candidate_of channel accepts (used (Some tx)) (Some tx) ≡ opened tx (signers_of accepts tx)) ⊎ ((g : EarlyFlag) × (candidate_of channel accepts (used (Some tx)) (Some tx) ≡ flagged g))
           → candidate_at j i ≡ opened tx (signers_of accepts tx)
       by (inl o) = here ∙ o
-      by (inr (g, o, early)) =
-          let late : g ≡ EndorsementPolicyFailure = sym (ap (λ (c : Candidate). flag_by c (endorsed j i) (reads j i (running j i).state)) (here ∙ o)) ∙ e in
-          let clash : true ≡ false = sym early ∙ ap is_early late in
-          absurd cc
+      by (inr (g, o)) = absurd (early_is_another g (sym (ap (λ (c : Candidate). flag_by c (endorsed j i) (reads j i (running j i).state)) (here ∙ o)) ∙ e))
 
   not_endorsed : (b : Bool) (v : ReadVerdict) → open_flag b v ≡ EndorsementPolicyFailure → b ≡ false
   not_endorsed false v e = refl

@@ -13,14 +13,12 @@ use Rattle.channel.specs.Configuration.{Configuration}
 use Rattle.rules.specs.declared.committed.CommittedBlock.{CommittedBlock}
 use Rattle.rules.specs.declared.delta.Delta.{Delta}
 use Rattle.rules.specs.declared.first_use.FirstUse.{FirstUse}
-use Rattle.rules.specs.declared.flag.Flag.{Flag}
-use Rattle.rules.specs.declared.flag.Flag.TheVariants.{Valid}
 use Rattle.rules.specs.declared.row.Row.{Row}
 use Rattle.rules.specs.Flags.{is_valid}
 use Rattle.rules.specs.State.{StateKey, State, ChangeOf, is_among, with_changes}
 use Rattle.rules.specs.History.{with_entries}
 use Rattle.rules.specs.FirstUses.{with_uses}
-use Rattle.rules.specs.Job.{Job, candidate_at, version_of, operated_by, changes_by}
+use Rattle.rules.specs.Job.{Job, candidate_at, version_of, changes_by}
 use Rattle.rules.specs.Fold.{running, flag, final_state, changes_to, entries_to}
 use Rattle.rules.specs.World.{World}
 use Rattle.rules.specs.Candidate.{used_id}
@@ -30,8 +28,6 @@ use Rattle.rules.specs.Linked.{IsLinked, IsLinkedDelta}
 use Rattle.rules.specs.Listings.{AreSingleChanges, AreNetChanges, new_uses, IsListing}
 use Rattle.rules.proofs.Keys.{key_cmp_total, key_cmp-IsAntisymmetric}
 use Rattle.rules.proofs.Changes.{with_changes-append, with_changes-none, each_to, get-with_changes}
-use Rattle.rules.proofs.PerKey.{row_under-still, row_under-first, get-state_under}
-use Rattle.rules.proofs.Bridge.{valid, state_under-valid}
 use Rattle.rules.proofs.IdUses.{with_uses-new}
 use Rattle.rules.proofs.BlockFlags.{length-flags}
 use Rattle.rules.proofs.Candidates.{length-candidates_from}
@@ -104,18 +100,6 @@ delta-is_committed channel accepts w txs kept d e = record {
 
 -- ---- lists of what a block changes
 
-valid_only : (f : Flag) → is_valid f ≡ true → f ≡ Valid
-valid_only Valid e = refl
-valid_only _ e = absurd cc
-
--- a key that no valid candidate writes has after the block what it had before
-row-unwritten : (j : Job) (k : StateKey) → ((i : ℕ) → i < length j.candidates → is_among k (operated_by (candidate_at j i)) ≡ true → valid j i ≡ false) → get (final_state j) k ≡ get j.state k
-row-unwritten j k none =
-    ap (λ (s : State). get s k) (sym (state_under-valid j (length j.candidates)))
-    ∙ get-state_under j (valid j) (length j.candidates) k
-    ∙ row_under-still j (valid j) k zero (length j.candidates) (omega arith) (λ h lo hi writes. none h hi writes)
-    ∙ row_under-first j (valid j) k
-
 map-map : {A B C : Type 0} (g : B → C) (f : A → B) (xs : List A) → map g (map f xs) ≡ map (λ x. g (f x)) xs
 map-map g f [] = refl
 map-map {A} {B} {C} g f (x ∷ xs) = ap (λ (l : List C). g (f x) ∷ l) (map-map g f xs)
@@ -129,13 +113,9 @@ net_changes-final_state j cs net =
     ks : List StateKey
     ks = map (λ c. c.0) cs
 
-    apart : (k : StateKey) → is_among k ks ≡ false → (i : ℕ) → i < length j.candidates → is_among k (operated_by (candidate_at j i)) ≡ true → (b : Bool) → valid j i ≡ b → b ≡ false
-    apart k none i lt writes true is = let wrong : true ≡ false = sym (net.keys i k lt (valid_only (flag j i) is) writes) ∙ none in absurd cc
-    apart k none i lt writes false is = refl
-
     by : (k : StateKey) (b : Bool) → is_among k ks ≡ b → cond b (get (final_state j) k) (get j.state k) ≡ get (final_state j) k
     by k true e = refl
-    by k false e = sym (row-unwritten j k (λ i lt writes. apart k e i lt writes (valid j i) refl))
+    by k false e = sym (net.keys k e)
 
 module _ (channel : Configuration) (accepts : Accepts) (w : World) (txs : List (Option Tx)) (kept : CommittedBlock) (d : Delta) where
   listed_changes : AreSingleChanges (job_of channel accepts w txs) (changes_in d.changes) ⊎ AreNetChanges (job_of channel accepts w txs) (changes_in d.changes)

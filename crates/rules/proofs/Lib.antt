@@ -21,5 +21,6 @@ pub mod Certainty
 pub mod Candidates
 pub mod OpenCandidates
 pub mod NewIds
+pub mod Numbers
 mod Worked
-mod rows
+pub mod rows

@@ -8,7 +8,7 @@ use Rattle.transaction.specs.declared.identity.Identity.{Identity}
 use Rattle.transaction.specs.declared.transaction.Tx.{Tx}
 use Rattle.policy_eval.specs.Accepts.{Accepts}
 use Rattle.channel.specs.Configuration.{Configuration}
-use Rattle.rules.specs.declared.flag.Flag.{Flag}
+use Rattle.rules.specs.declared.early_flag.EarlyFlag.{EarlyFlag}
 use Rattle.rules.specs.Candidate.{Candidate, opened, origin_fault, used_id, is_used, candidate_of, candidates_from}
 use Rattle.rules.specs.FirstUses.{FirstUses}
 use Rattle.rules.proofs.Booleans.{neither}
@@ -21,7 +21,7 @@ pub record IsNew (uses : FirstUses) (earlier : List (List ℕ)) (id : List ℕ) 
   pub place : list_any (bytes_eq id) earlier ≡ false
 
 module _ (channel : Configuration) (accepts : Accepts) (uses : FirstUses) where
-  used_once : (earlier : List (List ℕ)) (tx : Tx) (o : Option Flag) → o ≡ None → is_used uses earlier (if is_none o then Some tx.id else None) ≡ false → IsNew uses earlier tx.id
+  used_once : (earlier : List (List ℕ)) (tx : Tx) (o : Option EarlyFlag) → o ≡ None → is_used uses earlier (if is_none o then Some tx.id else None) ≡ false → IsNew uses earlier tx.id
   used_once earlier tx (Some f) e unused = absurd cc
   used_once earlier tx None e unused =
       let either = (neither (contains_key uses tx.id || list_any (bytes_eq tx.id) earlier) false unused).0 in

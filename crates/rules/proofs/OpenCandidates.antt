@@ -10,8 +10,8 @@ use Rattle.values.specs.Order.{bytes_cmp}
 use Rattle.policy_eval.specs.Accepts.{Accepts}
 use Rattle.policy_eval.specs.Signers.{signers_of}
 use Rattle.channel.specs.Configuration.{Configuration}
-use Rattle.rules.specs.declared.flag.Flag.{Flag}
-use Rattle.rules.specs.declared.flag.Flag.TheVariants.{DuplicateTxId, BadRwset, InvalidChaincode}
+use Rattle.rules.specs.declared.early_flag.EarlyFlag.{EarlyFlag}
+use Rattle.rules.specs.declared.early_flag.EarlyFlag.TheVariants.{DuplicateTxId, BadRwset, InvalidChaincode}
 use Rattle.rules.specs.Ranges.{results_of}
 use Rattle.rules.specs.ReadWriteSets.{has_results_in_form, is_set_in_form, is_in_form}
 use Rattle.rules.specs.Candidate.{opened, is_all_defined, origin_fault, content_fault, flagged_or, candidate_of}
@@ -55,7 +55,7 @@ pub record IsOpenOf (channel : Configuration) (accepts : Accepts) (used : Bool) 
 pub open_only_if : (channel : Configuration) (accepts : Accepts) (used : Bool) (tx t : Tx) (signers : List Identity) → candidate_of channel accepts used (Some tx) ≡ opened t signers → IsOpenOf channel accepts used tx t signers
 open_only_if channel accepts used tx t signers e = by (origin_fault channel accepts tx) refl (content_fault channel used tx) refl e
   where
-    by : (o : Option Flag) → origin_fault channel accepts tx ≡ o → (p : Option Flag) → content_fault channel used tx ≡ p
+    by : (o : Option EarlyFlag) → origin_fault channel accepts tx ≡ o → (p : Option EarlyFlag) → content_fault channel used tx ≡ p
         → flagged_or o (flagged_or p (opened tx (signers_of accepts tx))) ≡ opened t signers → IsOpenOf channel accepts used tx t signers
     by (Some f) eo p ep is = absurd cc
     by None eo (Some f) ep is = absurd cc

@@ -2,12 +2,13 @@
 use Rattle.std.proofs.Common.{◌≡◌, ℕ, zero, suc, Bool, true, false, Option, Some, None, List, [], ◌∷◌, map, get_or, set, ⊎_elim, inl, inr, refl, sym, ap, ◌∙◌, ◌⊎◌}
 use Rattle.std.specs.Prelude.{option_map}
 use Rattle.rules.specs.declared.flag.Flag.{Flag}
-use Rattle.rules.specs.declared.flag.Flag.TheVariants.{BadPayload}
+use Rattle.rules.specs.declared.early_flag.EarlyFlag.{EarlyFlag}
+use Rattle.rules.specs.declared.early_flag.EarlyFlag.TheVariants.{BadPayload}
 use Rattle.rules.specs.declared.read_verdict.ReadVerdict.{ReadVerdict}
 use Rattle.rules.specs.declared.read_verdict.ReadVerdict.TheVariants.{Good}
 use Rattle.rules.specs.declared.event.Event.{Event}
 use Rattle.rules.specs.declared.event.Event.TheVariants.{Endorse, Reads}
-use Rattle.rules.specs.Flags.{is_valid}
+use Rattle.rules.specs.Flags.{is_valid, flag_of}
 use Rattle.rules.specs.Candidate.{Candidate, flagged, opened}
 use Rattle.rules.specs.Job.{Job, candidate_at, reads, flag_by, endorsement_by}
 use Rattle.rules.specs.Fold.{running, endorsed, flag}
@@ -61,7 +62,7 @@ shows-endorse j i None b c shows (inl s) = shows-set_endorsement j b c i s.0 sho
 shows-endorse j i None b c shows (inr s) = rw s.1 shows
 
 -- where the endorsement is no the reads don't matter
-flag_by-false : (c : Candidate) (v w : ReadVerdict) → flag_by c false v ≡ flag_by c false w
+pub flag_by-false : (c : Candidate) (v w : ReadVerdict) → flag_by c false v ≡ flag_by c false w
 flag_by-false (flagged flag) v w = refl
 flag_by-false (opened tx signers) v w = refl
 
@@ -90,15 +91,15 @@ shows-run j (e ∷ es) b c shows r = shows-run j es r.0 c (shows-step j e b r.0 
 
 -- ---- the first board
 
-known-first_endorsement : (cs : List Candidate) (i : ℕ) (v : Bool) → known (map first_endorsement cs) i ≡ Some v → (f : Flag) × (get_or cs i (flagged BadPayload) ≡ flagged f) × (v ≡ false)
+known-first_endorsement : (cs : List Candidate) (i : ℕ) (v : Bool) → known (map first_endorsement cs) i ≡ Some v → (f : EarlyFlag) × (get_or cs i (flagged BadPayload) ≡ flagged f) × (v ≡ false)
 known-first_endorsement [] i v e = absurd cc
 known-first_endorsement (flagged f ∷ cs) zero v e = (f, refl, cc)
 known-first_endorsement (opened tx signers ∷ cs) zero v e = absurd cc
 known-first_endorsement (c ∷ cs) (suc i) v e = known-first_endorsement cs i v e
 
-known-first_flag : (cs : List Candidate) (i : ℕ) (f : Flag) → known (map first_flag cs) i ≡ Some f → get_or cs i (flagged BadPayload) ≡ flagged f
+known-first_flag : (cs : List Candidate) (i : ℕ) (f : Flag) → known (map first_flag cs) i ≡ Some f → (g : EarlyFlag) × (get_or cs i (flagged BadPayload) ≡ flagged g) × (flag_of g ≡ f)
 known-first_flag [] i f e = absurd cc
-known-first_flag (flagged g ∷ cs) zero f e = let same : g ≡ f = cc in ap flagged same
+known-first_flag (flagged g ∷ cs) zero f e = (g, refl, some_same (flag_of g) f e)
 known-first_flag (opened tx signers ∷ cs) zero f e = absurd cc
 known-first_flag (c ∷ cs) (suc i) f e = known-first_flag cs i f e
 
@@ -107,7 +108,9 @@ shows-first j = record {
   endorsements = λ i v e.
       let k = known-first_endorsement j.candidates i v e in
       k.2 ∙ ap (endorsement_by j.definitions j.state (running j i).touched) (sym k.1);
-  flags = λ i f e. ap (λ (c : Candidate). flag_by c (endorsed j i) (reads j i (running j i).state)) (sym (known-first_flag j.candidates i f e));
+  flags = λ i f e.
+      let k = known-first_flag j.candidates i f e in
+      sym k.2 ∙ ap (λ (c : Candidate). flag_by c (endorsed j i) (reads j i (running j i).state)) (sym k.1);
 }
 
 -- every list of events leads from the first board to boards that show the fold

@@ -11,25 +11,25 @@ use Rattle.policy.specs.Policies.{Policies}
 use Rattle.policy_eval.specs.Accepts.{Accepts}
 use Rattle.policy_eval.specs.Signers.{signers_of}
 use Rattle.channel.specs.Configuration.{Configuration}
-use Rattle.rules.specs.declared.flag.Flag.{Flag}
-use Rattle.rules.specs.declared.flag.Flag.TheVariants.{BadPayload, TargetChainNotFound, BadCreatorSignature, BadProposalTxId, DuplicateTxId, BadRwset, InvalidChaincode}
+use Rattle.rules.specs.declared.early_flag.EarlyFlag.{EarlyFlag}
+use Rattle.rules.specs.declared.early_flag.EarlyFlag.TheVariants.{BadPayload, TargetChainNotFound, BadCreatorSignature, BadProposalTxId, DuplicateTxId, BadRwset, InvalidChaincode}
 use Rattle.rules.specs.Effect.{written_keys}
 use Rattle.rules.specs.ReadWriteSets.{is_in_form}
 use Rattle.rules.specs.FirstUses.{FirstUses}
 
--- flagged before the rules on the state, with one of the flags of `candidate_of`, or open with its signers
+-- flagged before the rules on the state, or open with its signers
 pub data Candidate : Type 0 where
-  flagged : Flag → Candidate
+  flagged : EarlyFlag → Candidate
   opened : Tx → List Identity → Candidate
 
 -- the flag of the first test that fails
-abbrev pub first_failed : List (Bool × Flag) → Option Flag
+abbrev pub first_failed : List (Bool × EarlyFlag) → Option EarlyFlag
 first_failed [] = None
 first_failed (t ∷ ts) = if t.0 then first_failed ts else Some t.1
 
 -- Where it comes from: its channel, its creator's signature over all bytes before it, its id. A fault here leaves the id
 -- unused.
-abbrev pub origin_fault : Configuration → Accepts → Tx → Option Flag
+abbrev pub origin_fault : Configuration → Accepts → Tx → Option EarlyFlag
 origin_fault channel accepts tx = first_failed (
     (bytes_eq tx.channel channel.name, TargetChainNotFound)
     ∷ (accepts tx.creator (signed_bytes tx) tx.signature, BadCreatorSignature)
@@ -44,14 +44,14 @@ abbrev pub is_all_defined : Policies → Tx → Bool
 is_all_defined definitions tx = is_defined definitions tx.chaincode && list_all (λ k. is_defined definitions k.0) (written_keys tx)
 
 -- what it says: an id that is new, read and write sets in form, chaincodes that are defined
-abbrev pub content_fault : Configuration → Bool → Tx → Option Flag
+abbrev pub content_fault : Configuration → Bool → Tx → Option EarlyFlag
 content_fault channel used tx = first_failed (
     (not used, DuplicateTxId)
     ∷ (is_in_form tx, BadRwset)
     ∷ (is_all_defined channel.definitions tx, InvalidChaincode)
     ∷ [])
 
-abbrev pub flagged_or : Option Flag → Candidate → Candidate
+abbrev pub flagged_or : Option EarlyFlag → Candidate → Candidate
 flagged_or (Some flag) c = flagged flag
 flagged_or None c = c
 

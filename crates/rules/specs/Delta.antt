@@ -1,5 +1,8 @@
 -- The change of one block as plain data.
-use Rattle.std.specs.Prelude.{◌≡◌, ℕ, List, [], ◌∷◌, ◌++◌, map, Option, Some, None}
+use Rattle.std.specs.Prelude.{◌≡◌, ℕ, Bool, ◌||◌, IsTrue, List, [], ◌∷◌, ◌++◌, map, Option, Some, None, is_some}
+use Rattle.std.specs.FinMap.{get}
+use Rattle.std.specs.List.{list_all}
+use Rattle.std.specs.List.Sorted.{IsStrictlySortedBy}
 use Rattle.transaction.specs.declared.transaction.Tx.{Tx}
 use Rattle.policy_eval.specs.Accepts.{Accepts}
 use Rattle.channel.specs.Configuration.{Configuration}
@@ -12,7 +15,7 @@ use Rattle.rules.specs.declared.delta.Delta.{Delta}
 use Rattle.rules.specs.declared.first_use.FirstUse.{FirstUse}
 use Rattle.rules.specs.declared.history.HistoryEntry.{HistoryEntry}
 use Rattle.rules.specs.declared.row.Row.{Row}
-use Rattle.rules.specs.State.{StateKey, ChangeOf, with_changes}
+use Rattle.rules.specs.State.{StateKey, State, ChangeOf, key_cmp, with_changes}
 use Rattle.rules.specs.History.{with_entries}
 use Rattle.rules.specs.FirstUses.{with_uses}
 use Rattle.rules.specs.World.{World}
@@ -20,7 +23,7 @@ use Rattle.rules.specs.Commit.{committed}
 
 abbrev pub change_of : Change → ChangeOf Row
 change_of (Put r) = (r.0, Some r.1)
-change_of (Remove namespace key) = ((namespace, key), None)
+change_of (Remove key) = (key, None)
 
 abbrev pub changes_in : List Change → List (ChangeOf Row)
 changes_in cs = map change_of cs
@@ -30,6 +33,16 @@ entries_in es = map (λ e. (e.key, e.entry)) es
 
 abbrev pub uses_in : List NewUse → List (List ℕ × FirstUse)
 uses_in us = map (λ u. (u.id, u.first_use)) us
+
+-- the change puts a row, or removes one that is there
+abbrev pub is_real : State → ChangeOf Row → Bool
+is_real s c = is_some c.1 || is_some (get s c.0)
+
+-- Changes of a state that say no more than they must: one of a key, in the order of the keys, and none that removes a key which has
+-- no row.
+pub record AreRealChanges (s : State) (cs : List (ChangeOf Row)) : Type 0 where
+  pub rising : IsStrictlySortedBy key_cmp (map (λ c. c.0) cs)
+  pub real : IsTrue (list_all (is_real s) cs)
 
 -- the world with a delta applied
 abbrev pub applied : World → Delta → World

@@ -3,11 +3,13 @@ use Rattle.std.specs.Prelude.{ℕ, List, [], Bool, true, false, slice_index_or}
 use Rattle.transaction.specs.declared.transaction.Version.{Version}
 use Rattle.policy.specs.Policies.{Policies}
 use Rattle.rules.specs.declared.flag.Flag.{Flag}
-use Rattle.rules.specs.declared.flag.Flag.TheVariants.{Valid, BadPayload, EndorsementPolicyFailure, MvccReadConflict, PhantomReadConflict}
+use Rattle.rules.specs.declared.early_flag.EarlyFlag.TheVariants.{BadPayload}
+use Rattle.rules.specs.declared.flag.Flag.TheVariants.{Valid, EndorsementPolicyFailure, MvccReadConflict, PhantomReadConflict}
 use Rattle.rules.specs.declared.read_verdict.ReadVerdict.{ReadVerdict}
 use Rattle.rules.specs.declared.read_verdict.ReadVerdict.TheVariants.{Good, Stale, Phantom}
 use Rattle.rules.specs.declared.row.Row.{Row}
 use Rattle.rules.specs.declared.history.HistoryEntry.{HistoryEntry}
+use Rattle.rules.specs.Flags.{flag_of}
 use Rattle.rules.specs.State.{StateKey, State, ChangeOf, with_changes}
 use Rattle.rules.specs.Effect.{changes_of, policy_keys, written_keys}
 use Rattle.rules.specs.History.{entries_of}
@@ -71,7 +73,7 @@ open_flag false verdict = EndorsementPolicyFailure
 open_flag true verdict = read_flag verdict
 
 abbrev pub flag_by : Candidate → Bool → ReadVerdict → Flag
-flag_by (flagged flag) endorsed verdict = flag
+flag_by (flagged flag) endorsed verdict = flag_of flag
 flag_by (opened tx signers) endorsed verdict = open_flag endorsed verdict
 
 -- ---- candidate i

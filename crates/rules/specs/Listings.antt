@@ -1,5 +1,5 @@
 -- Ways to list what a block changes: its changes one by one or net, the uses of all its ids or of the new ones alone.
-use Rattle.std.specs.Prelude.{◌≡◌, ◌⊎◌, ℕ, ◌<◌, List, [], ◌∷◌, length, map, true, if◌then◌else◌, Option}
+use Rattle.std.specs.Prelude.{◌≡◌, ◌⊎◌, ℕ, List, [], ◌∷◌, length, map, false, if◌then◌else◌, Option}
 use Rattle.std.specs.FinMap.{get, contains_key, insert}
 use Rattle.transaction.specs.declared.transaction.Tx.{Tx}
 use Rattle.policy_eval.specs.Accepts.{Accepts}
@@ -7,13 +7,12 @@ use Rattle.channel.specs.Configuration.{Configuration}
 use Rattle.rules.specs.declared.committed.CommittedBlock.{CommittedBlock}
 use Rattle.rules.specs.declared.delta.Delta.{Delta}
 use Rattle.rules.specs.declared.first_use.FirstUse.{FirstUse}
-use Rattle.rules.specs.declared.flag.Flag.TheVariants.{Valid}
 use Rattle.rules.specs.declared.row.Row.{Row}
 use Rattle.rules.specs.State.{StateKey, ChangeOf, is_among}
 use Rattle.rules.specs.FirstUses.{FirstUses}
 use Rattle.rules.specs.Candidate.{used_id}
-use Rattle.rules.specs.Job.{Job, candidate_at, operated_by}
-use Rattle.rules.specs.Fold.{flag, final_state, changes_to, entries_to}
+use Rattle.rules.specs.Job.{Job}
+use Rattle.rules.specs.Fold.{final_state, changes_to, entries_to}
 use Rattle.rules.specs.World.{World}
 use Rattle.rules.specs.Commit.{job_of, uses_from}
 use Rattle.rules.specs.Delta.{changes_in, entries_in, uses_in}
@@ -22,10 +21,10 @@ use Rattle.rules.specs.Delta.{changes_in, entries_in, uses_in}
 abbrev pub AreSingleChanges : Job → List (ChangeOf Row) → Type 0
 AreSingleChanges j cs = cs ≡ changes_to j (length j.candidates)
 
--- for each key that a valid candidate writes, and for other keys at will, what it has after the block
+-- for each key that has something else after the block than before it, and for other keys at will, what it has after the block
 pub record AreNetChanges (j : Job) (cs : List (ChangeOf Row)) : Type 0 where
   pub rows : cs ≡ map (λ c. (c.0, get (final_state j) c.0)) cs
-  pub keys : (i : ℕ) (k : StateKey) → i < length j.candidates → flag j i ≡ Valid → is_among k (operated_by (candidate_at j i)) ≡ true → is_among k (map (λ c. c.0) cs) ≡ true
+  pub keys : (k : StateKey) → is_among k (map (λ c. c.0) cs) ≡ false → get (final_state j) k ≡ get j.state k
 
 -- the uses that count: of each id that has none yet, the first
 abbrev pub new_uses : FirstUses → List (List ℕ × FirstUse) → List (List ℕ × FirstUse)

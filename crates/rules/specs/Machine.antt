@@ -6,7 +6,7 @@ use Rattle.rules.specs.declared.read_verdict.ReadVerdict.{ReadVerdict}
 use Rattle.rules.specs.declared.read_verdict.ReadVerdict.TheVariants.{Good}
 use Rattle.rules.specs.declared.event.Event.{Event}
 use Rattle.rules.specs.declared.event.Event.TheVariants.{Endorse, Reads}
-use Rattle.rules.specs.Flags.{is_valid}
+use Rattle.rules.specs.Flags.{is_valid, flag_of}
 use Rattle.rules.specs.Candidate.{Candidate, flagged, opened}
 use Rattle.rules.specs.Job.{Job, candidate_at, flag_by}
 use Rattle.rules.specs.Fold.{endorsed, flag}
@@ -31,7 +31,7 @@ first_endorsement (flagged flag) = Some false
 first_endorsement (opened tx signers) = None
 
 abbrev pub first_flag : Candidate → Option Flag
-first_flag (flagged flag) = Some flag
+first_flag (flagged flag) = Some (flag_of flag)
 first_flag (opened tx signers) = None
 
 -- at first the cells of flagged candidates are known

@@ -8,15 +8,15 @@ use crate::history::HistoryEntry;
 use crate::kept_key::KeptKey;
 use crate::keyed_row::KeyedRow;
 use crate::row::Row;
-use std::alloc::{AllocError, Global};
+use std::alloc::AllocError;
 use transaction::TxId;
-use values::{Items, Key, KeyRef, Name, NameRef, Shared};
+use values::{Items, KeyRef, NameRef, Shared};
 
 /// What a key has from now on.
 #[derive(Drop)]
 pub enum Change {
     Put(Shared<KeyedRow>),
-    Remove(Name, Key),
+    Remove(KeptKey),
 }
 
 impl Change {
@@ -25,7 +25,7 @@ impl Change {
     {
         match self {
             Change::Put(row) => row.get().namespace(),
-            Change::Remove(namespace, _) => namespace.lend(),
+            Change::Remove(key) => key.namespace(),
         }
     }
 
@@ -34,7 +34,7 @@ impl Change {
     {
         match self {
             Change::Put(row) => row.get().key(),
-            Change::Remove(_, key) => key.lend(),
+            Change::Remove(key) => key.key(),
         }
     }
 
@@ -44,19 +44,17 @@ impl Change {
     {
         match self {
             Change::Put(row) => Some(row.get().row()),
-            Change::Remove(_, _) => None,
+            Change::Remove(_) => None,
         }
     }
 
-    /// The same change, with one more owner of its row. Takes memory for the key of a removal alone.
-    pub fn share(&self, alloc: Global) -> Result<Change, AllocError>
+    /// The same change, with one more owner of its row or key. Takes no memory, and is refused only to the 2^63rd owner.
+    pub fn share(&self) -> Result<Change, AllocError>
         ensures { IfOk result (λ shared. shared ≡ self.now) }
     {
         match self {
             Change::Put(row) => Ok(Change::Put(row.share()?)),
-            Change::Remove(namespace, key) => {
-                Ok(Change::Remove(namespace.copy(alloc)?, key.copy(alloc)?))
-            }
+            Change::Remove(key) => Ok(Change::Remove(key.share()?)),
         }
     }
 }

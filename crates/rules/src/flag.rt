@@ -1,5 +1,5 @@
 ghost use Rattle.std.specs.Prelude.{◌≡◌};
-ghost use Rattle.rules.specs.Flags.{number_of, is_valid};
+ghost use Rattle.rules.specs.Flags.{number_of, flag_numbered, is_valid};
 
 /// What validation says of a transaction: a name and number of Fabric's `peer.TxValidationCode`. They stand
 /// here by number, and are tested in the order that the definitions of candidates and of the fold give.
@@ -48,6 +48,26 @@ impl Flag {
             Flag::TargetChainNotFound => 14,
             Flag::BadRwset => 22,
             Flag::InvalidChaincode => 25,
+        }
+    }
+
+    /// The flag of a number, if it is that of one.
+    pub fn numbered(number: u64) -> Option<Flag>
+        ensures { result ≡ flag_numbered number }
+    {
+        match number {
+            0 => Some(Flag::Valid),
+            2 => Some(Flag::BadPayload),
+            4 => Some(Flag::BadCreatorSignature),
+            8 => Some(Flag::BadProposalTxId),
+            9 => Some(Flag::DuplicateTxId),
+            10 => Some(Flag::EndorsementPolicyFailure),
+            11 => Some(Flag::MvccReadConflict),
+            12 => Some(Flag::PhantomReadConflict),
+            14 => Some(Flag::TargetChainNotFound),
+            22 => Some(Flag::BadRwset),
+            25 => Some(Flag::InvalidChaincode),
+            _ => None,
         }
     }
 

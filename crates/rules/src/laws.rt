@@ -16,7 +16,7 @@ ghost use Rattle.rules.specs.declared.event.Event.TheVariants.{Endorse, Reads};
 ghost use Rattle.rules.specs.declared.flag.Flag.{Flag};
 ghost use Rattle.rules.specs.declared.flag.Flag.TheVariants.{Valid};
 ghost use Rattle.rules.specs.declared.read_verdict.ReadVerdict.{ReadVerdict};
-ghost use Rattle.rules.specs.Flags.{is_valid};
+ghost use Rattle.rules.specs.Flags.{number_of, flag_numbered, is_valid};
 ghost use Rattle.rules.specs.State.{StateKey};
 ghost use Rattle.rules.specs.Job.{Job, reads};
 ghost use Rattle.rules.specs.Fold.{running, endorsed, flag, changes_to, entries_to};
@@ -30,6 +30,12 @@ ghost use Rattle.rules.specs.Assignment.{state_under, endorsement_under, reads_u
 ghost use Rattle.rules.specs.Depends.{EndorsementDepends, ReadsDepend, VersionDepends};
 ghost use Rattle.rules.specs.Sure.{Sure};
 ghost use Rattle.rules.specs.Machine.{Board, known, first_board, full_board, checks_in_order, MachineStep, Run, ShowsFold};
+
+/// Laws, and no work: a flag has its number alone, and a number is that of one flag at most.
+pub fn numbers_tell_flags()
+    ensures back { (f : Flag) → flag_numbered (number_of f) ≡ Some f }
+    ensures only { (n : ℕ) (f : Flag) → flag_numbered n ≡ Some f → number_of f ≡ n }
+{}
 
 /// Laws, and no work: want of memory aside, a world and a string of bytes have one answer and one world after it.
 pub fn one_step()

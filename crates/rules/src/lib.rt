@@ -4,6 +4,7 @@
 mod answer;
 mod committed;
 mod delta;
+mod early_flag;
 mod event;
 mod first_use;
 mod flag;
@@ -17,6 +18,7 @@ mod row;
 pub use answer::{Accepted, Refused};
 pub use committed::CommittedBlock;
 pub use delta::{Change, Delta, NewEntry, NewUse};
+pub use early_flag::EarlyFlag;
 pub use event::Event;
 pub use first_use::FirstUse;
 pub use flag::Flag;
@@ -26,8 +28,9 @@ pub use keyed_row::KeyedRow;
 pub use laws::{
     a_block_is_its_delta, checks_decide_what_is_known, checks_in_order_know_everything,
     invalid_transactions_change_nothing, known_cells_stay, known_dependencies_make_sure,
-    linked_deltas_keep_linked_blocks, one_step, refused_bytes_change_nothing, runs_agree,
-    runs_exist, runs_show_the_fold, the_fold_is_an_assignment, what_a_block_changes_is_its_delta,
+    linked_deltas_keep_linked_blocks, numbers_tell_flags, one_step, refused_bytes_change_nothing,
+    runs_agree, runs_exist, runs_show_the_fold, the_fold_is_an_assignment,
+    what_a_block_changes_is_its_delta,
 };
 pub use read_verdict::ReadVerdict;
 pub use row::Row;

@@ -36,7 +36,23 @@ fn read_verdict(job: &Job<'_>, i: u32, board: &mut PlainBoard) -> ReadVerdict
     verdict
 }
 
-/// The verdicts of candidate i. A flagged one keeps its flag, and one that isn't endorsed has its reads unread.
+/// What the reads of candidate i find, where it is endorsed; else they aren't looked at.
+fn counted_reads(job: &Job<'_>, i: u32, is_endorsed: bool, board: &mut PlainBoard) -> ReadVerdict
+    requires place { i < length job.now.candidates }
+    requires board { length board.old ≡ length job.now.candidates }
+    requires shown { ShowsBefore job.now i (known_of board.old) }
+    ensures flag { rule.flag_by (rule.candidate_at job.now i) is_endorsed result
+        ≡ rule.flag_by (rule.candidate_at job.now i) is_endorsed (rule.reads job.now i (fold.running job.now i).state) }
+    ensures board { board.new ≡ board.old }
+{
+    if is_endorsed {
+        read_verdict(job, i, board)
+    } else {
+        ReadVerdict::Good
+    }
+}
+
+/// The verdicts of candidate i.
 fn cells(job: &Job<'_>, i: u32, board: &mut PlainBoard) -> (bool, Flag)
     requires place { i < length job.now.candidates }
     requires board { length board.old ≡ length job.now.candidates }
@@ -45,14 +61,9 @@ fn cells(job: &Job<'_>, i: u32, board: &mut PlainBoard) -> (bool, Flag)
     ensures flag { result.1 ≡ fold.flag job.now i }
     ensures board { board.new ≡ board.old }
 {
-    let endorsed = endorsed(job, i, board);
-    if let Some(flag) = job.flagged(i) {
-        return (endorsed, flag);
-    }
-    if !endorsed {
-        return (endorsed, Flag::EndorsementPolicyFailure);
-    }
-    (endorsed, read_verdict(job, i, board).flag())
+    let is_endorsed = endorsed(job, i, board);
+    let reads = counted_reads(job, i, is_endorsed, board);
+    (is_endorsed, job.flag(i, is_endorsed, reads))
 }
 
 /// The verdicts of a job's candidates and their flags, taken one by one in order. Costs what the two checks of each cost.

@@ -1,5 +1,5 @@
 //! Changes made in pages: all memory first, then moves alone.
-ghost use Rattle.std.specs.Prelude.{◌≡◌, ◌==◌, ◌<◌, ◌≤◌, ◌+◌, ◌-◌, [], ◌∷◌, ◌++◌, true, length, get_or, IfOk, OnOk, OnErr};
+ghost use Rattle.std.specs.Prelude.{◌≡◌, ◌==◌, ◌<◌, ◌≤◌, ◌+◌, ◌-◌, [], ◌∷◌, ◌++◌, true, length, get_or, IfOk, IfErr, OnOk};
 ghost use Rattle.std.specs.Vec.{vec_capacity};
 ghost use Rattle.state_db.specs.Edits.{edited};
 ghost use Rattle.state_db.specs.Need.{need, AreOpen, AreEmpty};
@@ -111,9 +111,13 @@ fn make_all(pages: &mut Vec<Page>, spare: &mut Vec<Page>, edits: Vec<Edit>)
         let head = edit.head();
         at = match edit.into_change() {
             Change::Put(row) => put(pages, spare, at, Slot::with_head(head, row)),
-            Change::Remove(namespace, key) => {
-                let wanted = Wanted::with_head(head, &namespace.lend(), key.as_slice());
-                remove(pages, at, &wanted)
+            Change::Remove(kept) => {
+                let key = kept.key();
+                remove(
+                    pages,
+                    at,
+                    &Wanted::with_head(head, &kept.namespace(), key.as_slice()),
+                )
             }
         };
     }
@@ -137,34 +141,62 @@ fn drop_empty_last(pages: &mut Vec<Page>)
     }
 }
 
-/// Makes edits in the order of their keys, or none.
+/// All the memory that edits may want: spare pages for those that are split, and room for these.
+fn stock_for(alloc: Global, pages: &mut Vec<Page>, edits: &[Edit]) -> Result<Vec<Page>, AllocError>
+    requires open { AreOpen pages.old.items }
+    requires edits { IsSorted edits.now }
+    ensures same { pages.new.items ≡ pages.old.items }
+    ensures empty { IfOk result (λ spare. AreEmpty spare.items) }
+    ensures stock { IfOk result (λ spare. need pages.new.items edits.now ≤ length spare.items) }
+    ensures room { IfOk result (λ spare. length pages.new.items + length spare.items ≤ vec_capacity pages.new) }
+{
+    let needed = pages_needed(pages.as_slice(), edits);
+    let spare = spare_pages(alloc, needed)?;
+    pages.reserve(needed)?;
+    Ok(spare)
+}
+
+/// Makes edits in the order of their keys; or none, and hands them back.
 pub(crate) fn edit_pages(
     alloc: Global,
     pages: &mut Vec<Page>,
     edits: Vec<Edit>,
-) -> Result<(), AllocError>
+) -> Result<(), Vec<Edit>>
     requires open { AreOpen pages.old.items }
     requires edits { IsSorted edits.items }
     ensures pages { OnOk result (ArePages pages.new.items) }
     ensures rows { OnOk result (joined pages.new.items ≡ edited (joined pages.old.items) edits.items) }
-    ensures err { OnErr result (pages.new.items ≡ pages.old.items) }
+    ensures err { IfErr result (λ back. (back.items ≡ edits.items) × (pages.new.items ≡ pages.old.items)) }
 {
-    let needed = pages_needed(pages.as_slice(), edits.as_slice());
-    let mut spare = spare_pages(alloc, needed)?;
-    pages.reserve(needed)?;
+    let Ok(mut spare) = stock_for(alloc, pages, edits.as_slice()) else {
+        return Err(edits);
+    };
     make_all(pages, &mut spare, edits);
     drop_empty_last(pages);
     Ok(())
 }
 
-/// The pages of edits in the order of their keys, where there were none.
-pub(crate) fn first_pages(alloc: Global, edits: Vec<Edit>) -> Result<Vec<Page>, AllocError>
-    requires { IsSorted edits.items }
-    ensures pages { IfOk result (λ pages. ArePages pages.items) }
-    ensures rows { IfOk result (λ pages. joined pages.items ≡ edited [] edits.items) }
+/// A page without rows.
+fn empty_page(alloc: Global) -> Result<Vec<Page>, AllocError>
+    ensures { IfOk result (λ pages. pages.items ≡ [] ∷ []) }
 {
     let mut pages = Vec::new(alloc);
     pages.push(Page::new(alloc)?)?;
-    edit_pages(alloc, &mut pages, edits)?;
     Ok(pages)
+}
+
+/// The pages of edits in the order of their keys, where there were none; or the edits, handed back.
+pub(crate) fn first_pages(alloc: Global, edits: Vec<Edit>) -> Result<Vec<Page>, Vec<Edit>>
+    requires { IsSorted edits.items }
+    ensures pages { IfOk result (λ pages. ArePages pages.items) }
+    ensures rows { IfOk result (λ pages. joined pages.items ≡ edited [] edits.items) }
+    ensures err { IfErr result (λ back. back.items ≡ edits.items) }
+{
+    let Ok(mut pages) = empty_page(alloc) else {
+        return Err(edits);
+    };
+    match edit_pages(alloc, &mut pages, edits) {
+        Ok(()) => Ok(pages),
+        Err(edits) => Err(edits),
+    }
 }

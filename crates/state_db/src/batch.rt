@@ -1,5 +1,5 @@
 ghost use Rattle.std.specs.Prelude.{◌≡◌, ◌≤◌, Some, None, length, IfOk, OnOk, OnErr};
-ghost use Rattle.std.specs.FinMap.{empty, entries, insert};
+ghost use Rattle.std.specs.FinMap.{empty, entries, from_sorted, insert};
 ghost use Rattle.std.specs.FinMap.Entries.{put};
 ghost use Rattle.rules.specs.State.{State, key_cmp, set_at};
 ghost use Rattle.rules.specs.Delta.{change_of};
@@ -78,13 +78,13 @@ fn put(edits: &mut Vec<Edit>, edit: Edit) -> Result<(), AllocError>
     Ok(())
 }
 
-/// The same edits, each with one more owner of its row.
+/// The same edits, each with one more owner of its row or key.
 fn shared(alloc: Global, edits: &[Edit]) -> Result<Vec<Edit>, AllocError>
     ensures { IfOk result (λ shared. shared.items ≡ edits.now) }
 {
     let mut shared = Vec::with_capacity(alloc, edits.len())?;
     for edit in edits {
-        shared.push(edit.share(alloc)?)?;
+        shared.push(edit.share()?)?;
     }
     Ok(shared)
 }
@@ -129,38 +129,49 @@ impl Batch {
         self.set(Change::Put(row))
     }
 
-    /// The key has no row from now on. Takes memory for the change.
+    /// The key has no row from now on. Takes memory for the key and the change.
     pub fn remove(&mut self, namespace: Name, key: Key) -> Result<(), AllocError>
         ensures ok { OnOk result (self.new ≡ insert self.old (namespace, key) None) }
         ensures err { OnErr result (self.new ≡ self.old) }
         ensures made { OnOk result ((s : State) → changed s self.new ≡ set_at (changed s self.old) (namespace, key) None) }
     {
-        self.set(Change::Remove(namespace, key))
+        let key = KeptKey::copied(self.alloc, &namespace.lend(), &key.lend())?;
+        self.set(Change::Remove(key))
     }
 
-    /// Makes a change of a delta, whose row has one owner more from then on. Takes memory for the change.
+    /// Makes a change of a delta, whose row or key has one owner more from then on. Takes memory for the change.
     pub fn add(&mut self, change: &Change) -> Result<(), AllocError>
         ensures ok { OnOk result (self.new ≡ insert self.old (change_of change.now).0 (change_of change.now).1) }
         ensures err { OnErr result (self.new ≡ self.old) }
         ensures made { OnOk result ((s : State) → changed s self.new ≡ set_at (changed s self.old) (change_of change.now).0 (change_of change.now).1) }
     {
-        let change = change.share(self.alloc)?;
-        self.set(change)
+        self.set(change.share()?)
+    }
+
+    /// The same changes, whose rows and keys have one owner more. Takes memory for the changes.
+    pub fn share(&self) -> Result<Batch, AllocError>
+        ensures { IfOk result (λ batch. batch ≡ self.now) }
+    {
+        Ok(Batch {
+            alloc: self.alloc,
+            edits: shared(self.alloc, self.edits.as_slice())?,
+        })
+    }
+
+    /// Of edits in the order of their keys.
+    pub(crate) fn of_edits(alloc: Global, edits: Vec<Edit>) -> Batch
+        requires { IsSorted edits.items }
+        ensures { result ≡ from_sorted edits.items }
+    {
+        Batch { alloc, edits }
     }
 
     /// Its edits in the order of their keys.
     pub(crate) fn into_edits(self) -> Vec<Edit>
         ensures edits { result.items ≡ entries self }
+        ensures whole { from_sorted result.items ≡ self }
         ensures sorted { IsSorted result.items }
     {
         self.edits
-    }
-
-    /// The same, each with one more owner of its row.
-    pub(crate) fn share(&self) -> Result<Vec<Edit>, AllocError>
-        ensures edits { IfOk result (λ edits. edits.items ≡ entries self.now) }
-        ensures sorted { IfOk result (λ edits. IsSorted edits.items) }
-    {
-        shared(self.alloc, self.edits.as_slice())
     }
 }

@@ -9,7 +9,7 @@ ghost use Rattle.state_db.specs.Search.{is_below};
 use crate::search::Ordered;
 use rules::Change;
 use state_keys::{Head, Wanted, head_of};
-use std::alloc::{AllocError, Global};
+use std::alloc::AllocError;
 use std::cmp::Ordering;
 use std::marker::Model;
 
@@ -69,17 +69,17 @@ impl Edit {
     {
         match &self.change {
             Change::Put(_) => 1,
-            Change::Remove(_, _) => 0,
+            Change::Remove(_) => 0,
         }
     }
 
-    /// The same edit, with one more owner of its row. Takes memory for the key of a removal alone.
-    pub fn share(&self, alloc: Global) -> Result<Edit, AllocError>
+    /// The same edit, with one more owner of its row or key. Takes no memory.
+    pub fn share(&self) -> Result<Edit, AllocError>
         ensures { IfOk result (λ shared. shared ≡ self.now) }
     {
         Ok(Edit {
             head: self.head,
-            change: self.change.share(alloc)?,
+            change: self.change.share()?,
         })
     }
 

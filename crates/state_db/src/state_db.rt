@@ -1,4 +1,4 @@
-ghost use Rattle.std.specs.Prelude.{◌≡◌, ◌≤◌, [], sum, length, IfSome, OnOk, OnErr, slice_get};
+ghost use Rattle.std.specs.Prelude.{◌≡◌, ◌≤◌, [], sum, length, IfErr, IfSome, OnOk, OnErr, slice_get};
 ghost use Rattle.std.specs.Option.{option_copied};
 ghost use Rattle.std.specs.FinMap.{get, empty, entries};
 ghost use Rattle.rules.specs.Ranges.{is_within, rows_where};
@@ -94,7 +94,7 @@ impl StateDb {
         ensures ok { OnOk result (self.new.state ≡ changed self.old.state batch.now) }
         ensures err { OnErr result (self.new ≡ self.old) }
     {
-        self.make(batch.share()?)
+        self.apply_owned(batch.share()?)
     }
 
     /// The same with a batch that is given away, whose rows need no further owner: memory is taken for pages alone.
@@ -102,14 +102,28 @@ impl StateDb {
         ensures ok { OnOk result (self.new.state ≡ changed self.old.state batch) }
         ensures err { OnErr result (self.new ≡ self.old) }
     {
-        self.make(batch.into_edits())
+        match self.apply_or_return(batch) {
+            Ok(()) => Ok(()),
+            Err(_) => Err(AllocError),
+        }
     }
 
-    /// Makes edits in the order of their keys, or none.
-    fn make(&mut self, edits: Vec<Edit>) -> Result<(), AllocError>
+    /// The same; where the changes can't be made, the batch comes back.
+    pub fn apply_or_return(&mut self, batch: Batch) -> Result<(), Batch>
+        ensures ok { OnOk result (self.new.state ≡ changed self.old.state batch) }
+        ensures err { IfErr result (λ back. (back ≡ batch) × (self.new ≡ self.old)) }
+    {
+        match self.make(batch.into_edits()) {
+            Ok(()) => Ok(()),
+            Err(edits) => Err(Batch::of_edits(self.alloc, edits)),
+        }
+    }
+
+    /// Makes edits in the order of their keys; or none, and hands them back.
+    fn make(&mut self, edits: Vec<Edit>) -> Result<(), Vec<Edit>>
         requires { IsSorted edits.items }
         ensures ok { OnOk result (self.new.state ≡ with_changes self.old.state edits.items) }
-        ensures err { OnErr result (self.new ≡ self.old) }
+        ensures err { IfErr result (λ back. (back.items ≡ edits.items) × (self.new ≡ self.old)) }
     {
         if self.pages.is_empty() {
             self.pages = first_pages(self.alloc, edits)?;

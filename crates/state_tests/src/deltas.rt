@@ -1,9 +1,9 @@
 //! Deltas: at random, noted as they are made, and one of 600 puts.
 
-use crate::failed::Failed;
 use crate::fixture::{key, name};
 use crate::noted::{IDS, KEYS, NAMESPACE, Noted, has_policy, id_of, key_of, use_at, version_of};
 use crate::pages::{numbered, row};
+use failing::Failed;
 use policy::Policy;
 use random_numbers::Random;
 use rules::{
@@ -59,10 +59,10 @@ fn policy(alloc: Global, number: u32) -> Result<Option<Shared<Policy>>, Failed> 
 fn change(alloc: Global, drawing: &mut Drawing, noted: &mut Noted) -> Result<Change, Failed> {
     let namespace = name(alloc, NAMESPACE)?;
     let at = drawing.key();
-    let key = key_of(alloc, at)?;
+    let key = KeptKey::copied(alloc, &namespace.lend(), &key_of(alloc, at)?.lend())?;
     if drawing.up_to(2) == 0 {
         noted.set(at, None);
-        return Ok(Change::Remove(namespace, key));
+        return Ok(Change::Remove(key));
     }
     let number = drawing.number();
     noted.set(at, Some(number));
@@ -71,7 +71,6 @@ fn change(alloc: Global, drawing: &mut Drawing, noted: &mut Noted) -> Result<Cha
         version: version_of(number),
         policy: policy(alloc, number)?,
     };
-    let key = KeptKey::copied(alloc, &namespace.lend(), &key.lend())?;
     let keyed = KeyedRow::new(key, row);
     Ok(Change::Put(Shared::new(alloc, keyed)?))
 }

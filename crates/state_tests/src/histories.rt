@@ -1,5 +1,5 @@
-use crate::failed::Failed;
 use crate::fixture::{key, name};
+use failing::Failed;
 use history_index::HistoryIndex;
 use rules::{HistoryEntry, KeptKey, NewEntry};
 use std::alloc::Global;

@@ -1,4 +1,4 @@
-use crate::failed::Failed;
+use failing::Failed;
 use rules::{FirstUse, Flag};
 use txid_index::TxIds;
 

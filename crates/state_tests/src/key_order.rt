@@ -1,7 +1,7 @@
 //! The order of keys, by their heads and beyond.
 
-use crate::failed::Failed;
 use crate::fixture::{key, name};
+use failing::Failed;
 use state_keys::StateKey;
 use std::alloc::Global;
 use std::cmp::Ordering;

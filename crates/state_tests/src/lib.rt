@@ -4,8 +4,6 @@
 #[cfg(test)]
 mod deltas;
 #[cfg(test)]
-mod failed;
-#[cfg(test)]
 mod fixture;
 #[cfg(test)]
 mod histories;

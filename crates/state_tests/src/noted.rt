@@ -1,7 +1,7 @@
 //! A world as plain lists, by the number of each key and id.
 
-use crate::failed::Failed;
 use crate::fixture::key;
+use failing::Failed;
 use rules::{FirstUse, Flag};
 use std::alloc::Global;
 use transaction::Version;

@@ -1,7 +1,7 @@
 //! Rows that are put, changed and deleted, and the pages that hold them.
 
-use crate::failed::Failed;
 use crate::fixture::{bound, key, name};
+use failing::{Failed, Outcome, begins};
 use rules::Row;
 use state_db::{Batch, Rows, StateDb};
 use std::alloc::Global;
@@ -64,7 +64,7 @@ fn without(alloc: Global, state: &mut StateDb, from: u32, to: u32) -> Result<(),
 fn sizes(alloc: Global, state: &StateDb) -> Result<Vec<usize>, Failed> {
     let mut sizes = Vec::new(alloc);
     for page in 0..state.pages() {
-        sizes.push(state.page_rows(page).ok_or("a page")?)?;
+        sizes.push(state.page_rows(page).ok_or(Failed::Missing("a page"))?)?;
     }
     Ok(sizes)
 }
@@ -269,7 +269,10 @@ fn the_last_row_deleted(rt: HostRuntime) -> Result<(), Failed> {
 #[test]
 fn page_of_one_row(rt: HostRuntime) -> Result<(), Failed> {
     let mut state = six_hundred(rt.alloc())?;
-    let first = state.page_rows(0).ok_or("a page")?.min(256) as u32;
+    let first = state
+        .page_rows(0)
+        .ok_or(Failed::Missing("a page"))?
+        .min(256) as u32;
     without(rt.alloc(), &mut state, 1, first)?;
     let before = sizes(rt.alloc(), &state)?;
     assert!(rt; before.first() == Some(&1));
@@ -363,20 +366,39 @@ fn long_common_beginnings(rt: HostRuntime) -> Result<(), Failed> {
     Ok(())
 }
 
-// To be run with memory that is refused at any one allocation of the second `apply`: then the state is as before, and
-// takes the same batch next. Where it is refused before or after, the test ends by `?`.
-#[test]
-fn refused_memory_changes_nothing(rt: HostRuntime) -> Result<(), Failed> {
-    let mut state = StateDb::new(rt.alloc());
-    // a full page, before which and behind which rows are put
-    let first = written(rt.alloc(), 100, 356)?;
-    state.apply(&first)?;
-    let batch = written(rt.alloc(), 0, 600)?;
-    if state.apply(&batch).is_err() {
-        assert!(rt; (state.pages(), state.page_rows(0)) == (1, Some(256)));
-        assert!(rt; are_all(rt.alloc(), &state, 100, 356)?);
-        state.apply(&batch)?;
+fn is_as_before(alloc: Global, state: &StateDb) -> Result<bool, Failed> {
+    Ok((state.pages(), state.page_rows(0)) == (1, Some(256)) && are_all(alloc, state, 100, 356)?)
+}
+
+fn outcome_of_apply(alloc: Global, state: &mut StateDb, batch: &Batch) -> Result<Outcome, Failed> {
+    begins(alloc)?;
+    let is_refused = state.apply(batch).is_err();
+    if is_refused {
+        if !is_as_before(alloc, state)? {
+            return Ok(Outcome::Wrong);
+        }
+        state.apply(batch)?;
     }
-    assert!(rt; are_all(rt.alloc(), &state, 0, 600)?);
+    match (is_refused, are_all(alloc, state, 0, 600)?) {
+        (false, true) => Ok(Outcome::Done),
+        (true, true) => Ok(Outcome::MadeGood),
+        (_, false) => Ok(Outcome::Wrong),
+    }
+}
+
+pub fn outcome(alloc: Global) -> Result<Outcome, Failed> {
+    let mut state = StateDb::new(alloc);
+    // a full page, before which and behind which rows are put
+    let first = written(alloc, 100, 356)?;
+    state.apply(&first)?;
+    let batch = written(alloc, 0, 600)?;
+    outcome_of_apply(alloc, &mut state, &batch)
+}
+
+// To be tried with memory that is refused at any one allocation of the second `apply`, by `bench/refused_memory.py`: then
+// the state is as before, and takes the same batch next. Where it is refused before or after, it ends by `?`.
+#[test]
+fn six_hundred_rows_in_a_batch(rt: HostRuntime) -> Result<(), Failed> {
+    assert!(rt; outcome(rt.alloc())? == Outcome::Done);
     Ok(())
 }

@@ -3,6 +3,7 @@ ghost use Rattle.std.specs.Prelude.{◌≡◌, ◌≤◌, ◌^◌, ℕ, List, So
 ghost use Rattle.std.specs.List.{list_any};
 ghost use Rattle.std.specs.Prelude.{option_to_list};
 ghost use Rattle.std.specs.Str.{bytes_eq};
+ghost use Rattle.block.specs.Limits.{max_txs};
 ghost use Rattle.transaction.specs.declared.transaction.Tx.{Tx};
 ghost use Rattle.policy_eval.specs.Accepts.{Accepts};
 ghost use Rattle.channel.specs.Configuration.{Configuration};
@@ -37,7 +38,7 @@ fn place_of(ids: &[Option<TxId>], id: &TxId) -> Option<usize>
 
 /// Where the id was used before place i: in a block before, or at a place of this one, whose ids these are.
 pub(crate) fn first_use(world: &World, ids: &[Option<TxId>], id: &TxId, i: usize) -> Option<IdUse>
-    requires few { length ids.now ≤ 4096 }
+    requires few { length ids.now ≤ max_txs }
     requires place { i ≤ length ids.now }
     ensures { (channel : Configuration) (accepts : Accepts) (txs : List (Option Tx)) → ids.now ≡ map (used_id channel accepts) txs
         → (first : use_of.IdUse) → IsFirstUse channel accepts world.now (take i txs) id.now first → result ≡ Some first }

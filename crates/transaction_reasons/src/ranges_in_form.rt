@@ -1,16 +1,17 @@
 //! Results of ranges that aren't in form.
 ghost use Rattle.std.specs.Prelude.{◌≡◌, not, map, find, option_map, IfOk};
 ghost use Rattle.std.specs.Option.{option_copied};
-ghost use Rattle.std.specs.Ordering.{is_le, is_lt};
+ghost use Rattle.std.specs.Ordering.{is_lt};
 ghost use Rattle.values.specs.Order.{bytes_cmp};
-ghost use Rattle.rules.specs.Ranges.{is_below, is_within};
+ghost use Rattle.rules.specs.Ranges.{is_within};
 ghost use Rattle.reasons.specs.First.{first_there};
 ghost use Rattle.reasons.specs.Form.{first_fallen, range_in, range_fault};
 
+use block_steps::is_within;
 use reasons::{FormFault, QueriedRange};
 use std::alloc::{AllocError, Global};
 use transaction::{KeyVersion, Range};
-use values::{BoundRef, Bytes, KeyRef, NameRef};
+use values::{Bytes, KeyRef, NameRef};
 
 /// The range of a namespace, copied. Linear in its bounds, and memory for them.
 pub fn queried_range(
@@ -45,32 +46,12 @@ fn first_fallen<'a>(results: &[KeyVersion<'a>]) -> Option<KeyRef<'a>>
     None
 }
 
-fn is_from(start: &BoundRef<'_>, key: &KeyRef<'_>) -> bool
-    ensures { result ≡ is_le (bytes_cmp start.now key.now) }
-{
-    start.as_slice().cmp(&key.as_slice()).is_le()
-}
-
-/// Whether the key is before the end, which is no bound where it is empty.
-fn is_below(key: &KeyRef<'_>, end: &BoundRef<'_>) -> bool
-    ensures { result ≡ is_below key.now end.now }
-{
-    let end = end.as_slice();
-    end.is_empty() || key.as_slice().cmp(&end).is_lt()
-}
-
-fn is_within(range: &Range<'_>, key: &KeyRef<'_>) -> bool
-    ensures { result ≡ is_within range.now.start range.now.end key.now }
-{
-    is_from(&range.start, key) && is_below(key, &range.end)
-}
-
 /// The key of the first result outside the range.
 fn first_outside<'a>(range: &Range<'a>) -> Option<KeyRef<'a>>
     ensures { result ≡ option_map (λ x. x.key) (find (λ x. not (is_within range.now.start range.now.end x.key)) range.now.results) }
 {
     for found in range.results.as_slice() {
-        if !is_within(range, &found.key) {
+        if !is_within(&range.start, &range.end, &found.key) {
             return Some(found.key.again());
         }
     }

@@ -6,7 +6,7 @@ ghost use Rattle.std.specs.Str.{bytes_eq};
 ghost use Rattle.reasons.specs.Form.{first_repeated};
 ghost use Rattle.transaction_reasons.specs.Labels.{HaveSameLabels};
 
-use candidates::Labelled;
+use block_steps::Labelled;
 use std::alloc::{AllocError, Global};
 use std::collections::HashSet;
 

@@ -1,7 +1,7 @@
 //! What checks of a job find.
 
-use crate::failed::Failed;
 use dependency::{NOT_VALIDATED, run_events};
+use failing::Failed;
 use key_chains::Job;
 use rules::Event;
 use std::alloc::Global;

@@ -1,13 +1,13 @@
 //! From a script to the job of its block.
 
-use crate::failed::Failed;
 use block::{Header, MAX_TXS, Previous, decode_block};
 use drafts::draft;
+use failing::Failed;
 use key_book::KeyBook;
 use key_chains::{Candidate, Job};
 use policy::{Definitions, Policy};
 use policy_eval::signers;
-use rules::{Flag, Row};
+use rules::{EarlyFlag, Row};
 use state_db::{Batch, StateDb};
 use std::alloc::{AllocError, Global};
 use transaction::{TxFault, Version, decode_tx};
@@ -32,14 +32,14 @@ pub struct RowCase<'a> {
 
 fn name(alloc: Global, bytes: &[u8]) -> Result<Name, Failed> {
     if !is_name(bytes) {
-        return Err(Failed("a name"));
+        return Err(Failed::Missing("a name"));
     }
     Ok(Name::from_slice(alloc, bytes)?)
 }
 
 fn key(alloc: Global, bytes: &[u8]) -> Result<Key, Failed> {
     if !is_key(bytes) {
-        return Err(Failed("a key"));
+        return Err(Failed::Missing("a key"));
     }
     Ok(Key::from_slice(alloc, bytes)?)
 }
@@ -166,7 +166,7 @@ fn candidate_of<'a>(
             let signers = signers(alloc, &tx, keys)?;
             Candidate::open(alloc, tx, signers, definitions)
         }
-        Err(TxFault::Form) => Ok(Candidate::Flagged(Flag::BadPayload)),
+        Err(TxFault::Form) => Ok(Candidate::Flagged(EarlyFlag::BadPayload)),
         Err(TxFault::Memory) => Err(AllocError),
     }
 }
@@ -226,7 +226,7 @@ impl Ground {
             self.block.as_slice(),
         )?;
         if candidates.as_slice().len() > MAX_TXS {
-            return Err(Failed("a job"));
+            return Err(Failed::Missing("a job"));
         }
         Ok(Job::build(alloc, BLOCK, &self.state, &self.definitions, candidates)?)
     }

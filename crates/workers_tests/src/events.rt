@@ -2,9 +2,9 @@
 
 use crate::asking::{Numbers, found, numbers};
 use crate::building::Ground;
-use crate::failed::Failed;
 use crate::rows::{BlockCase, flagged, readers_and_writers};
 use dependency::NOT_VALIDATED;
+use failing::Failed;
 use rules::Event;
 use std::alloc::Global;
 

@@ -11,8 +11,6 @@ mod desk;
 #[cfg(test)]
 mod events;
 #[cfg(test)]
-mod failed;
-#[cfg(test)]
 mod holding;
 #[cfg(test)]
 mod meeting;

@@ -3,9 +3,9 @@
 ghost use Rattle.std.specs.Prelude.{◌≤◌};
 
 use crate::building::{Ground, Keys};
-use crate::failed::Failed;
 use crate::holding::Late;
 use check_workers::{Checked, check_all};
+use failing::Failed;
 use gates::{Gate, Phase, Reverse};
 use key_chains::Job;
 use rules::Flag;
@@ -135,7 +135,7 @@ fn is_reversed<R: Threads + Wait + Sync>(
     workers: usize,
 ) -> Result<bool, Failed> {
     if workers < 1 || workers > 64 {
-        return Err(Failed("workers"));
+        return Err(Failed::Missing("workers"));
     }
     let gate = Reverse::new(alloc, 1000)?;
     is_chain_checked(rt, alloc, 1000, workers, &gate)

@@ -3,8 +3,8 @@
 ghost use Rattle.std.specs.Prelude.{◌≤◌};
 
 use crate::building::{Ground, RowCase};
-use crate::failed::Failed;
 use check_workers::{Checked, check_all};
+use failing::Failed;
 use key_chains::Job;
 use random_numbers::Random;
 use rules::Flag;

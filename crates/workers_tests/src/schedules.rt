@@ -2,9 +2,9 @@
 
 use crate::asking::{Numbers, TXS, found, numbers};
 use crate::building::Ground;
-use crate::failed::Failed;
 use crate::rows::{BlockCase, blocks};
 use dependency::NOT_VALIDATED;
+use failing::Failed;
 use key_chains::Job;
 use rules::Event;
 use std::alloc::Global;

@@ -23,8 +23,10 @@ use Rattle.rules.specs.contracts.delta.Delta as delta
 use Rattle.rules.specs.contracts.keyed_row.KeyedRow as keyed_row
 use Rattle.rules.specs.contracts.row.Row as row
 use Rattle.history_index.proofs.index.HistoryIndex.TheSendSync as history
+use Rattle.state_db.specs.contracts.edit.Edit as edit
 use Rattle.state_db.specs.contracts.state_db.StateDb as state
 use Rattle.txid_index.proofs.ids.TxIds.TheSendSync as ids
+use Rattle.world.specs.contracts.ready.ReadyDelta as ready
 use Rattle.world.specs.contracts.world.World as world
 
 pub ruleset crossing = (
@@ -85,7 +87,7 @@ world_send = search (crossing, state_send, history.the_send, ids.the_send, commi
 pub world_sync : IsSync world.the_row
 world_sync = search (crossing, state_sync, history.the_sync, ids.the_sync, committed.the_send, committed.the_sync) depth 40 fits 100000
 
-change_send : IsSend change.the_row
+pub change_send : IsSend change.the_row
 change_send = search (crossing, policy_send, policy_sync) depth 40 fits 100000
 
 change_sync : IsSync change.the_row
@@ -96,3 +98,18 @@ delta_send = search (crossing, change_send, new_entry.the_send, new_entry.the_sy
 
 pub delta_sync : IsSync delta.the_row
 delta_sync = search (crossing, change_sync, new_entry.the_send, new_entry.the_sync, new_use.the_sync, committed.the_send, committed.the_sync) depth 40 fits 100000
+
+pub edit_send : IsSend edit.the_row
+edit_send = search (crossing, policy_send, policy_sync) depth 40 fits 100000
+
+edit_sync : IsSync edit.the_row
+edit_sync = search (crossing, policy_send, policy_sync) depth 40 fits 100000
+
+-- what a delta with its batch is made of: the search takes a field's type apart once more, and then wants the parts
+pub ruleset in_ready_deltas = (change_send, edit_send, new_entry.the_send, new_entry.the_sync, new_use.the_send, committed.the_send, committed.the_sync)
+
+pub ready_delta_send : IsSend ready.the_row
+ready_delta_send = search (crossing, in_ready_deltas) depth 40 fits 100000
+
+pub ready_delta_sync : IsSync ready.the_row
+ready_delta_sync = search (crossing, change_sync, edit_sync, new_entry.the_send, new_entry.the_sync, new_use.the_sync, committed.the_send, committed.the_sync) depth 40 fits 100000

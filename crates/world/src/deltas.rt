@@ -1,4 +1,4 @@
-ghost use Rattle.std.specs.Prelude.{◌≡◌, ◌≤◌, length, IfOk};
+ghost use Rattle.std.specs.Prelude.{◌≡◌, ◌≤◌, ◌+◌, length, vec_len, vec_capacity, IfOk, OnOk};
 ghost use Rattle.rules.specs.State.{State, with_changes};
 ghost use Rattle.rules.specs.History.{with_entries};
 ghost use Rattle.rules.specs.FirstUses.{with_uses};
@@ -6,7 +6,7 @@ ghost use Rattle.rules.specs.Delta.{changes_in, entries_in, uses_in};
 ghost use Rattle.state_db.specs.Batch.{changed};
 
 use history_index::HistoryIndex;
-use rules::{Change, NewEntry, NewUse};
+use rules::{Change, CommittedBlock, Delta, NewEntry, NewUse};
 use state_db::Batch;
 use std::alloc::{AllocError, Global};
 use txid_index::TxIds;
@@ -35,6 +35,38 @@ pub(crate) fn share_entries(
         shared.push(entry.share()?)?;
     }
     Ok(shared)
+}
+
+/// What a world keeps of a delta, with one owner more.
+#[derive(Drop)]
+pub(crate) struct Kept {
+    pub(crate) entries: Vec<Shared<NewEntry>>,
+    pub(crate) block: Shared<CommittedBlock>,
+}
+
+/// Makes room for a delta, and shares what is kept of it. An `Err` changes nothing but the room.
+pub(crate) fn make_room(
+    alloc: Global,
+    history: &mut HistoryIndex,
+    ids: &mut TxIds,
+    blocks: &mut Vec<Shared<CommittedBlock>>,
+    delta: &Delta,
+) -> Result<Kept, AllocError>
+    ensures same { (history.new.history ≡ history.old.history) × (ids.new.uses ≡ ids.old.uses) × (blocks.new.items ≡ blocks.old.items) }
+    ensures entries { IfOk result (λ kept. kept.entries.items ≡ delta.now.entries) }
+    ensures block { IfOk result (λ kept. kept.block ≡ delta.now.block) }
+    ensures history { OnOk result (length delta.now.entries ≤ history.new.room) }
+    ensures ids { OnOk result (length delta.now.uses ≤ ids.new.room) }
+    ensures blocks { OnOk result (vec_len blocks.new + 1 ≤ vec_capacity blocks.new) }
+{
+    history.reserve(delta.entries.len())?;
+    ids.reserve(delta.uses.len())?;
+    blocks.reserve(1)?;
+    let block = delta.block.share()?;
+    Ok(Kept {
+        entries: share_entries(alloc, delta.entries.as_slice())?,
+        block,
+    })
 }
 
 /// Takes no memory.

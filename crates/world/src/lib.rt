@@ -4,7 +4,9 @@
 
 mod deltas;
 mod range;
+mod ready;
 mod world;
 
 pub use range::RangeAnswer;
+pub use ready::ReadyDelta;
 pub use world::World;

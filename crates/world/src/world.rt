@@ -1,15 +1,18 @@
-ghost use Rattle.std.specs.Prelude.{◌≡◌, [], map, IfOk, OnOk, OnErr};
+ghost use Rattle.std.specs.Prelude.{◌≡◌, [], map, IfOk, IfErr, OnOk, OnErr};
 ghost use Rattle.std.specs.Option.{option_copied};
-ghost use Rattle.rules.specs.Delta.{applied};
+ghost use Rattle.rules.specs.State.{State, with_changes};
+ghost use Rattle.rules.specs.Delta.{applied, changes_in};
 ghost use Rattle.rules.specs.World.{empty_world, height_of, last_header_hash};
 ghost use Rattle.rules.specs.Answers.{row_answer, range_answer, history_answer, first_use_answer, block_answer};
+ghost use Rattle.state_db.specs.Batch.{changed};
 ghost use Rattle.txid_index.specs.Marks.{marks};
 
-use crate::deltas::{add_entries, add_uses, batch_of, share_entries};
+use crate::deltas::{add_entries, add_uses, batch_of, make_room};
 use crate::range::{RangeAnswer, up_to};
+use crate::ready::ReadyDelta;
 use history_index::{Entries, HistoryIndex};
 use rules::{CommittedBlock, Delta, FirstUse, Row};
-use state_db::StateDb;
+use state_db::{Batch, StateDb};
 use std::alloc::{AllocError, Global};
 use std::marker::Model;
 use transaction::TxId;
@@ -138,18 +141,59 @@ impl World {
         ensures ok { OnOk result (self.new ≡ applied self.old delta.now) }
         ensures err { OnErr result (self.new ≡ self.old) }
     {
-        // all that may want memory
-        self.history.reserve(delta.entries.len())?;
-        self.ids.reserve(delta.uses.len())?;
-        self.blocks.reserve(1)?;
-        let block = delta.block.share()?;
-        let entries = share_entries(self.alloc, delta.entries.as_slice())?;
         let batch = batch_of(self.alloc, delta.changes.as_slice())?;
-        self.state.apply_owned(batch)?;
+        match self.make(delta, batch) {
+            Ok(()) => Ok(()),
+            Err(_) => Err(AllocError),
+        }
+    }
+
+    /// The same of a delta whose batch is made: it is shared, and neither sorted nor searched.
+    pub fn apply_ready(&mut self, ready: &ReadyDelta) -> Result<(), AllocError>
+        ensures ok { OnOk result (self.new ≡ applied self.old ready.now) }
+        ensures err { OnErr result (self.new ≡ self.old) }
+    {
+        let batch = ready.batch().share()?;
+        match self.make(ready.delta(), batch) {
+            Ok(()) => Ok(()),
+            Err(_) => Err(AllocError),
+        }
+    }
+
+    /// The same of one that is given away, whose batch needs no sharing. Where memory is refused it comes back.
+    pub fn apply_or_return(&mut self, ready: ReadyDelta) -> Result<(), ReadyDelta>
+        ensures ok { OnOk result (self.new ≡ applied self.old ready) }
+        ensures err { IfErr result (λ back. (back ≡ ready) × (self.new ≡ self.old)) }
+    {
+        let (delta, batch) = ready.into_parts();
+        match self.make(&delta, batch) {
+            Ok(()) => Ok(()),
+            Err(batch) => Err(ReadyDelta::of_parts(delta, batch)),
+        }
+    }
+
+    /// Applies a delta by its batch; or changes nothing, and hands the batch back.
+    fn make(&mut self, delta: &Delta, batch: Batch) -> Result<(), Batch>
+        requires { (s : State) → changed s batch ≡ with_changes s (changes_in delta.now.changes) }
+        ensures ok { OnOk result (self.new ≡ applied self.old delta.now) }
+        ensures err { IfErr result (λ back. (back ≡ batch) × (self.new ≡ self.old)) }
+    {
+        // all that may want memory
+        let room = make_room(
+            self.alloc,
+            &mut self.history,
+            &mut self.ids,
+            &mut self.blocks,
+            delta,
+        );
+        let Ok(kept) = room else {
+            return Err(batch);
+        };
+        self.state.apply_or_return(batch)?;
         // from here on nothing does
-        add_entries(&mut self.history, entries);
+        add_entries(&mut self.history, kept.entries);
         add_uses(&mut self.ids, delta.uses.as_slice());
-        self.blocks.push_reserved(block);
+        self.blocks.push_reserved(kept.block);
         Ok(())
     }
 }

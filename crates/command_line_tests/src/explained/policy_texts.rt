@@ -1,9 +1,9 @@
 //! Policies that are written and can't be read, each with one that can just be.
 
 use crate::explained::{drafted, expect_reasons_of, of_script};
-use crate::failed::Failed;
 use crate::fixture::CHANNEL;
 use crate::signatures::keys;
+use failing::Failed;
 use std::alloc::{AllocError, Global};
 
 // A gate inside so many others less one.

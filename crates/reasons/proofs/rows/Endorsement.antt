@@ -7,7 +7,8 @@ use Rattle.reasons.specs.declared.endorsement_fault.EndorsementFault.TheVariants
 use Rattle.reasons.specs.declared.policy_owner.PolicyOwner.TheVariants.{OfKey, OfChaincode}
 use Rattle.reasons.specs.First.{first_below}
 use Rattle.reasons.specs.Endorsement.{IsEndorsementFault}
-use Rattle.reasons.proofs.rows.Shared.{p0, either_peer, both_peers, chaincode, a, k, put, policy_put, over, writing, writing_policy, one, unendorsed, guarded_state, block_on, block_over}
+use Rattle.rules.proofs.rows.Shared.{p0, either_peer, both_peers, chaincode, a, k, put, policy_put, one, unendorsed, guarded_state, block_on, block_over}
+use Rattle.reasons.proofs.rows.Shared.{over, writing, writing_policy}
 use Rattle.reasons.proofs.rows.Looks.{looks}
 
 -- the key's policy is written by the second one; the first isn't endorsed, and the third comes too late
@@ -20,7 +21,7 @@ key_that_was_touched = (simp looks refl, simp looks refl)
 
 -- a and k, of which k has a policy of its own
 abbrev guarded : Job
-guarded = block_on guarded_state (one (writing (put a ∷ put k ∷ [])) ∷ unendorsed (writing (put a ∷ put k ∷ [])) ∷ [])
+guarded = block_on 1 guarded_state (one (writing (put a ∷ put k ∷ [])) ∷ unendorsed (writing (put a ∷ put k ∷ [])) ∷ [])
 
 pub policy_of_the_key : IsEndorsementFault guarded 0 (writing (put a ∷ put k ∷ [])) (p0 ∷ []) (Unsatisfied chaincode k OfKey both_peers (p0 ∷ []))
 unfolding running with_changes first_below

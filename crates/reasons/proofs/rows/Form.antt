@@ -9,7 +9,8 @@ use Rattle.reasons.specs.declared.key_list.KeyList.TheVariants.{Reads, Writes, P
 use Rattle.reasons.specs.declared.policy_text_fault.PolicyTextFault.TheVariants.{Syntax}
 use Rattle.reasons.specs.declared.queried_range.QueriedRange.{QueriedRange}
 use Rattle.reasons.specs.Form.{form_fault}
-use Rattle.reasons.proofs.rows.Shared.{chaincode, dd, zz, a, c, k, at, absent, found, put, deleted, policy_put, policy_removed, broken_text, set_of, over, tx, reading, scanning}
+use Rattle.rules.proofs.rows.Shared.{chaincode, dd, zz, a, c, k, at, absent, found, put, deleted, policy_put, policy_removed, broken_text, set_of}
+use Rattle.reasons.proofs.rows.Shared.{over, tx, reading, scanning}
 use Rattle.reasons.proofs.rows.Looks.{looks}
 
 -- ---- names and keys

@@ -10,7 +10,8 @@ use Rattle.reasons.specs.declared.id_use.IdUse.TheVariants.{Earlier, Here}
 use Rattle.reasons.specs.declared.reason.Reason.TheVariants.{OtherId, OtherChannel}
 use Rattle.reasons.specs.Identity.{IsFirstUse, first_undefined}
 use Rattle.reasons.specs.Reason.{Explains}
-use Rattle.reasons.proofs.rows.Shared.{chaincode, dd, zz, k, put, absent, set_of, over, channel, any, an_id, kept, writes_k}
+use Rattle.rules.proofs.rows.Shared.{chaincode, dd, zz, k, put, absent, set_of, channel, any, an_id, kept}
+use Rattle.reasons.proofs.rows.Shared.{over, writes_k}
 use Rattle.reasons.proofs.rows.Looks.{uses}
 
 abbrev elsewhere : Tx

@@ -12,7 +12,7 @@ use Rattle.rules.specs.declared.first_use.FirstUse.{FirstUse}
 use Rattle.rules.specs.FirstUses.{FirstUses}
 use Rattle.rules.specs.State.{StateKey, State, key_cmp, is_same_key}
 use Rattle.rules.proofs.Keys.{key_cmp_total, bytes_ties, key_ties}
-use Rattle.reasons.proofs.rows.Shared.{both_peers_read, broken_read}
+use Rattle.rules.proofs.rows.Shared.{both_peers_read, broken_read}
 
 -- ---- look-ups
 

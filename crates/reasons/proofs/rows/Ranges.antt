@@ -10,7 +10,8 @@ use Rattle.rules.specs.Job.{Job}
 use Rattle.rules.specs.Fold.{running}
 use Rattle.reasons.specs.declared.queried_range.QueriedRange.{QueriedRange}
 use Rattle.reasons.specs.Ranges.{IsPhantomKey}
-use Rattle.reasons.proofs.rows.Shared.{chaincode, a, c, at, put, found, set_of, over, writing, one, block_over}
+use Rattle.rules.proofs.rows.Shared.{chaincode, a, c, at, put, found, set_of, one, block_over}
+use Rattle.reasons.proofs.rows.Shared.{over, writing}
 use Rattle.reasons.proofs.Differences.{first_difference}
 use Rattle.reasons.proofs.rows.Looks.{scans}
 

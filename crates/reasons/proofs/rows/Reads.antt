@@ -9,7 +9,8 @@ use Rattle.rules.specs.Job.{Job}
 use Rattle.rules.specs.Fold.{running}
 use Rattle.reasons.specs.First.{last_below}
 use Rattle.reasons.specs.Reads.{IsStaleRead}
-use Rattle.reasons.proofs.rows.Shared.{chaincode, dd, zz, a, c, k, at, read_at, absent, put, deleted, policy_removed, set_of, over, tx, reading, writing, writing_policy, one, unendorsed, block_over}
+use Rattle.rules.proofs.rows.Shared.{chaincode, dd, zz, a, c, k, at, read_at, absent, put, deleted, policy_removed, set_of, one, unendorsed, block_over}
+use Rattle.reasons.proofs.rows.Shared.{over, tx, reading, writing, writing_policy}
 use Rattle.reasons.proofs.rows.Looks.{looks}
 
 abbrev reads_in : List ℕ → List Read → NsSet

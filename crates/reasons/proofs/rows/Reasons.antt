@@ -16,7 +16,8 @@ use Rattle.channel.specs.Configuration.{Configuration}
 use Rattle.reasons.specs.First.{first_below}
 use Rattle.reasons.specs.declared.endorsement_fault.EndorsementFault.TheVariants.{Unsatisfied}
 use Rattle.reasons.specs.declared.policy_owner.PolicyOwner.TheVariants.{OfChaincode}
-use Rattle.reasons.proofs.rows.Shared.{p0, q0, both_peers, chaincode, k, channel, any, writes_k}
+use Rattle.rules.proofs.rows.Shared.{p0, q0, both_peers, chaincode, k, channel, any}
+use Rattle.reasons.proofs.rows.Shared.{writes_k}
 use Rattle.reasons.proofs.rows.Looks.{uses}
 
 abbrev three : List (Option Tx)

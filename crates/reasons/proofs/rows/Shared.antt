@@ -1,134 +1,16 @@
--- What the worked rows are made of: identities, policies, transactions, candidates, and blocks over a state.
-use Rattle.std.proofs.Common.{◌≡◌, ℕ, true, List, [], ◌∷◌, map, Option, Some, None, Ok, Err, refl}
-use Rattle.std.specs.Prelude.{codes, replicate}
-use Rattle.std.specs.FinMap.{from_entries}
-use Rattle.transaction.specs.declared.identity.Role.TheVariants.{Peer}
-use Rattle.transaction.specs.declared.identity.Identity.{Identity}
-use Rattle.transaction.specs.declared.transaction.Version.{Version}
-use Rattle.transaction.specs.declared.transaction.Read.{Read}
-use Rattle.transaction.specs.declared.transaction.KeyVersion.{KeyVersion}
-use Rattle.transaction.specs.declared.transaction.Range.{Range}
-use Rattle.transaction.specs.declared.transaction.Write.{Write}
-use Rattle.transaction.specs.declared.transaction.PolicyWrite.{PolicyWrite}
+-- Transactions of the worked rows, which p0 endorses; the rest is that of the rules' own rows.
+use Rattle.std.proofs.Common.{List, [], ◌∷◌}
 use Rattle.transaction.specs.declared.transaction.NsSet.{NsSet}
+use Rattle.transaction.specs.declared.transaction.PolicyWrite.{PolicyWrite}
+use Rattle.transaction.specs.declared.transaction.Range.{Range}
+use Rattle.transaction.specs.declared.transaction.Read.{Read}
 use Rattle.transaction.specs.declared.transaction.Tx.{Tx}
-use Rattle.transaction.specs.Grammar.{identity_bytes}
-use Rattle.header_hash.specs.Hashes.{tx_id_of}
-use Rattle.policy.specs.declared.tree.PolicyRole.TheVariants as wanted
-use Rattle.policy.specs.Tree.{Tree, principal, gate, none, more}
-use Rattle.policy.specs.Fault.{syntax_fault}
-use Rattle.policy.specs.Policies.{Policies}
-use Rattle.policy.specs.Lexing.{front_at, quoted_at, principal_in, word_at, word_in}
-use Rattle.policy.specs.Reading.{policy_at, expression_by, gate_at, gate_by, members_by, head_at, opening_at, separator_at}
-use Rattle.policy_eval.specs.Accepts.{Accepts}
-use Rattle.channel.specs.Configuration.{Configuration}
-use Rattle.values.specs.Order.{bytes_cmp}
-use Rattle.rules.specs.declared.committed.CommittedBlock.{CommittedBlock}
-use Rattle.rules.specs.declared.row.Row.{Row}
-use Rattle.rules.specs.State.{State, key_cmp}
-use Rattle.rules.specs.Candidate.{Candidate, opened}
-use Rattle.rules.specs.Job.{Job}
+use Rattle.transaction.specs.declared.transaction.Write.{Write}
+use Rattle.rules.proofs.rows.Shared as rows
+use Rattle.rules.proofs.rows.Shared.{p0, chaincode, k, put, set_of, endorsed_by}
 
--- ---- identities and policies
-
-abbrev pub p0 : Identity
-p0 = record { org = codes "Org1"; role = Peer; label = codes "p0" }
-
--- of the other organization
-abbrev pub q0 : Identity
-q0 = record { org = codes "Org2"; role = Peer; label = codes "q0" }
-
-abbrev peer_of : List ℕ → Tree
-peer_of org = principal org wanted.Peer
-
-abbrev pub either_peer : Tree
-either_peer = gate 1 (more (peer_of (codes "Org1")) (more (peer_of (codes "Org2")) none))
-
-abbrev pub both_peers : Tree
-both_peers = gate 2 (more (peer_of (codes "Org1")) (more (peer_of (codes "Org2")) none))
-
-abbrev both_peers_text : List ℕ
-both_peers_text = codes "AND('Org1.peer','Org2.peer')"
-
--- the texts are read once
-pub both_peers_read : policy_at both_peers_text ≡ Ok both_peers
-unfolding policy_at expression_by gate_at gate_by members_by head_at opening_at separator_at front_at quoted_at principal_in word_at word_in
-both_peers_read = refl
-
-abbrev pub broken_text : List ℕ
-broken_text = codes "AND("
-
-pub broken_read : policy_at broken_text ≡ Err syntax_fault
-unfolding policy_at expression_by gate_at gate_by members_by head_at opening_at front_at word_at word_in
-broken_read = refl
-
--- ---- namespaces and keys
-
-abbrev pub chaincode : List ℕ
-chaincode = codes "cc"
-
--- two namespaces without a definition
-abbrev pub dd : List ℕ
-dd = codes "dd"
-
-abbrev pub zz : List ℕ
-zz = codes "zz"
-
-abbrev pub a : List ℕ
-a = codes "a"
-
-abbrev pub c : List ℕ
-c = codes "c"
-
-abbrev pub k : List ℕ
-k = codes "k"
-
--- ---- transactions of the chaincode cc
-
-abbrev pub at : ℕ → ℕ → Version
-at b i = record { block = b; tx = i }
-
-abbrev pub read_at : List ℕ → Version → Read
-read_at key v = record { key = key; version = Some v }
-
-abbrev pub absent : List ℕ → Read
-absent key = record { key = key; version = None }
-
-abbrev pub found : List ℕ → Version → KeyVersion
-found key v = record { key = key; version = v }
-
-abbrev pub put : List ℕ → Write
-put key = record { key = key; value = Some (codes "v") }
-
-abbrev pub deleted : List ℕ → Write
-deleted key = record { key = key; value = None }
-
--- both organizations from now on
-abbrev pub policy_put : List ℕ → PolicyWrite
-policy_put key = record { key = key; policy = Some both_peers_text }
-
-abbrev pub policy_removed : List ℕ → PolicyWrite
-policy_removed key = record { key = key; policy = None }
-
-abbrev pub set_of : List ℕ → List Read → List Range → List Write → List PolicyWrite → NsSet
-set_of name reads ranges writes policy_writes = record { name = name; reads = reads; ranges = ranges; writes = writes; policy_writes = policy_writes }
-
--- of no nonce and p0
-abbrev pub an_id : List ℕ
-an_id = tx_id_of [] (identity_bytes p0)
-
--- its id is that of its nonce and creator, and p0 endorses it
 abbrev pub over : List NsSet → Tx
-over sets = record {
-  channel = codes "ch";
-  id = an_id;
-  creator = p0;
-  nonce = [];
-  chaincode = chaincode;
-  namespaces = sets;
-  endorsements = record { endorser = p0; signature = [] } ∷ [];
-  signature = [];
-}
+over sets = endorsed_by (p0 ∷ []) (rows.over sets)
 
 abbrev pub tx : List Read → List Range → List Write → List PolicyWrite → Tx
 tx reads ranges writes policy_writes = over (set_of chaincode reads ranges writes policy_writes ∷ [])
@@ -147,44 +29,3 @@ writes_k = writing (put k ∷ [])
 
 abbrev pub writing_policy : PolicyWrite → Tx
 writing_policy w = tx [] [] [] (w ∷ [])
-
--- ---- candidates
-
-abbrev pub one : Tx → Candidate
-one t = opened t (p0 ∷ [])
-
-abbrev pub unendorsed : Tx → Candidate
-unendorsed t = opened t []
-
-abbrev pub any : Accepts
-any = λ _ _ _. true
-
-abbrev definitions : Policies
-definitions = from_entries {R = bytes_cmp} ((chaincode, either_peer) ∷ [])
-
-abbrev pub channel : Configuration
-channel = record { name = codes "ch"; definitions = definitions }
-
--- ---- blocks
-
-abbrev row_with : Option Tree → Row
-row_with policy = record { value = codes "v"; version = at 0 0; policy = policy }
-
--- these keys, written by transaction 0 of block 0
-abbrev state_with : List (List ℕ) → State
-state_with keys = from_entries {R = key_cmp} (map (λ key. ((chaincode, key), row_with None)) keys)
-
--- k has a policy that wants both organizations
-abbrev pub guarded_state : State
-guarded_state = from_entries {R = key_cmp} (((chaincode, k), row_with (Some both_peers)) ∷ [])
-
-abbrev pub block_on : State → List Candidate → Job
-block_on state candidates = record { number = 1; state = state; definitions = definitions; candidates = candidates }
-
--- block 1 over these keys
-abbrev pub block_over : List (List ℕ) → List Candidate → Job
-block_over keys candidates = block_on (state_with keys) candidates
-
--- any bytes and flags will do for a kept block
-abbrev pub kept : CommittedBlock
-kept = record { bytes = []; header_hash = replicate 32 1; flags = [] }

@@ -1,5 +1,6 @@
 -- Runs of the verdict machine.
 use Rattle.std.proofs.Common.{◌≡◌, true, false, [], ◌∷◌, Some, None, inl, inr, refl, arith}
+use Rattle.rules.specs.declared.early_flag.EarlyFlag.TheVariants as early
 use Rattle.rules.specs.declared.flag.Flag.TheVariants.{Valid, BadPayload, DuplicateTxId}
 use Rattle.rules.specs.declared.read_verdict.ReadVerdict.TheVariants.{Good}
 use Rattle.rules.specs.declared.event.Event.TheVariants.{Endorse, Reads}
@@ -105,7 +106,7 @@ second_one_follows = (
 -- ---- flagged candidates
 
 -- are known before any check, their endorsements as no
-pub flagged_ones_are_known_at_first : first_board (block_over [] (flagged BadPayload ∷ one writes_k ∷ flagged DuplicateTxId ∷ [])) ≡ record {
+pub flagged_ones_are_known_at_first : first_board (block_over [] (flagged early.BadPayload ∷ one writes_k ∷ flagged early.DuplicateTxId ∷ [])) ≡ record {
   endorsements = Some false ∷ None ∷ Some false ∷ [];
   flags = Some BadPayload ∷ None ∷ Some DuplicateTxId ∷ [];
 }

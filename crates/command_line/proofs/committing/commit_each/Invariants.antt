@@ -1,8 +1,11 @@
-use Rattle.std.proofs.Common.{◌≡◌, IfSome}
+use Rattle.std.proofs.Common.{length}
+use Rattle.std.specs.Vec.Iter.{into_iter_items}
+use Rattle.key_book.specs.Book.{accepts}
+use Rattle.command_line.proofs.Handing.{AreHandedBefore}
 use Rattle.command_line.proofs.committing.commit_each.Given as goal
 
-abbrev pub invariant-loop : goal.invariant-loop
-invariant-loop g l = record {
-  book : l.committer.book ≡ l.fn.committer.book;
-  last : IfSome l.last (λ receipt. receipt.front.book ≡ l.fn.committer.book);
-}
+abbrev pub invariant-loop-alloc : goal.invariant-loop-alloc
+invariant-loop-alloc g l = AreHandedBefore (accepts l.keys) l.fn.committer l.fn.blocks.items (into_iter_items l.blocks) l.last l.committer
+
+abbrev pub decreases-loop-alloc : goal.decreases-loop-alloc
+decreases-loop-alloc g l = length (into_iter_items l.blocks)

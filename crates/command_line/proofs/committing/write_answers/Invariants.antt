@@ -1,10 +1,7 @@
-use Rattle.std.proofs.Common.{◌≡◌, IfOk, IfSome}
-use Rattle.std.specs.List.{All}
+use Rattle.std.proofs.Common.{◌≡◌}
 use Rattle.std.specs.Vec.Iter.{into_iter_items}
+use Rattle.command_line.specs.Handing.{last_receipt}
 use Rattle.command_line.proofs.committing.write_answers.Given as goal
 
 abbrev pub invariant-loop-answer : goal.invariant-loop-answer
-invariant-loop-answer g l = record {
-  last : IfSome l.last (λ receipt. receipt.front.book ≡ l.committer.book);
-  answers : All (λ answer. IfOk answer (λ receipt. receipt.front.book ≡ l.committer.book)) (into_iter_items l.answer-iterator);
-}
+invariant-loop-answer g l = last_receipt l.last (into_iter_items l.answer-iterator) ≡ last_receipt l.fn.last l.fn.answers.items

@@ -7,9 +7,8 @@ use Rattle.commit.proofs.prepared.take_in_ahead.Goals as goal
 
 pub returns-in-Err-clause-ahead : goal.returns-in-Err-clause-ahead
 returns-in-Err-clause-ahead g c =
-    let channel = c.args.channel.now in
-    let accepts = g.V.Verify.accepts c.args.verifier.now in
+    let channel = c.args.means.now.channel.now in
+    let accepts = g.V.Verify.accepts c.args.means.now.verifier.now in
     let blocks = c.args.blocks.now in
-    let hashed = into_iter_items c.none.result.hashed in
     let taken = all_taken (into_iter_items c.none.result.lists) in
-    subst (λ hs. Waits channel accepts blocks hs hashed taken) (sym c.none.ensures) (none_waits channel accepts blocks hashed taken)
+    subst (λ waiting. Waits channel accepts blocks waiting taken) (sym c.none.ensures) (none_waits channel accepts blocks taken)

@@ -1,12 +1,10 @@
 use Rattle.std.proofs.Common.{List, ℕ, ◌≡◌, ◌+◌, ◌<◌, ◌∷◌, ◌∙◌, length, drop, subst, sym, ap, get_or, arith}
-use Rattle.std.specs.Prelude.{IfSome}
 use Rattle.std.proofs.lemmas.List.{drop_more}
 use Rattle.channel.specs.Configuration.{Configuration}
 use Rattle.policy_eval.specs.Accepts.{Accepts}
 use Rattle.commit.specs.declared.prepared.Ahead.{Ahead}
-use Rattle.commit.specs.Committing.{Submits}
-use Rattle.commit.specs.Prepared.{IsTakenIn, IsAhead}
-use Rattle.commit.specs.Running.{committing}
+use Rattle.commit.specs.Prepared.{MayWait, IsAhead}
+use Rattle.commit.specs.Running.{committing, SubmitsTo}
 use Rattle.commit.proofs.Runs.{Runs-more}
 use Rattle.commit.proofs.running.commit_all.Goals as goal
 
@@ -17,17 +15,17 @@ first_of channel accepts blocks i item ahead lt at waits =
 
 pub commit_next-requires-after_bounds : goal.commit_next-requires-after_bounds
 commit_next-requires-after_bounds g c κs within w =
-    let channel = c.args.channel.now in
-    let accepts = g.V.Verify.accepts c.args.verifier.now in
+    let channel = c.args.means.now.channel.now in
+    let accepts = g.V.Verify.accepts c.args.means.now.verifier.now in
     let waits = first_of channel accepts c.args.blocks.now c.loop-bytes.bytes-index c.bytes-item.result c.loop-bytes.ahead (omega (arith, c.loop-bytes-test.true)) c.bytes-item.is c.loop-bytes.invariant.ahead in
-    subst (λ (b : List ℕ). IfSome c.next-next.result (IsTakenIn channel accepts w b)) (sym c.as_slice.ensures)
+    subst (λ (b : List ℕ). MayWait channel accepts w b c.next-next.result) (sym c.as_slice.ensures)
     (c.next-next.ensures.next channel accepts c.bytes-item.result (drop (c.loop-bytes.bytes-index + 1) c.args.blocks.now) waits w)
 
 pub loop-bytes-preserved : goal.loop-bytes-preserved
 loop-bytes-preserved g c =
     let before = c.loop-bytes.invariant in
-    let channel = c.args.channel.now in
-    let accepts = g.V.Verify.accepts c.args.verifier.now in
+    let channel = c.args.means.now.channel.now in
+    let accepts = g.V.Verify.accepts c.args.means.now.verifier.now in
     let blocks = c.args.blocks.now in
     let i = c.loop-bytes.bytes-index in
     let item = c.bytes-item.result in
@@ -36,7 +34,7 @@ loop-bytes-preserved g c =
     record {
       runs = λ old earlier so_far. Runs-more accepts old (committing channel c.loop-bytes.published) (committing channel c.commit_next.new.published) earlier blocks i item c.loop-bytes.answers.items c.push_reserved.new.self.items c.commit_next.result
           (omega (arith, lt)) c.bytes-item.is (before.runs old earlier so_far)
-          (subst (λ (b : List ℕ). Submits accepts (committing channel c.loop-bytes.published) b c.commit_next.result (committing channel c.commit_next.new.published)) c.as_slice.ensures c.commit_next.ensures)
+          (subst (λ (b : List ℕ). SubmitsTo channel accepts c.loop-bytes.published b c.commit_next.result c.commit_next.new.published) c.as_slice.ensures c.commit_next.ensures)
           c.push_reserved.ensures.items;
       ahead = c.next-next.ensures.behind channel accepts item (drop (i + 1) blocks) waits;
       count = omega (arith, before.count, c.push_reserved.ensures.len);

@@ -1,7 +1,6 @@
 use Rattle.std.proofs.Common.{◌≡◌, ◌≤◌, ◌-◌, length, take, drop, vec_len, vec_capacity}
-use Rattle.commit.specs.Committing.{Runs}
 use Rattle.commit.specs.Prepared.{IsAhead}
-use Rattle.commit.specs.Running.{committing}
+use Rattle.commit.specs.Running.{RunsTo}
 use Rattle.commit.proofs.running.run_all.Given as goal
 
 -- blocks up to a place are committed, and some behind it are taken in
@@ -9,8 +8,8 @@ abbrev pub invariant-loop-end : goal.invariant-loop-end
 invariant-loop-end g l = record {
   order : l.start ≤ l.end;
   within : l.end ≤ length l.blocks;
-  runs : Runs (g.V.Verify.accepts l.verifier) (committing l.channel l.fn.published) (take l.start l.blocks) l.answers.items (committing l.channel l.published);
-  ahead : IsAhead l.channel (g.V.Verify.accepts l.verifier) (take (l.end - l.start) (drop l.start l.blocks)) l.ahead;
+  runs : RunsTo l.means.channel.now (g.V.Verify.accepts l.means.verifier.now) l.fn.published (take l.start l.blocks) l.answers.items l.published;
+  ahead : IsAhead l.means.channel.now (g.V.Verify.accepts l.means.verifier.now) (take (l.end - l.start) (drop l.start l.blocks)) l.ahead;
   count : vec_len l.answers ≡ l.start;
   room : length l.blocks ≤ vec_capacity l.answers;
 }

@@ -5,7 +5,7 @@ use Rattle.rules.specs.declared.event.Event.TheVariants.{Endorse}
 use Rattle.rules.specs.Machine.{first_board, Run}
 use Rattle.dependency.specs.Rows.{board_of}
 use Rattle.dependency.proofs.Beginning.{first_rows}
-use Rattle.dependency.proofs.Reaching.{run_more, run_counts, run_reaches}
+use Rattle.dependency.proofs.Reaching.{run_more, run_counts}
 use Rattle.rules.proofs.Sound.{runs_show}
 use Rattle.dependency.proofs.events.run_events.Goals as goal
 
@@ -13,7 +13,7 @@ pub loop-event-init : goal.loop-event-init
 loop-event-init c = first_rows c.args.job.now c.in_ok-board.board c.in_ok-board.ensures
 
 pub check-requires : goal.check-requires
-check-requires c = run_reaches c.args.job.now (take c.loop-event.event-index c.args.events.now) c.loop-event.board c.loop-event.invariant
+check-requires c = run_counts c.args.job.now (take c.loop-event.event-index c.args.events.now) c.loop-event.board c.loop-event.invariant
 
 pub loop-event-preserved : goal.loop-event-preserved
 loop-event-preserved c =

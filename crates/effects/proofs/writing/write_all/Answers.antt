@@ -14,6 +14,7 @@ use Rattle.effects.proofs.writing.write_all.Goals as goal
 pub loop-place-init : goal.loop-place-init
 loop-place-init c = record {
   rows = λ s shows n k at. shows n k at ∙ ap (λ (t : State). get t k) (sym (with_writes-none (version_of c.args.job.now c.args.i) s));
+  real = λ h. h;
   count = refl;
   entries = sym (append-nil (entries_in c.args.entries.now.items));
 }
@@ -32,6 +33,7 @@ loop-place-preserved c = record {
       ∙ ap (λ (t : State). get t k)
       (next_written (record { block = c.number.result; tx = c.args.i }) v s ws c.as_slice-written-items.result.now c.loop-place.place c.written-item.result
       (λ m. record { block = c.number.ensures m; tx = c.args.i }) c.as_slice-written-items.ensures.value c.loop-place-test.true c.written-item.is);
+  real = λ h. c.in_ok-write_one.ensures.real (c.loop-place.invariant.real h);
   count = c.in_ok-write_one.ensures.count ∙ c.loop-place.invariant.count;
   entries =
       c.in_ok-write_one.ensures.entries ∙ ap (λ l. l ++ entry_written (record { block = c.number.result; tx = c.args.i }) c.args.open_tx.now.tx.id c.written-item.result) c.loop-place.invariant.entries

@@ -20,7 +20,7 @@ found_reasons-requires-clause-count g c =
     let accepts = g.V.Verify.accepts c.args.verifier.now in
     let b = c.in_ok-block.block in
     let taken = c.in_ok-block.ensures.is_taken.taken in
-    ap length c.as_slice-txs.ensures ∙ sym (length-map b.txs tx_of) ∙ sym (length-map (txs_of b) (used_id channel accepts))
+    ap length c.txs.ensures ∙ sym (length-map b.txs tx_of) ∙ sym (length-map (txs_of b) (used_id channel accepts))
     ∙ count-job channel accepts c.args.world.now b c.in_ok-job.job (map (used_id channel accepts) (txs_of b)) (c.in_ok-job.ensures.job accepts (txs_of b) taken) refl
 
 pub found_reasons-requires-clause-ids : goal.found_reasons-requires-clause-ids
@@ -39,7 +39,7 @@ there-requires g c =
     let b = c.in_ok-block.block in
     let taken = c.in_ok-block.ensures.is_taken.taken in
     IfOk-weaker c.found_reasons.result _ _
-    (λ x found. ap is_some (are_there channel accepts c.args.world.now b c.as_slice-txs.result.now c.in_ok-job.job c.as_slice.result.now c.as_slice-txs.ensures
+    (λ x found. ap is_some (are_there channel accepts c.args.world.now b c.txs.result.now c.in_ok-job.job c.as_slice.result.now c.txs.ensures
     (c.in_ok-job.ensures.job accepts (txs_of b) taken) (c.as_slice.ensures.value ∙ c.in_ok-job.ensures.ids accepts (txs_of b) taken) x found).1)
     c.found_reasons.ensures
 
@@ -56,7 +56,7 @@ returns g c =
       block = b;
       spelled = next.is_taken.spelled;
       linked = next.linked;
-      are_reasons = are_found channel accepts w b c.as_slice-txs.result.now c.in_ok-job.job c.as_slice.result.now c.as_slice-txs.ensures
+      are_reasons = are_found channel accepts w b c.txs.result.now c.in_ok-job.job c.as_slice.result.now c.txs.ensures
           (c.in_ok-job.ensures.job accepts (txs_of b) taken) (c.as_slice.ensures.value ∙ c.in_ok-job.ensures.ids accepts (txs_of b) taken) reasons (IfOk-at_ok _ is c.found_reasons.ensures);
     })
     (λ refused memory. subst (λ (r : Refused). IsRefused w c.args.bytes.now r) (sym memory) tt)

@@ -1,5 +1,6 @@
-use Rattle.std.proofs.Common.{sym, subst, refl, ◌∙◌}
+use Rattle.std.proofs.Common.{sym, subst, ◌∙◌}
 use Rattle.std.proofs.lemmas.Result.{MatchResult-weaker}
+use Rattle.block_steps.specs.OnItsWay.{bytes_of}
 use Rattle.rules.specs.declared.answer.Refused.{Refused}
 use Rattle.rules.specs.Commit.{txs_of}
 use Rattle.rules.specs.Linked.{IsRefused}
@@ -29,6 +30,6 @@ returns g c =
     let next = c.in_ok-block.ensures in
     let taken = next.is_taken.taken in
     MatchResult-weaker c.delta_in_order.result c.delta_in_order.ensures
-    (λ d is. is_next channel accepts w bytes bytes b c.in_ok-job.job c.as_slice.result.now d refl next.is_taken.spelled next.linked
+    (λ d is. is_next channel accepts w bytes (bytes_of b) b c.in_ok-job.job c.as_slice.result.now d (sym next.is_taken.spelled.fields) next.is_taken.spelled next.linked
     (c.in_ok-job.ensures.job accepts (txs_of b) taken) (c.as_slice.ensures.value ∙ c.in_ok-job.ensures.ids accepts (txs_of b) taken) is)
     (λ refused memory. subst (λ (r : Refused). IsRefused w bytes r) (sym memory) tt)

@@ -51,7 +51,7 @@ pub loop-edit-preserved : goal.loop-edit-preserved
 loop-edit-preserved c =
     let rest = into_iter_items c.next.new.self in
     let e : ChangeOf Row = c.in-Some.edit in
-    let key : c.with_head-wanted.result ≡ e.0 = c.with_head-wanted.ensures ∙ (λ i. (c.lend.ensures i, c.as_slice.ensures.value i)) ∙ ap (λ (x : ChangeOf Row). x.0) c.in-Remove.ensures in
+    let key : c.with_head-in-Remove.result ≡ e.0 = c.with_head-in-Remove.ensures ∙ (λ i. (c.namespace.ensures i, (c.as_slice.ensures.value ∙ c.key-key.ensures) i)) ∙ ap (λ (x : ChangeOf Row). x.0) c.in-Remove.ensures in
     let sorted : IsSorted (e ∷ rest) = subst IsSorted c.in-Some.ensures.steps.0 c.loop-edit.invariant.sorted in
     record {
       rows = search rules;

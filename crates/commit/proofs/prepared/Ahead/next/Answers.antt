@@ -1,26 +1,22 @@
 use Rattle.std.proofs.Common.{sym, subst}
-use Rattle.std.proofs.lemmas.Result.{err_from_is_err_and}
 use Rattle.std.specs.Vec.Iter.{into_iter_items}
+use Rattle.block_steps.specs.OnItsWay.{IsDecoded}
+use Rattle.intake_workers.specs.Made.{block_in}
 use Rattle.intake_workers.specs.Pieces.{all_taken}
-use Rattle.commit.specs.Prepared.{IsDecoded, Waits}
+use Rattle.commit.specs.Prepared.{Waits}
 use Rattle.commit.proofs.Waiting.{none_waits, taken_out}
 use Rattle.commit.proofs.prepared.Ahead.next.Goals as goal
 
 pub returns-in_default-clause-behind : goal.returns-in_default-clause-behind
 returns-in_default-clause-behind c channel accepts bytes blocks ahead =
-    subst (λ hs. Waits channel accepts blocks hs (into_iter_items c.stop.new.self.hashed) (all_taken (into_iter_items c.stop.new.self.lists))) (sym c.stop.ensures.none) (none_waits channel accepts blocks _ _)
-
-pub returns-in_default-next-clause-behind : goal.returns-in_default-next-clause-behind
-returns-in_default-next-clause-behind c channel accepts bytes blocks ahead =
-    let ended = c.stop-in_default-next in
-    subst (λ hs. Waits channel accepts blocks hs (into_iter_items ended.new.self.hashed) (all_taken (into_iter_items ended.new.self.lists))) (sym ended.ensures.none) (none_waits channel accepts blocks _ _)
+    subst (λ waiting. Waits channel accepts blocks waiting (all_taken (into_iter_items c.stop.new.self.lists))) (sym c.stop.ensures.none) (none_waits channel accepts blocks _)
 
 pub returns-in_default-next_taken-clause-behind : goal.returns-in_default-next_taken-clause-behind
 returns-in_default-next_taken-clause-behind c channel accepts bytes blocks ahead =
     let ended = c.stop-in_default-next_taken in
-    subst (λ hs. Waits channel accepts blocks hs (into_iter_items ended.new.self.hashed) (all_taken (into_iter_items ended.new.self.lists))) (sym ended.ensures.none) (none_waits channel accepts blocks _ _)
+    subst (λ waiting. Waits channel accepts blocks waiting (all_taken (into_iter_items ended.new.self.lists))) (sym ended.ensures.none) (none_waits channel accepts blocks _)
 
 pub returns-in-Err-clause-next : goal.returns-in-Err-clause-next
 returns-in-Err-clause-next c channel accepts bytes blocks ahead w =
-    let here = taken_out channel accepts bytes blocks c.in-Some.handed _ _ c.in-Some-next.hashed _ _ _ c.in-Some.ensures.items c.in-Some-next.ensures.items ahead in
-    subst (λ r. IsDecoded bytes r) c.in-Err.is here.0 w
+    let here = taken_out channel accepts bytes blocks c.in-Some.next _ _ _ c.in-Some.ensures.items ahead in
+    subst (λ r. IsDecoded bytes (block_in r)) c.in-Err.is here.0 w

@@ -12,12 +12,12 @@ use Rattle.commit.proofs.published.Published.commit.Goals as goal
 pub publish-requires-clause-linked : goal.publish-requires-clause-linked
 publish-requires-clause-linked g c =
     subst (λ (w : World). IsLinkedDelta w c.in_ok-delta.delta) c.published.ensures
-    (next-linked c.args.channel.now (g.V.Verify.accepts c.args.verifier.now) c.published.result.now c.args.bytes.now c.in_ok-delta.delta c.in_ok-delta.ensures)
+    (next-linked c.args.means.now.channel.now (g.V.Verify.accepts c.args.means.now.verifier.now) c.published.result.now c.args.bytes.now c.in_ok-delta.delta c.in_ok-delta.ensures)
 
 pub returns-in-Ok : goal.returns-in-Ok
 returns-in-Ok g c =
-    let channel = c.args.channel.now in
-    let accepts = g.V.Verify.accepts c.args.verifier.now in
+    let channel = c.args.means.now.channel.now in
+    let accepts = g.V.Verify.accepts c.args.means.now.verifier.now in
     let going = sym c.failed.ensures ∙ c.if-failed.false in
     let old = c.self.inside.publisher in
     let e = c.in-Ok.ensures in
@@ -27,8 +27,8 @@ returns-in-Ok g c =
 
 pub returns-in_err-delta : goal.returns-in_err-delta
 returns-in_err-delta g c =
-    let channel = c.args.channel.now in
-    let accepts = g.V.Verify.accepts c.args.verifier.now in
+    let channel = c.args.means.now.channel.now in
+    let accepts = g.V.Verify.accepts c.args.means.now.verifier.now in
     let going = sym c.failed.ensures ∙ c.if-failed.false in
     let old = c.self.inside.publisher in
     let back = err_from_is_err_and c.from_residual-in_err-delta.result c.from_residual-in_err-delta.ensures.1 in

@@ -1,4 +1,4 @@
-use Rattle.std.proofs.Common.{subst, ap, ◌∙◌, sym}
+use Rattle.std.proofs.Common.{◌≡◌, [], ◌∷◌, ◌++◌, subst, ap, ◌∙◌, sym}
 use Rattle.left_right.specs.Sides.{view}
 use Rattle.rules.specs.World.{World}
 use Rattle.rules.specs.Linked.{IsLinkedDelta}
@@ -11,16 +11,21 @@ use Rattle.query.proofs.publisher.Publisher.publish.Goals as goal
 pub invariant_of-self-2 : goal.invariant_of-self-2
 invariant_of-self-2 g c =
     let was = c.self.inside in
+    let delta = c.in_ok-ready.ready in
     let made = c.in-Some.front in
     let kept = c.again-2.result in
     let given = c.again.result in
-    let delta = c.args.delta in
     let shown = c.in_ok-show.ensures in
     let seat = view was.writer.desk.place in
-    let linked = subst (λ (p : Publishing). IsLinkedDelta (published_world p) delta) (sym c.self.view_is) c.requires.linked in
-    let on = shown_on was.front made kept delta c.in-Some.ensures c.again-2.ensures (base_of seat) given was.writer.desk.shown.value c.show.new.writer.desk.shown.value c.self.invariant.2 linked c.again.ensures shown.ok in (
-      c.self.invariant.0 ∙ ap (λ f. counter_of f.book) (sym (c.again-2.ensures ∙ c.in-Some.ensures)),
-      told_on was.front made kept delta c.in-Some.ensures c.again-2.ensures seat (view c.show.new.writer.desk.place) c.self.invariant.1 shown.place,
+    let made_is : made ≡ record { book = was.front.book; list = was.front.list ++ delta ∷ [] } =
+    c.in-Some.ensures ∙ ap (λ d. record { book = was.front.book; list = was.front.list ++ d ∷ [] }) c.delta-2.ensures in
+    let kept_is = c.again-2.ensures in
+    let linked : IsLinkedDelta (published_world (record { book = was.front.book; base = base_of seat; list = was.front.list; failed = was.failed })) delta =
+    subst (λ d. IsLinkedDelta (published_world (record { book = was.front.book; base = base_of seat; list = was.front.list; failed = was.failed })) d) (sym c.in_ok-ready.ensures)
+    (subst (λ (p : Publishing). IsLinkedDelta (published_world p) c.args.delta) (sym c.self.view_is) c.requires.linked) in
+    let on = shown_on was.front made kept delta made_is kept_is (base_of seat) given was.writer.desk.shown.value c.show.new.writer.desk.shown.value c.self.invariant.2 linked c.again.ensures shown.ok in (
+      c.self.invariant.0 ∙ ap (λ f. counter_of f.book) (sym (kept_is ∙ made_is)),
+      told_on was.front made kept delta made_is kept_is seat (view c.show.new.writer.desk.place) c.self.invariant.1 shown.place,
       subst (λ (w : World). IsShown w kept c.show.new.writer.desk.shown.value) (ap base_of (sym shown.place)) on,
       λ _. shown.none,
     )

@@ -1,0 +1,15 @@
+use crate::workers::Workers;
+use channel::Channel;
+use std::alloc::Global;
+
+/// By what blocks are taken in and committed: the runtime and memory, whose rules hold, who works, who verifies signatures, and
+/// the gate that each piece of work passes.
+#[derive(Drop)]
+pub(crate) struct Means<'m, R, V, G> {
+    pub(crate) rt: &'m R,
+    pub(crate) alloc: Global,
+    pub(crate) channel: &'m Channel,
+    pub(crate) workers: Workers,
+    pub(crate) verifier: &'m V,
+    pub(crate) gate: &'m G,
+}
