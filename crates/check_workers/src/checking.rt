@@ -1,5 +1,6 @@
 ghost use Rattle.std.specs.Prelude.{◌≡◌, ◌*◌, ◌≤◌, [], length, replicate, IfOk};
 ghost use Rattle.rules.specs.Fold as fold;
+ghost use Rattle.check_workers.specs.Limits.{max_workers};
 ghost use Rattle.check_workers.specs.Words.{fresh};
 
 use crate::gathering::gather;
@@ -54,7 +55,7 @@ pub fn check_all<R: Threads + Wait + Sync, G: Gate + Sync>(
     workers: usize,
     gate: &G,
 ) -> Result<Checked, AllocError>
-    requires workers { (1 ≤ workers) × (workers ≤ 64) }
+    requires workers { (1 ≤ workers) × (workers ≤ max_workers) }
     ensures { IfOk result (λ c. c.flags.items ≡ fold.flags job.now) }
 {
     let count = job.len();

@@ -1,5 +1,7 @@
 ghost use Rattle.std.specs.Prelude.{◌≡◌, ◌≤◌, ◌<◌, ◌↔◌, ◌⊎◌, [], false, length, Err, IfOk, OnErr};
 ghost use Rattle.std.specs.List.{All};
+ghost use Rattle.check_workers.specs.Limits.{max_workers};
+ghost use Rattle.query.specs.Limits.{max_readers};
 ghost use Rattle.rules.specs.World.{empty_world};
 ghost use Rattle.commit.specs.Committing.{Submits, Runs};
 
@@ -57,8 +59,8 @@ impl Committer {
         ensures committer { IfOk result (λ r. (r.0.channel ≡ channel) × (r.0.list ≡ []) × (r.0.stopped ≡ false)) }
         ensures count { IfOk result (λ r. length r.1.items ≡ readers) }
         ensures handles { IfOk result (λ r. All (λ h. h ≡ record { book = r.0.book; base = empty_world; list = [] }) r.1.items) }
-        ensures workers { (result ≡ Err OpenFault.Workers) ↔ ((workers ≡ 0) ⊎ (64 < workers)) }
-        ensures readers { (result ≡ Err OpenFault.Readers) ↔ ((1 ≤ workers) × (workers ≤ 64) × (32 < readers)) }
+        ensures workers { (result ≡ Err OpenFault.Workers) ↔ ((workers ≡ 0) ⊎ (max_workers < workers)) }
+        ensures readers { (result ≡ Err OpenFault.Readers) ↔ ((1 ≤ workers) × (workers ≤ max_workers) × (max_readers < readers)) }
     {
         let Some(workers) = Workers::new(workers) else {
             return Err(OpenFault::Workers);

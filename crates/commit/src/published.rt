@@ -1,6 +1,7 @@
 //! What a committer has published, which it checks the next block against.
 ghost use Rattle.std.specs.Prelude.{◌≡◌, ◌<◌, ◌↔◌, [], false, length, Err, IfOk};
 ghost use Rattle.std.specs.List.{All};
+ghost use Rattle.query.specs.Limits.{max_readers};
 ghost use Rattle.query.specs.Published.{published_world};
 ghost use Rattle.query.specs.declared.opening.OpenFault.TheVariants as open_fault;
 ghost use Rattle.rules.specs.World.{empty_world};
@@ -54,7 +55,7 @@ impl Published {
         ensures published { IfOk result (λ r. (r.0.list ≡ []) × (r.0.failed ≡ false)) }
         ensures count { IfOk result (λ r. length r.1.items ≡ readers) }
         ensures handles { IfOk result (λ r. All (λ h. h ≡ record { book = r.0.book; base = empty_world; list = [] }) r.1.items) }
-        ensures readers { (result ≡ Err open_fault.Readers) ↔ (32 < readers) }
+        ensures readers { (result ≡ Err open_fault.Readers) ↔ (max_readers < readers) }
     {
         let (publisher, handles) = query::open(
             alloc,

@@ -1,4 +1,5 @@
 ghost use Rattle.std.specs.Prelude.{◌≡◌, ◌≤◌, ◌<◌, ◌↔◌, ◌⊎◌, None, IfSome};
+ghost use Rattle.check_workers.specs.Limits.{max_workers};
 
 /// The most workers that a committer has.
 pub const MAX_WORKERS: usize = 64;
@@ -11,12 +12,12 @@ const WORTH_A_CHECKER: usize = 2048;
 pub(crate) struct Workers {
     pub(crate) count: usize,
     ghost some: { 1 ≤ count },
-    ghost few: { count ≤ 64 },
+    ghost few: { count ≤ max_workers },
 }
 
 impl Workers {
     pub(crate) fn new(count: usize) -> Option<Workers>
-        ensures none { (result ≡ None) ↔ ((count ≡ 0) ⊎ (64 < count)) }
+        ensures none { (result ≡ None) ↔ ((count ≡ 0) ⊎ (max_workers < count)) }
         ensures some { IfSome result (λ w. w.count ≡ count) }
     {
         if count < 1 || count > MAX_WORKERS {

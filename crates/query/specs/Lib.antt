@@ -1,3 +1,4 @@
+pub mod Limits
 pub mod Published
 pub mod Code
 pub mod Counted

@@ -1,6 +1,7 @@
 //! Opens a publisher with its handles.
 ghost use Rattle.std.specs.Prelude.{◌≡◌, ◌≤◌, ◌<◌, ◌↔◌, [], false, drop, length, All, IfOk, vec_capacity};
 ghost use Rattle.left_right.specs.Sides.{view};
+ghost use Rattle.query.specs.Limits.{max_readers};
 ghost use Rattle.query.specs.Rule.{IsTold};
 
 use crate::front::Front;
@@ -51,7 +52,7 @@ fn start<R: Wait>(
 ) -> Result<ShownWriter, AllocError>
     requires alike { first ≡ second }
     requires empty { front.now.list ≡ [] }
-    requires places { (0 < places) × (places ≤ 32) }
+    requires places { (0 < places) × (places ≤ max_readers) }
     ensures told { IfOk result (λ w. IsTold (view w.desk.place) first front.now.book) }
     ensures shown { IfOk result (λ w. w.desk.shown.value ≡ record { world = first; front = front.now }) }
     ensures none { IfOk result (λ w. drop w.behind w.log.items ≡ []) }
@@ -116,7 +117,7 @@ pub fn open<R: Wait>(
     ensures publisher { IfOk result (λ r. (r.0.base ≡ first) × (r.0.list ≡ []) × (r.0.failed ≡ false)) }
     ensures count { IfOk result (λ r. length r.1.items ≡ readers) }
     ensures handles { IfOk result (λ r. All (λ h. h ≡ record { book = r.0.book; base = first; list = [] }) r.1.items) }
-    ensures readers { (result ≡ Err OpenFault.Readers) ↔ (32 < readers) }
+    ensures readers { (result ≡ Err OpenFault.Readers) ↔ (max_readers < readers) }
 {
     if readers > MAX_READERS {
         return Err(OpenFault::Readers);

@@ -22,5 +22,6 @@ pub mod Candidates
 pub mod OpenCandidates
 pub mod NewIds
 pub mod Numbers
+pub mod Crossing
 mod Worked
 pub mod rows

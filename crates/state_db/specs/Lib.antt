@@ -1,4 +1,5 @@
 pub mod Code
+pub mod Limits
 pub mod Pages
 pub mod Search
 pub mod Batch

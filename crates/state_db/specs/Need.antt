@@ -5,6 +5,7 @@ use Rattle.rules.specs.declared.row.Row.{Row}
 use Rattle.rules.specs.State.{ChangeOf}
 use Rattle.state_db.specs.Search.{IsSorted}
 use Rattle.state_db.specs.Pages.{RowList, joined, AreFilled, is_page_below}
+use Rattle.state_db.specs.Limits.{max_page_rows}
 
 -- rows that a change may add
 abbrev pub added : ChangeOf Row → ℕ
@@ -33,10 +34,10 @@ need (p ∷ q ∷ ps) cs = splits (length p + added_by (up_to p cs)) + need (q �
 
 -- ---- pages between two changes
 
--- up to 256 rows in each
+-- no more rows in each than a page may have
 abbrev pub AreBounded : List RowList → Type 0
 AreBounded [] = ⊤
-AreBounded (p ∷ ps) = (length p ≤ 256) × AreBounded ps
+AreBounded (p ∷ ps) = (length p ≤ max_page_rows) × AreBounded ps
 
 -- there is a page, the rows are in order, and only the last page may be empty
 pub record AreOpen (ps : List RowList) : Type 0 where

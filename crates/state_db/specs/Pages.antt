@@ -5,6 +5,7 @@ use Rattle.rules.specs.declared.row.Row.{Row}
 use Rattle.rules.specs.State.{StateKey, State}
 use Rattle.state_keys.specs.Head.{padded, head_of}
 use Rattle.state_db.specs.Search.{Keyed, IsSorted, is_below}
+use Rattle.state_db.specs.Limits.{max_page_rows}
 
 -- a state, beside it how many rows each of its pages has
 pub record PagedState : Type 0 where
@@ -27,10 +28,10 @@ AreFilled [] = ⊤
 AreFilled (p ∷ []) = ⊤
 AreFilled (p ∷ q ∷ ps) = (0 < length p) × AreFilled (q ∷ ps)
 
--- each page has from 1 to 256 rows
+-- each page has some rows, and no more than it may
 abbrev pub AreSized : List RowList → Type 0
 AreSized [] = ⊤
-AreSized (p ∷ ps) = (0 < length p) × (length p ≤ 256) × AreSized ps
+AreSized (p ∷ ps) = (0 < length p) × (length p ≤ max_page_rows) × AreSized ps
 
 -- the rows are in order through all pages, of which each has some, but perhaps the last
 abbrev pub AreInOrder : List RowList → Type 0

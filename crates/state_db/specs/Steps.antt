@@ -7,6 +7,7 @@ use Rattle.rules.specs.State.{StateKey, ChangeOf, key_cmp}
 use Rattle.state_db.specs.Pages.{RowList, joined, home, is_page_below}
 use Rattle.state_db.specs.Edits.{without}
 use Rattle.state_db.specs.Need.{need, AreOpen}
+use Rattle.state_db.specs.Limits.{max_page_rows}
 
 -- A row is put. What the stock of spare pages has lost, the need of all later changes has lost too.
 pub record IsPut (k : StateKey) (v : Row) (old new : List RowList) (stock_old stock_new : ℕ) : Type 0 where
@@ -32,5 +33,5 @@ ArePassed (c ∷ cs) ps n = (n ≤ home c.0 ps) × ArePassed cs ps n
 -- the key stands behind all rows, and the last page is full
 abbrev pub IsBehindFull : StateKey → List RowList → Type 0
 IsBehindFull k [] = ⊤
-IsBehindFull k (p ∷ []) = (is_page_below k p ≡ true) × (length p ≡ 256)
+IsBehindFull k (p ∷ []) = (is_page_below k p ≡ true) × (length p ≡ max_page_rows)
 IsBehindFull k (p ∷ q ∷ ps) = (is_page_below k p ≡ true) × IsBehindFull k (q ∷ ps)

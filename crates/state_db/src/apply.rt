@@ -1,6 +1,7 @@
 //! Changes made in pages: all memory first, then moves alone.
 ghost use Rattle.std.specs.Prelude.{◌≡◌, ◌==◌, ◌<◌, ◌≤◌, ◌+◌, ◌-◌, [], ◌∷◌, ◌++◌, true, length, get_or, IfOk, IfErr, OnOk};
 ghost use Rattle.std.specs.Vec.{vec_capacity};
+ghost use Rattle.state_db.specs.Limits.{max_page_rows};
 ghost use Rattle.state_db.specs.Edits.{edited};
 ghost use Rattle.state_db.specs.Need.{need, AreOpen, AreEmpty};
 ghost use Rattle.state_db.specs.Pages.{joined, home, is_page_below, ArePages};
@@ -19,7 +20,7 @@ use std::alloc::{AllocError, Global};
 
 /// Whether the page is full, and all its rows stand before the key.
 fn is_full_before(page: &Page, wanted: &Wanted<'_>) -> bool
-    ensures full { result ≡ true → length page.now ≡ 256 }
+    ensures full { result ≡ true → length page.now ≡ max_page_rows }
     ensures below { result ≡ true → is_page_below wanted.now page.now ≡ true }
 {
     if page.len() != MAX_ROWS {
@@ -51,7 +52,7 @@ fn put(pages: &mut Vec<Page>, spare: &mut Vec<Page>, from: usize, slot: Slot) ->
     requires open { AreOpen pages.old.items }
     requires from { from ≤ home slot.0 pages.old.items }
     requires empty { AreEmpty spare.old.items }
-    requires stock { 256 ≤ length (get_or pages.old.items (home slot.0 pages.old.items) []) → 0 < length spare.old.items }
+    requires stock { max_page_rows ≤ length (get_or pages.old.items (home slot.0 pages.old.items) []) → 0 < length spare.old.items }
     requires room { length pages.old.items + length spare.old.items ≤ vec_capacity pages.old }
     ensures made { IsPut slot.0 slot.1 pages.old.items pages.new.items (length spare.old.items) (length spare.new.items) }
     ensures passed { IsPassed slot.0 pages.new.items result }

@@ -4,6 +4,7 @@ ghost use Rattle.std.specs.FinMap.{find};
 ghost use Rattle.std.specs.FinMap.Entries.{put};
 ghost use Rattle.std.specs.Vec.{vec_capacity};
 ghost use Rattle.rules.specs.State.{key_cmp};
+ghost use Rattle.state_db.specs.Limits.{max_page_rows};
 ghost use Rattle.state_db.specs.Edits.{without};
 ghost use Rattle.state_db.specs.Pages.{is_page_below};
 ghost use Rattle.state_db.specs.Search.{IsSorted};
@@ -85,7 +86,7 @@ impl Page {
     /// Puts a row in its place, in the place of one with its key. Takes no memory.
     pub fn put(&mut self, slot: Slot)
         requires sorted { IsSorted self.old }
-        requires room { length self.old ≤ 256 }
+        requires room { length self.old ≤ max_page_rows }
         ensures { self.new ≡ put key_cmp slot.0 slot.1 self.old }
     {
         slots::put(&mut self.rows, slot);

@@ -3,6 +3,7 @@ ghost use Rattle.std.specs.Option.{option_copied};
 ghost use Rattle.std.specs.FinMap.{get, empty, entries};
 ghost use Rattle.rules.specs.Ranges.{is_within, rows_where};
 ghost use Rattle.rules.specs.State.{with_changes};
+ghost use Rattle.state_db.specs.Limits.{max_page_rows};
 ghost use Rattle.state_db.specs.Batch.{changed};
 ghost use Rattle.state_db.specs.Search.{IsSorted};
 
@@ -143,7 +144,7 @@ impl StateDb {
     /// How many rows a page has.
     pub fn page_rows(&self, page: usize) -> Option<usize>
         ensures rows { result ≡ slice_get self.now.sizes page }
-        ensures size { IfSome result (λ rows. (1 ≤ rows) × (rows ≤ 256)) }
+        ensures size { IfSome result (λ rows. (1 ≤ rows) × (rows ≤ max_page_rows)) }
     {
         match self.pages.get(page) {
             None => None,

@@ -1,23 +1,11 @@
--- A world may cross threads, and so may a delta. Where a type holds a policy, which is a tree, the search for this is too long as a
--- whole, so it goes part by part.
-use denote.Param.Send.{IsSend, IsSync, sendable}
-use Rattle.std.proofs.Crossing.{crosses}
-use Rattle.std.proofs.option.Option.TheSendSync as option
-use Rattle.std.proofs.alloc.Global.TheSendSync as heap
-use Rattle.std.proofs.vec.Vec.TheSendSync as vec
-use Rattle.values.proofs.bytes.Bytes.TheSendSync as bytes
-use Rattle.values.proofs.items.Items.TheSendSync as items
+-- A world may cross threads, and so may a delta. As of the rules, it goes part by part.
+use denote.Param.Send.{IsSend, IsSync}
 use Rattle.values.proofs.key.Key.TheSendSync as key
-use Rattle.values.proofs.name.Name.TheSendSync as name
-use Rattle.values.proofs.shared.Shared.TheSendSync as shared
-use Rattle.transaction.proofs.transaction.Version.TheSendSync as version
-use Rattle.policy.proofs.tree.Expression.TheLaws.TheKnot as knot
-use Rattle.policy.proofs.tree.Principal.TheSendSync as principal
-use Rattle.policy.specs.contracts.policy.Policy as policy
+use Rattle.rules.proofs.Crossing as rules
+use Rattle.rules.proofs.Crossing.{policy_send, policy_sync}
 use Rattle.rules.proofs.committed.CommittedBlock.TheSendSync as committed
 use Rattle.rules.proofs.delta.NewEntry.TheSendSync as new_entry
 use Rattle.rules.proofs.delta.NewUse.TheSendSync as new_use
-use Rattle.rules.proofs.flag.Flag.TheSendSync as flag
 use Rattle.rules.specs.contracts.delta.Change as change
 use Rattle.rules.specs.contracts.delta.Delta as delta
 use Rattle.rules.specs.contracts.keyed_row.KeyedRow as keyed_row
@@ -29,39 +17,7 @@ use Rattle.txid_index.proofs.ids.TxIds.TheSendSync as ids
 use Rattle.world.specs.contracts.ready.ReadyDelta as ready
 use Rattle.world.specs.contracts.world.World as world
 
-pub ruleset crossing = (
-  sendable,
-  crosses,
-  option.the_send,
-  option.the_sync,
-  heap.the_send,
-  heap.the_sync,
-  vec.the_send,
-  vec.the_sync,
-  bytes.the_send,
-  bytes.the_sync,
-  items.the_send,
-  items.the_sync,
-  key.the_send,
-  key.the_sync,
-  name.the_send,
-  name.the_sync,
-  shared.the_send,
-  shared.the_sync,
-  version.the_send,
-  version.the_sync,
-  flag.the_send,
-  flag.the_sync,
-)
-
--- what a policy is made of
-ruleset in_policies = (principal.the_send, principal.the_sync, knot.send-Expression, knot.sync-Expression)
-
-policy_send : IsSend policy.the_row
-policy_send = search (crossing, in_policies) depth 40 fits 100000
-
-policy_sync : IsSync policy.the_row
-policy_sync = search (crossing, in_policies) depth 40 fits 100000
+pub ruleset crossing = (rules.crossing, key.the_send, key.the_sync)
 
 pub row_send : IsSend row.the_row
 row_send = search (crossing, policy_send, policy_sync) depth 40 fits 100000
