@@ -9,6 +9,26 @@ def accepted(world, number):
     return " ".join(["accepted", str(number), header_hash.hex(), *map(str, flags)]) + "\n"
 
 
+FAULTS = {
+    "BadMagic": "C1 B1",
+    "Truncated": "C1 B2",
+    "PreviousLength": "C1 B3",
+    "TooManyTxs": "C1 B4",
+    "TxTooLong": "C1 B5",
+    "TrailingBytes": "C1 B6",
+    "WrongNumber": "C2",
+    "WrongPrevious": "C3",
+    "WrongDataHash": "C4",
+    "OldVersion": "C8",
+}
+
+
+def refused(place, fault):
+    """The place is from 1."""
+    name, _, numbers = str(fault).partition(" ")
+    return " ".join(filter(None, ["refused", str(place), FAULTS[name], numbers])) + "\n"
+
+
 def height(world):
     return f"height {len(world.blocks)}\n"
 

@@ -13,6 +13,7 @@ from encoding import (
     spelled_body,
     spelled_signed,
     tx_id,
+    version_of_block,
 )
 from policies import canonical, is_policy, read_policy, satisfied
 from words import at, bounds, known_as, named, word
@@ -34,6 +35,10 @@ class World:
     blocks: list = field(default_factory=list)  # (bytes, header hash, flags)
     reasons: list = field(default_factory=list)  # for each block one for each transaction
 
+    def version(self):
+        """That of the last block, and 1 where there is none."""
+        return version_of_block(self.blocks[-1][0]) if self.blocks else 1
+
     def submit(self, octets):
         number, previous, hash_of_data, txs = read_block(octets)
         if number != len(self.blocks):
@@ -42,6 +47,8 @@ class World:
             raise Refused("WrongPrevious")
         if hash_of_data != data_hash(txs):
             raise Refused("WrongDataHash")
+        if version_of_block(octets) < self.version():
+            raise Refused("OldVersion")
         block = BlockRun(self, number)
         verdicts = [block.take(place, tx) for place, tx in enumerate(txs)]
         self.blocks.append((octets, header_hash(number, previous, hash_of_data), [flag for flag, _ in verdicts]))

@@ -59,6 +59,15 @@ def runs(world):
     yield "run --workers 02 --readers 1 k", 1, "refused 1 C1 B1\n" + readers(1, 0)
 
 
+def of_both_versions(world):
+    """Runs in which `c0` and `c1` have the contents of `b0` and `b1` in version 2, whose hashes are the same."""
+    first, second = answers.accepted(world, 0), answers.accepted(world, 1)
+    yield "run c0 b1", 1, first + "refused 2 C8\n"
+    yield "run b0 c1", 0, first + second
+    yield "run --workers 5 c0 b1 c1 b1", 1, f"{first}refused 2 C8\n{second}refused 4 C2 want 2 got 1\n"
+    yield "explain c0 b1", 1, "refused 2 C8\n"
+
+
 def rows(keys):
     """Words behind `--channel` and `--keys`, the status, and what goes to standard output."""
     name, definitions = channel_of(CHANNEL)
@@ -81,6 +90,7 @@ def rows(keys):
     world, _ = next(states)
     yield "run b0 b1", 0, answers.accepted(world, 0) + answers.accepted(world, 1)
     yield from runs(world)
+    yield from of_both_versions(world)
     yield "get --ns cc --key b b0 b1", 0, answers.get(world, b"cc", b"b")
     yield "history --ns cc --key a%20%25 b0 b1", 0, answers.history(world, b"cc", b"a %")
     for start, end, limit in (("%", "%", 2), ("%", "%", 3), ("b%00", "k3", 100), ("k1", "k1%00", 2), ("k3", "b", 1)):

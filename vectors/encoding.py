@@ -6,6 +6,7 @@ from hashlib import sha256
 ROLES = ["admin", "client", "peer", "orderer"]
 NAME_BYTES = set(b"ABCDEFGHIJKLMNOPQRSTUVWXYZabcdefghijklmnopqrstuvwxyz0123456789.-_")
 LONGEST = 1048576
+MAGICS = {1: b"FBK1", 2: b"FBK2"}
 
 
 class NoSpelling(Exception):
@@ -131,8 +132,8 @@ def tx_id(nonce, creator):
     return sha256(nonce + creator).hexdigest().encode()
 
 
-def spelled_block(number, previous, hash_of_data, txs):
-    header = b"FBK1" + u64(number) + short(previous) + hash_of_data
+def spelled_block(number, previous, hash_of_data, txs, version=1):
+    header = MAGICS[version] + u64(number) + short(previous) + hash_of_data
     return header + u32(len(txs)) + b"".join(u32(len(tx)) + tx for tx in txs)
 
 
@@ -222,10 +223,17 @@ def read_tx(octets):
     return tx
 
 
+def version_of_block(octets):
+    """1 or 2."""
+    for number, magic in MAGICS.items():
+        if octets.startswith(magic):
+            return number
+    raise Refused("BadMagic")
+
+
 def read_block(octets):
-    """Number, previous hash, data hash and transactions."""
-    if not octets.startswith(b"FBK1"):
-        raise Refused("BadMagic")
+    """Number, previous hash, data hash and transactions, which are spelled alike in both versions."""
+    version_of_block(octets)
     reader = Reader(octets[4:], Refused("Truncated"))
     number, length = reader.number(8), reader.number(1)
     if length not in (0, 32):

@@ -207,11 +207,11 @@ def txs_of(channel, keys, script):
     return drafting.txs
 
 
-def drafted(channel, keys, before, script):
-    """The bytes of the block behind the one with the bytes `before`, or of block 0 where that is `None`."""
+def drafted(channel, keys, before, script, version=1):
+    """The bytes of the block of this version behind the one with the bytes `before`, or of block 0 where that is `None`."""
     number, previous = 0, b""
     if before is not None:
         number_before, *hashes, _ = read_block(before)
         number, previous = number_before + 1, header_hash(number_before, *hashes)
     txs = txs_of(channel, keys, script)
-    return spelled_block(number, previous, data_hash(txs), txs)
+    return spelled_block(number, previous, data_hash(txs), txs, version)

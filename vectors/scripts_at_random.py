@@ -5,8 +5,9 @@
 chains of up to five blocks. Each is drafted by PROGRAM (`./fabcommit`): a good one has to give the block that
 `scripts.py` gives, a faulty one the line that it names, with OUT left as it was. Each block is explained, in the lines of
 `explaining.py`, and each chain then handed to `run`, `get`, `history` and `scan`, whose lines have to be those of
-`committer.py`. It ends with figures: how many scripts, calls, flags, and faults of each kind there were, and fails where a
-kind is missing or anything differs.
+`committer.py`. Blocks are of both versions; for every chain there are lists too in which old, cut and otherwise spoiled
+blocks stand between the good ones, and these are run by 1, 2 and 5 workers and asked by `get`. It ends with figures: how many
+scripts, calls, flags, refusals, and faults of each kind there were, and fails where a kind is missing or anything differs.
 """
 
 import pathlib
@@ -21,6 +22,7 @@ sys.dont_write_bytecode = True
 
 import answers
 from committer import World, is_inside
+from encoding import Refused, data_hash, read_block, spelled_block
 from explaining import explained
 from policies import read_policy
 from scripts import LONGEST, Faulty, accepts, drafted, keys_of, txs_of, word_bytes
@@ -194,10 +196,46 @@ def lines_of_length(keys, length):
     return lines("v" * (length - len(shortest)))
 
 
+def of_version(version, octets):
+    number, previous, hash_of_data, txs = read_block(octets)
+    return spelled_block(number, previous, hash_of_data, txs, version)
+
+
+def spoiled(pick, octets):
+    """A block that isn't the next one, unless by chance; some are of another version or magic."""
+    place = pick.choice([0, 2, 3, 11, 12, 13, 20, pick.randrange(len(octets))])
+    flipped = bytearray(octets)
+    flipped[place % len(octets)] ^= 1
+    number, previous, hash_of_data, txs = read_block(octets)
+    with_wrong_data = [
+        spelled_block(number, previous, data_hash([*txs, b"more"]), txs, version) for version in (1, 2)
+    ]
+    return pick.choice([
+        bytes(flipped),
+        octets[: pick.randrange(len(octets))],
+        octets + b"\0",
+        b"FBK3" + octets[4:],
+        of_version(1, octets),
+        of_version(1, octets),
+        *with_wrong_data,
+    ])
+
+
+def mixed_list(pick, blocks):
+    """The blocks in order, and others before and behind each."""
+    for place, octets in enumerate(blocks):
+        for _ in range(pick.choice([0, 1, 1, 2])):
+            yield spoiled(pick, octets)
+        yield octets
+        if pick.random() < 0.3:
+            yield pick.choice(blocks[: place + 1])
+
+
 class Trial:
     def __init__(self, program, folder, pick):
         self.program, self.folder, self.pick = program, folder, pick
-        self.calls, self.scripts, self.faults, self.flags = 0, 0, Counter(), Counter()
+        self.calls, self.scripts, self.lists = 0, 0, 0
+        self.faults, self.flags, self.refusals = Counter(), Counter(), Counter()
         channel = "channel ch\n" + "".join(f"chaincode {name} {policy}\n" for name, policy in CHANNEL.items())
         book = "".join(f"{who} {pick.randbytes(pick.choice([1, 32, 64])).hex()}\n" for who in SIGNERS)
         self.keys = keys_of(book.encode())
@@ -218,15 +256,16 @@ class Trial:
         got = self.call(*words)
         assert got == (status, out, err), (words, got, (status, out, err))
 
-    def draft(self, number, blocks, script):
+    def draft(self, number, blocks, script, version=1):
         """The block, as both have it, or none where both find the same fault."""
         self.scripts += 1
         self.write("script", script)
         self.write("out", b"as it was")
         after = ["--after", f"block{number - 1}"] if blocks else []
-        words = ["draft", *after, "script", "out"]
+        formats = ["--format", str(version)] * (version > 1 or self.pick.random() < 0.2)
+        words = ["draft", *after, *formats, "script", "out"]
         try:
-            block = drafted(b"ch", self.keys, blocks[-1] if blocks else None, script)
+            block = drafted(b"ch", self.keys, blocks[-1] if blocks else None, script, version)
         except Faulty as fault:
             self.want(3, "", f"script line {fault}\n", *words)
             assert (self.folder / "out").read_bytes() == b"as it was"
@@ -266,7 +305,8 @@ class Trial:
             kind = min(FAULTS, key=lambda kind: (self.faults[kind], pick.random()))
             if pick.random() < 0.5:
                 self.fault(kind, number, blocks, faulty_lines(pick, kind))
-            block = self.draft(number, blocks, self.text(list(good_lines(pick, world, nonces))))
+            version = max(world.version(), pick.choice([1, 1, 1, 2]))
+            block = self.draft(number, blocks, self.text(list(good_lines(pick, world, nonces))), version)
             blocks.append(block)
             lines = "".join(line + "\n" for line in explained(world, block))
             self.want(0, lines, "", "explain", *[f"block{number}" for number in range(len(blocks))])
@@ -277,6 +317,26 @@ class Trial:
         self.want(0, lines, "", "run", *files)
         for _ in range(3):
             self.ask(world, files)
+        self.mixed(blocks)
+
+    def mixed(self, blocks):
+        """The chain's blocks with spoiled ones between them, by workers and by one thread."""
+        self.lists += 1
+        world, lines, files = World(b"ch", self.definitions, partial(accepts, self.keys)), "", []
+        for octets in mixed_list(self.pick, blocks):
+            files.append(f"mixed{len(files)}")
+            self.write(files[-1], octets)
+            try:
+                world.submit(octets)
+                lines += answers.accepted(world, len(world.blocks) - 1)
+            except Refused as fault:
+                lines += answers.refused(len(files), fault)
+                self.refusals[str(fault).split()[0]] += 1
+        status = 1 if "refused" in lines else 0
+        for workers in (1, 2, 5):
+            self.want(status, lines, "", "run", "--workers", str(workers), *files)
+        name, key = self.pick.choice([*CHANNEL]), self.pick.choice(KEYS)
+        self.want(status, answers.get(world, name.encode(), word_bytes(key)), "", "get", "--ns", name, "--key", key, *files)
 
     def limits(self):
         """The longest transaction, and those that are one byte too long."""
@@ -295,8 +355,11 @@ def main():
             trial.chain()
     missing = {0, 2, 9, 10, 11, 12, 22, 25} - set(trial.flags)
     assert not missing, missing
+    missing = {*answers.FAULTS} - {"TooManyTxs", "TxTooLong"} - set(trial.refusals)
+    assert not missing, missing
     print(f"{trial.scripts} scripts, of which {trial.faults.total()} faulty of {len(trial.faults)} kinds, {trial.calls} calls")
     print("flags:", ", ".join(f"{flag} {times} times" for flag, times in sorted(trial.flags.items())))
+    print(f"{trial.lists} lists, refusals:", ", ".join(f"{name} {times} times" for name, times in sorted(trial.refusals.items())))
 
 
 if __name__ == "__main__":

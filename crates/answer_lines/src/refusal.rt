@@ -19,6 +19,7 @@ pub enum Refusal {
     WrongNumber { want: u64, got: u64 },
     WrongPrevious,
     WrongDataHash,
+    OldVersion,
 }
 
 impl Refusal {
@@ -36,6 +37,7 @@ impl Refusal {
             Refused::WrongNumber { want, got } => Refusal::WrongNumber { want, got },
             Refused::WrongPrevious => Refusal::WrongPrevious,
             Refused::WrongDataHash => Refusal::WrongDataHash,
+            Refused::OldVersion => Refusal::OldVersion,
             Refused::Malformed(BlockFault::Memory) | Refused::Memory => return Err(AllocError),
         })
     }
@@ -52,6 +54,7 @@ impl Refusal {
             Refusal::WrongNumber { .. } => "C2",
             Refusal::WrongPrevious => "C3",
             Refusal::WrongDataHash => "C4",
+            Refusal::OldVersion => "C8",
         }
     }
 }

@@ -7,12 +7,10 @@ use Rattle.block.specs.declared.fault.BlockFault.{BlockFault}
 use Rattle.block.specs.declared.fault.BlockFault.TheVariants.{BadMagic, Truncated, PreviousLength, TooManyTxs, TxTooLong, TrailingBytes, Memory}
 use Rattle.block.specs.Grammar.{Spells}
 use Rattle.block.specs.Faults.{HasFault}
-use Rattle.block.specs.Reading.{Gives, block_at}
+use Rattle.block.specs.Reading.{Gives, versioned_at}
 use Rattle.block.proofs.Steps.{ok_is}
 use Rattle.values.proofs.Numbers.{IsBytes}
-use Rattle.block.proofs.Blocks.{block_taken, block_again}
-use Rattle.block.proofs.Faulty.{block_fails}
-use Rattle.block.proofs.FaultyAgain.{block_fails_again}
+use Rattle.block.proofs.Versions.{block_taken, block_again, block_fails, block_fails_again}
 
 abbrev Answer : Type 0
 Answer = Result Block BlockFault
@@ -31,11 +29,11 @@ given_or_memory (Err TxTooLong) read h = inl (sym h)
 given_or_memory (Err TrailingBytes) read h = inl (sym h)
 given_or_memory (Err Memory) read h = inr refl
 
-pub is_spelled : (bytes : List ℕ) (r : Answer) → IsBytes bytes → IsGiven r (block_at bytes) → IfOk r (λ b. Spells bytes b)
+pub is_spelled : (bytes : List ℕ) (r : Answer) → IsBytes bytes → IsGiven r (versioned_at bytes) → IfOk r (λ b. Spells bytes b)
 is_spelled bytes (Ok b) fits h = block_taken bytes b fits h
 is_spelled bytes (Err f) fits h = tt
 
-pub is_one_block : (bytes : List ℕ) (r : Answer) → IsGiven r (block_at bytes) → IfOk r (λ b. (other : Block) → Spells bytes other → other ≡ b)
+pub is_one_block : (bytes : List ℕ) (r : Answer) → IsGiven r (versioned_at bytes) → IfOk r (λ b. (other : Block) → Spells bytes other → other ≡ b)
 is_one_block bytes (Ok b) h = λ other spells. ok_is other b (sym (block_again other bytes spells) ∙ h)
 is_one_block bytes (Err f) h = tt
 
@@ -43,17 +41,17 @@ is_one_block bytes (Err f) h = tt
 pub one_spelling : (x y : List ℕ) (b : Block) → Spells x b → Spells y b → x ≡ y
 one_spelling x y b s t = s.fields ∙ sym t.fields
 
-pub is_one_spelling : (bytes : List ℕ) (r : Answer) → IsBytes bytes → IsGiven r (block_at bytes) → IfOk r (λ b. (other : List ℕ) → Spells other b → other ≡ bytes)
+pub is_one_spelling : (bytes : List ℕ) (r : Answer) → IsBytes bytes → IsGiven r (versioned_at bytes) → IfOk r (λ b. (other : List ℕ) → Spells other b → other ≡ bytes)
 is_one_spelling bytes (Ok b) fits h = λ other spells. one_spelling other bytes b spells (block_taken bytes b fits h)
 is_one_spelling bytes (Err f) fits h = tt
 
 along : (r : Answer) (read wanted : Answer) → read ≡ wanted → IsGiven r read → GivesUnless Memory r wanted
 along r read wanted e h = rw (← e) (given_or_memory r read h)
 
-pub is_read : (bytes : List ℕ) (r : Answer) (b : Block) → IsGiven r (block_at bytes) → Spells bytes b → GivesUnless Memory r (Ok b)
-is_read bytes r b h spells = along r (block_at bytes) (Ok b) (block_again b bytes spells) h
+pub is_read : (bytes : List ℕ) (r : Answer) (b : Block) → IsGiven r (versioned_at bytes) → Spells bytes b → GivesUnless Memory r (Ok b)
+is_read bytes r b h spells = along r (versioned_at bytes) (Ok b) (block_again b bytes spells) h
 
-pub is_faulty : (bytes : List ℕ) (r : Answer) → IsBytes bytes → IsGiven r (block_at bytes) → IfErr r (λ f. (f ≡ Memory) ⊎ HasFault bytes f)
+pub is_faulty : (bytes : List ℕ) (r : Answer) → IsBytes bytes → IsGiven r (versioned_at bytes) → IfErr r (λ f. (f ≡ Memory) ⊎ HasFault bytes f)
 is_faulty bytes (Ok b) fits h = tt
 is_faulty bytes (Err BadMagic) fits h = inr (block_fails bytes BadMagic fits h)
 is_faulty bytes (Err Truncated) fits h = inr (block_fails bytes Truncated fits h)
@@ -63,8 +61,8 @@ is_faulty bytes (Err TxTooLong) fits h = inr (block_fails bytes TxTooLong fits h
 is_faulty bytes (Err TrailingBytes) fits h = inr (block_fails bytes TrailingBytes fits h)
 is_faulty bytes (Err Memory) fits h = inl refl
 
-pub is_refused : (bytes : List ℕ) (r : Answer) (f : BlockFault) → IsGiven r (block_at bytes) → HasFault bytes f → GivesUnless Memory r (Err f)
-is_refused bytes r f h faulty = along r (block_at bytes) (Err f) (block_fails_again bytes f faulty) h
+pub is_refused : (bytes : List ℕ) (r : Answer) (f : BlockFault) → IsGiven r (versioned_at bytes) → HasFault bytes f → GivesUnless Memory r (Err f)
+is_refused bytes r f h faulty = along r (versioned_at bytes) (Err f) (block_fails_again bytes f faulty) h
 
 -- ---- laws of the grammar
 
@@ -91,8 +89,8 @@ block_or_fault bytes b f s t = block_not_fault b f (sym (block_again b bytes s) 
 
 -- bytes are a block, or have a fault
 pub some_reading : (bytes : List ℕ) → IsBytes bytes → ((b : Block) × Spells bytes b) ⊎ ((f : BlockFault) × HasFault bytes f)
-some_reading bytes fits = by (block_at bytes) refl
+some_reading bytes fits = by (versioned_at bytes) refl
   where
-    by : (r : Answer) → block_at bytes ≡ r → ((b : Block) × Spells bytes b) ⊎ ((f : BlockFault) × HasFault bytes f)
+    by : (r : Answer) → versioned_at bytes ≡ r → ((b : Block) × Spells bytes b) ⊎ ((f : BlockFault) × HasFault bytes f)
     by (Ok b) e = inl (b, block_taken bytes b fits e)
     by (Err f) e = inr (f, block_fails bytes f fits e)

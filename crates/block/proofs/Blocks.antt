@@ -5,12 +5,12 @@ use Rattle.std.proofs.lemmas.Bool.{eqb-true, ltb-false, le-ltb}
 use Rattle.std.proofs.lemmas.List.{append-nil, nil_from_length}
 use Rattle.std.proofs.lemmas.List.Concat.{flat_map-cons}
 use Rattle.byteorder.specs.Endian.{big_bytes}
-use Rattle.block.specs.declared.block.Block.{Block}
+use Rattle.block.specs.first_version.Grammar.{Block}
 use Rattle.block.specs.declared.block.Header.{Header}
 use Rattle.transaction.specs.Limits.{max_tx_bytes}
 use Rattle.block.specs.Limits.{max_txs}
 use Rattle.block.specs.declared.fault.BlockFault.TheVariants.{TooManyTxs, TxTooLong, TrailingBytes}
-use Rattle.block.specs.Grammar.{header_bytes, tx_bytes, txs_bytes, IsTx, Spells}
+use Rattle.block.specs.first_version.Grammar.{header_bytes, tx_bytes, txs_bytes, IsTx, Spells}
 use Rattle.block.specs.Reading.{◌>>=◌, Read, number_at, bytes_at, header_at, count_at, tx_at, txs_at, block_at}
 use Rattle.block.proofs.Steps.{bind_ok, refused_ok, taken_ok, ok_is}
 use Rattle.block.proofs.Rests.{Txs, count_or_fault, tx_or_fault, in_front, after_tx, ended, after_count, after_header}

@@ -3,12 +3,17 @@ use Rattle.std.proofs.Common.{◌≡◌, ℕ, ◌<◌, ◌≤◌, ◌+◌, ◌�
 use Rattle.std.proofs.lemmas.List.{take-append-le, take-append-drop, length-append}
 use Rattle.byteorder.specs.Endian.{big_bytes}
 use Rattle.values.proofs.Numbers.{IsBytes}
-use Rattle.block.specs.declared.block.Block.{Block}
 use Rattle.block.specs.declared.fault.BlockFault.{BlockFault}
 use Rattle.block.specs.declared.fault.BlockFault.TheVariants.{BadMagic, Truncated, PreviousLength, TooManyTxs, TxTooLong, TrailingBytes, Memory}
-use Rattle.block.specs.Grammar.{magic, Spells}
-use Rattle.block.specs.Faults.{Field, previous_length, count, tx_length, before, Reaches, HasFault}
-use Rattle.block.proofs.Answered.{block_or_fault, some_reading}
+use Rattle.block.specs.first_version.Grammar.{Block, magic, Spells}
+use Rattle.block.specs.first_version.Faults.{Field, previous_length, count, tx_length, before, Reaches, HasFault}
+use Rattle.block.proofs.FirstLaws.{block_or_fault, some_reading}
+use Rattle.block.specs.declared.block.Block as versioned
+use Rattle.block.specs.Grammar as grammar
+use Rattle.block.specs.Faults as faults
+use Rattle.transaction.specs.declared.block_version.BlockVersion.{BlockVersion}
+use Rattle.transaction.specs.declared.block_version.BlockVersion.TheVariants.{V1, V2}
+use Rattle.block.proofs.Versions.{as_first, fits_behind}
 
 -- a field that is read in the front is read in the whole
 still : (front rest : List ℕ) (field : Field) (seen whole : List ℕ) → seen ++ rest ≡ whole → Reaches front field seen → Reaches (front ++ rest) field whole
@@ -50,8 +55,33 @@ is_truncated : (front rest : List ℕ) (b : Block) → Spells (front ++ rest) b 
 is_truncated front rest b spells some_left long (inl block) = absurd (no_block front rest b block.0 spells some_left block.1)
 is_truncated front rest b spells some_left long (inr fault) = only_cut front rest b fault.0 spells long fault.1
 
-pub cut_magic : (front rest : List ℕ) (b : Block) → Spells (front ++ rest) b → length front < 4 → HasFault front BadMagic
-cut_magic front rest b spells short = no_short_magic front short
+cut_first : (front rest : List ℕ) (b : Block) → IsBytes front → Spells (front ++ rest) b → 0 < length rest → 4 ≤ length front → HasFault front Truncated
+cut_first front rest b fits spells some_left long = is_truncated front rest b spells some_left long (some_reading front fits)
 
-pub cut_behind_magic : (front rest : List ℕ) (b : Block) → IsBytes front → Spells (front ++ rest) b → 0 < length rest → 4 ≤ length front → HasFault front Truncated
-cut_behind_magic front rest b fits spells some_left long = is_truncated front rest b spells some_left long (some_reading front fits)
+-- ---- either version
+
+magic_of_4 : (version : BlockVersion) → length (grammar.magic_of version) ≡ 4
+magic_of_4 V1 = refl
+magic_of_4 V2 = refl
+
+take_magic : (version : BlockVersion) (rest : List ℕ) → take 4 (grammar.magic_of version ++ rest) ≡ grammar.magic_of version
+take_magic V1 rest = refl
+take_magic V2 rest = refl
+
+pub cut_magic : (front rest : List ℕ) (b : versioned.Block) → grammar.Spells (front ++ rest) b → length front < 4 → faults.HasFault front BadMagic
+cut_magic front rest b spells short version behind e =
+    let as_long : length front ≡ length (grammar.magic_of version) + length behind = ap length e ∙ length-append (grammar.magic_of version) behind in
+    absurd (omega (arith, short, as_long, magic_of_4 version))
+
+begins : (front rest : List ℕ) (b : versioned.Block) → grammar.Spells (front ++ rest) b → 4 ≤ length front → front ≡ grammar.magic_of b.version ++ drop 4 front
+begins front rest b spells long =
+    sym (take-append-drop 4 front) ∙ ap (λ (l : List ℕ). l ++ drop 4 front) (sym (take-append-le 4 front rest long) ∙ ap (take 4) spells.fields ∙ take_magic b.version _)
+
+pub cut_behind_magic : (front rest : List ℕ) (b : versioned.Block) → IsBytes front → grammar.Spells (front ++ rest) b → 0 < length rest → 4 ≤ length front → faults.HasFault front Truncated
+cut_behind_magic front rest b fits spells some_left long =
+    let behind = drop 4 front in
+    let with_magic = begins front rest b spells long in
+    let whole : front ++ rest ≡ grammar.magic_of b.version ++ (behind ++ rest) = ap (λ (l : List ℕ). l ++ rest) with_magic ∙ append_assoc (grammar.magic_of b.version) behind rest in
+    let fits_first = fits_behind front (b.version, behind) fits with_magic in
+    let long_first : 4 ≤ length (magic ++ behind) = omega (arith, length-append magic behind) in
+    (b.version, behind, with_magic, cut_first (magic ++ behind) rest (grammar.contents_of b) fits_first (as_first (front ++ rest) (behind ++ rest) b spells whole) some_left long_first)

@@ -12,8 +12,8 @@ use Rattle.transaction.specs.Limits.{max_tx_bytes}
 use Rattle.block.specs.Limits.{max_txs}
 use Rattle.block.specs.declared.fault.BlockFault.{BlockFault}
 use Rattle.block.specs.declared.fault.BlockFault.TheVariants.{BadMagic, Truncated, PreviousLength, TooManyTxs, TxTooLong, TrailingBytes}
-use Rattle.block.specs.Grammar.{magic, previous_bytes, header_bytes, tx_bytes, txs_bytes, IsHeader, IsTx, Spells}
-use Rattle.block.specs.Faults.{Field, number, previous_length, previous_hash, data_hash, count, tx_length, tx, size, IsReached, Reaches, HasFault}
+use Rattle.block.specs.first_version.Grammar.{magic, previous_bytes, header_bytes, tx_bytes, txs_bytes, IsHeader, IsTx, Spells}
+use Rattle.block.specs.first_version.Faults.{Field, number, previous_length, previous_hash, data_hash, count, tx_length, tx, size, IsReached, Reaches, HasFault}
 use Rattle.block.specs.Reading.{◌>>=◌, number_at, bytes_at, magic_at, previous_at, header_at, count_at, tx_at, txs_at, block_at}
 use Rattle.block.proofs.Steps.{bind_err, refused_err, taken_err, ok_not_err}
 use Rattle.block.proofs.Rests.{Txs, as_hash, hash_or_fault, as_header, after_previous, after_number, after_magic, count_or_fault, tx_or_fault, in_front, after_tx, ended, after_count, after_header}

@@ -11,7 +11,7 @@ use Rattle.block.specs.declared.block.Previous.{Previous}
 use Rattle.block.specs.declared.block.Previous.TheVariants.{Empty, Hash}
 use Rattle.values.specs.Hash.{hash_bytes}
 use Rattle.block.specs.declared.fault.BlockFault.TheVariants.{BadMagic, Truncated, PreviousLength}
-use Rattle.block.specs.Grammar.{magic, previous_bytes, header_bytes, IsPrevious, IsHeader}
+use Rattle.block.specs.first_version.Grammar.{magic, previous_bytes, header_bytes, IsPrevious, IsHeader}
 use Rattle.block.specs.Reading.{◌>>=◌, Read, bytes_at, number_at, magic_at, previous_at, header_at}
 use Rattle.block.proofs.Steps.{bind_ok, taken_ok, ok_is, ok_not_err}
 use Rattle.block.proofs.Rests.{as_hash, hash_or_fault, as_header, after_previous, after_number, after_magic}

@@ -5,8 +5,11 @@ pub mod Headers
 pub mod Blocks
 pub mod Faulty
 pub mod FaultyAgain
+mod FirstLaws
+pub mod Versions
 pub mod Answered
 mod Cuts
 pub mod Within
-mod Worked
+pub mod Worked
+mod WorkedVersions
 pub mod Transactions

@@ -1,6 +1,6 @@
 -- What is read behind each field, as steps with names.
 use Rattle.std.proofs.Common.{ℕ, cond, eqb, ltb, List, ◌∷◌, length, Result, Ok, Err}
-use Rattle.block.specs.declared.block.Block.{Block}
+use Rattle.block.specs.first_version.Grammar.{Block}
 use Rattle.block.specs.declared.block.Header.{Header}
 use Rattle.block.specs.declared.block.Previous.{Previous}
 use Rattle.block.specs.declared.block.Previous.TheVariants.{Hash}

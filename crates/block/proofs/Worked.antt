@@ -1,10 +1,10 @@
--- Worked rows of the block grammar, from the 49 bytes of the empty block 0.
+-- Worked rows of the grammar of version 1, from the 49 bytes of the empty block 0.
 use Rattle.std.proofs.Common.{◌≡◌, ℕ, List, [], ◌∷◌, ◌++◌, length, take, refl, arith}
 use Rattle.block.specs.declared.block.Header.{Header}
 use Rattle.block.specs.declared.block.Previous.TheVariants.{Empty}
 use Rattle.block.specs.declared.fault.BlockFault.TheVariants.{BadMagic, Truncated, PreviousLength, TooManyTxs, TxTooLong, TrailingBytes}
-use Rattle.block.specs.Grammar.{IsHeader, Spells}
-use Rattle.block.specs.Faults.{number, count, tx_length, tx, HasFault}
+use Rattle.block.specs.first_version.Grammar.{IsHeader, Spells}
+use Rattle.block.specs.first_version.Faults.{number, count, tx_length, tx, HasFault}
 
 -- SHA-256 of no bytes
 abbrev no_data : List ℕ
@@ -12,10 +12,10 @@ no_data =
     227 ∷ 176 ∷ 196 ∷ 66 ∷ 152 ∷ 252 ∷ 28 ∷ 20 ∷ 154 ∷ 251 ∷ 244 ∷ 200 ∷ 153 ∷ 111 ∷ 185 ∷ 36 ∷
     39 ∷ 174 ∷ 65 ∷ 228 ∷ 100 ∷ 155 ∷ 147 ∷ 76 ∷ 164 ∷ 149 ∷ 153 ∷ 27 ∷ 120 ∷ 82 ∷ 184 ∷ 85 ∷ []
 
-abbrev header_0 : Header
+abbrev pub header_0 : Header
 header_0 = record { number = 0; previous = Empty; data_hash = no_data }
 
-is_header_0 : IsHeader header_0
+pub is_header_0 : IsHeader header_0
 is_header_0 = record { number = omega arith; previous = tt; data_hash = refl }
 
 -- the bytes up to the count
@@ -25,7 +25,7 @@ front = 0x46 ∷ 0x42 ∷ 0x4b ∷ 0x31 ∷ 0 ∷ 0 ∷ 0 ∷ 0 ∷ 0 ∷ 0 ∷ 
 abbrev with_count : List ℕ → List ℕ
 with_count rest = front ++ rest
 
-abbrev block_0 : List ℕ
+abbrev pub block_0 : List ℕ
 block_0 = with_count (0 ∷ 0 ∷ 0 ∷ 0 ∷ [])
 
 has_49_bytes : length block_0 ≡ 49
@@ -41,13 +41,13 @@ one_transaction = record { header = is_header_0; count = omega arith; each = (om
 cut_to_3 : HasFault (take 3 block_0) BadMagic
 cut_to_3 rest e = absurd cc
 
-cut_to_4 : HasFault (take 4 block_0) Truncated
+pub cut_to_4 : HasFault (take 4 block_0) Truncated
 cut_to_4 = (number, [], (tt, refl), omega arith)
 
 cut_to_48 : HasFault (take 48 block_0) Truncated
 cut_to_48 = (count header_0, 0 ∷ 0 ∷ 0 ∷ [], (is_header_0, refl), omega arith)
 
-one_byte_more : HasFault (block_0 ++ 7 ∷ []) TrailingBytes
+pub one_byte_more : HasFault (block_0 ++ 7 ∷ []) TrailingBytes
 one_byte_more = (record { header = header_0; txs = [] }, block_0, 7 ∷ [], empty_block, refl, omega arith)
 
 length_1 : HasFault (0x46 ∷ 0x42 ∷ 0x4b ∷ 0x31 ∷ 0 ∷ 0 ∷ 0 ∷ 0 ∷ 0 ∷ 0 ∷ 0 ∷ 0 ∷ 1 ∷ []) PreviousLength

@@ -1,51 +1,40 @@
 -- The block grammar: which bytes spell which block.
-use Rattle.std.specs.Prelude.{◌≡◌, ℕ, ◌^◌, ◌<◌, ◌≤◌, List, [], ◌∷◌, ◌++◌, length}
-use Rattle.std.specs.List.{flat_map, AllByRecursion}
+use Rattle.std.specs.Prelude.{◌≡◌, ℕ, ◌≤◌, List, [], ◌∷◌, ◌++◌, length}
+use Rattle.std.specs.List.{AllByRecursion}
 use Rattle.byteorder.specs.Endian.{big_bytes}
+use Rattle.transaction.specs.declared.block_version.BlockVersion.{BlockVersion}
+use Rattle.transaction.specs.declared.block_version.BlockVersion.TheVariants.{V1, V2}
 use Rattle.block.specs.declared.block.Block.{Block}
 use Rattle.block.specs.declared.block.Header.{Header}
-use Rattle.block.specs.declared.block.Previous.{Previous}
-use Rattle.block.specs.declared.block.Previous.TheVariants.{Empty, Hash}
-use Rattle.values.specs.Hash.{hash_bytes, IsHash}
-use Rattle.transaction.specs.Limits.{max_tx_bytes}
 use Rattle.block.specs.Limits.{max_txs}
+use Rattle.block.specs.first_version.Grammar as first
+-- within the limits of either version
+pub use Rattle.block.specs.first_version.Grammar.{IsHeader, IsTx}
 
--- `FBK1`
-abbrev pub magic : List ℕ
-magic = 0x46 ∷ 0x42 ∷ 0x4b ∷ 0x31 ∷ []
+-- `FBK1` or `FBK2`
+abbrev pub magic_of : BlockVersion → List ℕ
+magic_of V1 = 0x46 ∷ 0x42 ∷ 0x4b ∷ 0x31 ∷ []
+magic_of V2 = 0x46 ∷ 0x42 ∷ 0x4b ∷ 0x32 ∷ []
 
--- a byte of length, and that many bytes
-abbrev pub previous_bytes : Previous → List ℕ
-previous_bytes Empty = 0 ∷ []
-previous_bytes (Hash h) = hash_bytes ∷ h
+-- number, previous hash, data hash; numbers have the highest byte first
+abbrev pub header_fields : Header → List ℕ
+header_fields h = big_bytes 8 h.number ++ first.previous_bytes h.previous ++ h.data_hash
 
--- magic, number, previous hash, data hash; numbers have the highest byte first
-abbrev pub header_bytes : Header → List ℕ
-header_bytes h = magic ++ big_bytes 8 h.number ++ previous_bytes h.previous ++ h.data_hash
+-- the magic of its version, header, count and transactions
+abbrev pub bytes_of : Block → List ℕ
+bytes_of b = magic_of b.version ++ (header_fields b.header ++ first.txs_bytes (length b.txs) b.txs)
 
--- four bytes of length, and that many bytes
-abbrev pub tx_bytes : List ℕ → List ℕ
-tx_bytes tx = big_bytes 4 (length tx) ++ tx
-
--- four bytes of count, and that many transactions
-abbrev pub txs_bytes : ℕ → List (List ℕ) → List ℕ
-txs_bytes count txs = big_bytes 4 count ++ flat_map tx_bytes txs
-
-abbrev pub IsPrevious : Previous → Type 0
-IsPrevious Empty = Unit {0}
-IsPrevious (Hash h) = IsHash h
-
-pub record IsHeader (h : Header) : Type 0 where
-  pub number : h.number < 2 ^ 64
-  pub previous : IsPrevious h.previous
-  pub data_hash : IsHash h.data_hash
-
-abbrev pub IsTx : List ℕ → Type 0
-IsTx tx = length tx ≤ max_tx_bytes
-
--- The bytes spell the block: header, count and transactions, each within its limits, and nothing behind them.
+-- The bytes spell the block, each field within its limits, and nothing stands behind them.
 pub record Spells (bytes : List ℕ) (b : Block) : Type 0 where
-  pub header : IsHeader b.header
+  pub header : first.IsHeader b.header
   pub count : length b.txs ≤ max_txs
-  pub each : AllByRecursion IsTx b.txs
-  pub fields : bytes ≡ header_bytes b.header ++ txs_bytes (length b.txs) b.txs
+  pub each : AllByRecursion first.IsTx b.txs
+  pub fields : bytes ≡ bytes_of b
+
+-- ---- what stands behind the magic
+
+abbrev pub contents_of : Block → first.Block
+contents_of b = record { header = b.header; txs = b.txs }
+
+abbrev pub with_version : BlockVersion → first.Block → Block
+with_version version contents = record { version = version; header = contents.header; txs = contents.txs }

@@ -1,9 +1,11 @@
 -- Reading a block from left to right, one step for each private function of the reader. No public contract cites this.
-use Rattle.std.specs.Prelude.{◌≡◌, ℕ, zero, suc, List, [], ◌∷◌, length, take, drop, Result, Ok, Err, nat_lt, ◌==◌, if◌then◌else◌}
+use Rattle.std.specs.Prelude.{◌≡◌, ℕ, zero, suc, List, [], ◌∷◌, ◌++◌, length, take, drop, Result, Ok, Err, nat_lt, ◌==◌, if◌then◌else◌}
 use Rattle.std.specs.List.{starts_with}
 use Rattle.std.specs.Prelude.{nat_eq}
 use Rattle.byteorder.specs.Endian.{big_number}
-use Rattle.block.specs.declared.block.Block.{Block}
+use Rattle.block.specs.declared.block.Block as versioned
+use Rattle.transaction.specs.declared.block_version.BlockVersion.{BlockVersion}
+use Rattle.transaction.specs.declared.block_version.BlockVersion.TheVariants.{V1, V2}
 use Rattle.block.specs.declared.block.Header.{Header}
 use Rattle.block.specs.declared.block.Previous.{Previous}
 use Rattle.block.specs.declared.block.Previous.TheVariants.{Empty, Hash}
@@ -12,7 +14,8 @@ use Rattle.transaction.specs.Limits.{max_tx_bytes}
 use Rattle.block.specs.Limits.{max_txs}
 use Rattle.block.specs.declared.fault.BlockFault.{BlockFault}
 use Rattle.block.specs.declared.fault.BlockFault.TheVariants.{BadMagic, Truncated, PreviousLength, TooManyTxs, TxTooLong, TrailingBytes, Memory}
-use Rattle.block.specs.Grammar.{magic}
+use Rattle.block.specs.first_version.Grammar.{Block, magic}
+use Rattle.block.specs.Grammar.{magic_of, with_version}
 
 -- a value and the bytes behind it
 abbrev pub Read : Type 0 → Type 0
@@ -85,3 +88,18 @@ block_at bytes = do
   count ← count_at header.1
   txs ← txs_at count.0 count.1
   if length txs.1 == 0 then Ok (record { header = header.0; txs = txs.0 }) else Err TrailingBytes
+
+-- ---- either version
+
+unfoldable pub version_at : List ℕ → Read BlockVersion
+version_at bytes =
+    if starts_with nat_eq bytes (magic_of V1) then Ok (V1, drop 4 bytes)
+    else if starts_with nat_eq bytes (magic_of V2) then Ok (V2, drop 4 bytes)
+    else Err BadMagic
+
+-- behind its magic a block is read as one of version 1
+unfoldable pub versioned_at : List ℕ → Result versioned.Block BlockFault
+versioned_at bytes = do
+  version ← version_at bytes
+  contents ← block_at (magic ++ version.1)
+  Ok (with_version version.0 contents)

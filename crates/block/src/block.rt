@@ -1,6 +1,9 @@
+use transaction::BlockVersion;
 use values::{Hash, Items, Slice};
 
-pub(crate) const MAGIC: [u8; 4] = *b"FBK1";
+pub(crate) const MAGIC_1: [u8; 4] = *b"FBK1";
+
+pub(crate) const MAGIC_2: [u8; 4] = *b"FBK2";
 
 /// The most transactions of a block.
 pub const MAX_TXS: usize = 4096;
@@ -20,9 +23,11 @@ pub struct Header {
     pub data_hash: Hash,
 }
 
-/// A header, and the bytes of each transaction in order, lent.
+/// A version, a header, and the bytes of each transaction in order, lent.
 #[derive(Debug, Drop)]
 pub struct Block<'a> {
+    /// The header's hash doesn't cover it.
+    pub version: BlockVersion,
     pub header: Header,
     pub txs: Items<Slice<'a>>,
 }

@@ -9,6 +9,7 @@ mod writer;
 
 pub use block::{Block, Header, MAX_TXS, Previous};
 pub use fault::BlockFault;
-pub use laws::{limits_are_the_definitions, one_reading};
+pub use laws::{limits_are_the_definitions, one_first_version_reading, one_reading};
 pub use reader::decode_block;
+pub use transaction::BlockVersion;
 pub use writer::encode_block;

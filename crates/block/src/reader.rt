@@ -6,14 +6,15 @@ ghost use Rattle.block.specs.declared.block.Block.{Block};
 ghost use Rattle.block.specs.declared.fault.BlockFault.{BlockFault};
 ghost use Rattle.block.specs.declared.fault.BlockFault.TheVariants.{BadMagic, Truncated, Memory};
 ghost use Rattle.block.specs.Grammar.{Spells};
+ghost use Rattle.block.specs.first_version.Grammar.{magic};
 ghost use Rattle.block.specs.Faults.{HasFault};
-ghost use Rattle.block.specs.Reading.{Gives, bytes_at, number_at, magic_at, previous_at, header_at, count_at, tx_at, txs_at, block_at};
+ghost use Rattle.block.specs.Reading.{Gives, bytes_at, number_at, version_at, previous_at, header_at, count_at, tx_at, txs_at, block_at, versioned_at};
 
-use crate::block::{Block, Header, MAGIC, MAX_TXS, Previous};
+use crate::block::{Block, Header, MAGIC_1, MAGIC_2, MAX_TXS, Previous};
 use crate::fault::BlockFault;
 use byteorder::{BigEndian, ByteOrder};
 use std::alloc::{AllocError, Global};
-use transaction::MAX_TX_BYTES;
+use transaction::{BlockVersion, MAX_TX_BYTES};
 use values::{HASH_BYTES, Hash, Items, Slice};
 
 fn read_bytes(n: usize, bytes: &[u8]) -> Result<(&[u8], &[u8]), BlockFault>
@@ -43,13 +44,17 @@ fn read_u32(bytes: &[u8]) -> Result<(u32, &[u8]), BlockFault>
     Ok((BigEndian::read_u32(bytes), &bytes[4..]))
 }
 
-fn after_magic(bytes: &[u8]) -> Result<&[u8], BlockFault>
-    ensures { Gives (λ x. x.now) result (magic_at bytes.now) }
+#[tactic(auto, unfolding(crate::specs::Reading::version_at))]
+fn read_version(bytes: &[u8]) -> Result<(BlockVersion, &[u8]), BlockFault>
+    ensures { Gives (λ x. (x.0, x.1.now)) result (version_at bytes.now) }
 {
-    if !bytes.starts_with(&MAGIC) {
-        return Err(BlockFault::BadMagic);
+    if bytes.starts_with(&MAGIC_1) {
+        return Ok((BlockVersion::V1, &bytes[4..]));
     }
-    Ok(&bytes[4..])
+    if bytes.starts_with(&MAGIC_2) {
+        return Ok((BlockVersion::V2, &bytes[4..]));
+    }
+    Err(BlockFault::BadMagic)
 }
 
 fn read_hash(bytes: &[u8]) -> Result<(Hash, &[u8]), BlockFault>
@@ -83,10 +88,9 @@ fn read_previous(bytes: &[u8]) -> Result<(Previous, &[u8]), BlockFault>
 
 #[tactic(auto, unfolding(crate::specs::Reading::header_at))]
 fn read_header(bytes: &[u8]) -> Result<(Header, &[u8]), BlockFault>
-    ensures { Gives (λ x. (x.0, x.1.now)) result (header_at bytes.now) }
+    ensures { Gives (λ x. (x.0, x.1.now)) result (header_at (magic ++ bytes.now)) }
 {
-    let rest = after_magic(bytes)?;
-    let (number, rest) = read_u64(rest)?;
+    let (number, rest) = read_u64(bytes)?;
     let (previous, rest) = read_previous(rest)?;
     let (data_hash, rest) = read_hash(rest)?;
     let header = Header {
@@ -151,8 +155,8 @@ fn read_txs(
 }
 
 #[tactic(auto, unfolding(crate::specs::Reading::block_at))]
-fn read_block(alloc: Global, bytes: &[u8]) -> Result<Block<'_>, BlockFault>
-    ensures { Gives (λ b. b) result (block_at bytes.now) }
+fn read_contents(alloc: Global, bytes: &[u8]) -> Result<(Header, Items<Slice<'_>>), BlockFault>
+    ensures { Gives (λ x. record { header = x.0; txs = x.1 }) result (block_at (magic ++ bytes.now)) }
 {
     let (header, rest) = read_header(bytes)?;
     let (count, rest) = read_count(rest)?;
@@ -160,7 +164,20 @@ fn read_block(alloc: Global, bytes: &[u8]) -> Result<Block<'_>, BlockFault>
     if !rest.is_empty() {
         return Err(BlockFault::TrailingBytes);
     }
-    Ok(Block { header, txs })
+    Ok((header, txs))
+}
+
+#[tactic(auto, unfolding(crate::specs::Reading::versioned_at))]
+fn read_block(alloc: Global, bytes: &[u8]) -> Result<Block<'_>, BlockFault>
+    ensures { Gives (λ b. b) result (versioned_at bytes.now) }
+{
+    let (version, rest) = read_version(bytes)?;
+    let (header, txs) = read_contents(alloc, rest)?;
+    Ok(Block {
+        version,
+        header,
+        txs,
+    })
 }
 
 /// The block that the bytes spell, which it lends, or the fault of the first field from the left that can't be read.

@@ -2,12 +2,13 @@ ghost use Rattle.std.specs.Prelude.{◌≡◌, ℕ, ◌^◌, ◌<◌, List, ◌+
 ghost use Rattle.std.specs.List.{list_all};
 ghost use Rattle.values.specs.Memory.{GivesUnless};
 ghost use Rattle.transaction.specs.declared.fault.EncodeFault.TheVariants.{TooLarge, Memory};
-ghost use Rattle.block.specs.Grammar.{previous_bytes, header_bytes, tx_bytes, txs_bytes, IsPrevious, IsHeader, Spells};
+ghost use Rattle.block.specs.first_version.Grammar.{previous_bytes, tx_bytes, txs_bytes, IsPrevious, IsHeader};
+ghost use Rattle.block.specs.Grammar.{magic_of, header_fields, Spells};
 ghost use Rattle.block.specs.Limits.{is_short, are_within_limits};
 
-use crate::block::{Block, Header, MAGIC, MAX_TXS, Previous};
+use crate::block::{Block, Header, MAGIC_1, MAGIC_2, MAX_TXS, Previous};
 use std::alloc::{AllocError, Global};
-use transaction::{EncodeFault, MAX_TX_BYTES, put_u32, put_u64};
+use transaction::{BlockVersion, EncodeFault, MAX_TX_BYTES, put_u32, put_u64};
 use values::{Bytes, HASH_BYTES, Slice};
 
 fn put_previous(out: &mut Vec<u8>, previous: &Previous) -> Result<(), AllocError>
@@ -24,11 +25,19 @@ fn put_previous(out: &mut Vec<u8>, previous: &Previous) -> Result<(), AllocError
     Ok(())
 }
 
+fn put_magic(out: &mut Vec<u8>, version: BlockVersion) -> Result<(), AllocError>
+    ensures { OnOk result (out.new.items ≡ out.old.items ++ magic_of version) }
+{
+    match version {
+        BlockVersion::V1 => out.extend_from_slice(&MAGIC_1),
+        BlockVersion::V2 => out.extend_from_slice(&MAGIC_2),
+    }
+}
+
 fn put_header(out: &mut Vec<u8>, header: &Header) -> Result<(), AllocError>
-    ensures bytes { OnOk result (out.new.items ≡ out.old.items ++ header_bytes header.now) }
+    ensures bytes { OnOk result (out.new.items ≡ out.old.items ++ header_fields header.now) }
     ensures fits { OnOk result (IsHeader header.now) }
 {
-    out.extend_from_slice(&MAGIC)?;
     put_u64(out, header.number)?;
     put_previous(out, &header.previous)?;
     out.extend_from_slice(&header.data_hash)
@@ -83,6 +92,7 @@ pub fn encode_block(alloc: Global, block: &Block<'_>) -> Result<Bytes, EncodeFau
         return Err(EncodeFault::TooLarge);
     }
     let mut bytes = Vec::new(alloc);
+    put_magic(&mut bytes, block.version)?;
     put_header(&mut bytes, &block.header)?;
     put_txs(&mut bytes, block.txs.as_slice())?;
     Ok(Bytes::from_vec(bytes))

@@ -1,14 +1,10 @@
 -- Blocks on their way into a world.
-use Rattle.std.specs.Prelude.{◌≡◌, ◌++◌, ℕ, List, length, Option, Result, MatchResult}
+use Rattle.std.specs.Prelude.{◌≡◌, ℕ, List, Option, Result, MatchResult}
 use Rattle.block.specs.declared.block.Block.{Block}
-use Rattle.block.specs.Grammar.{Spells, header_bytes, txs_bytes}
+use Rattle.block.specs.Grammar.{Spells, bytes_of}
 use Rattle.rules.specs.declared.answer.Refused.{Refused}
 use Rattle.rules.specs.World.{World, height_of, last_header_hash}
 use Rattle.rules.specs.Linked.{HasNumber, HasPrevious, IsLinked, IsRefused, IsUnlinked}
-
--- the bytes that spell it
-abbrev pub bytes_of : Block → List ℕ
-bytes_of b = header_bytes b.header ++ txs_bytes (length b.txs) b.txs
 
 -- what the bytes spell, or why any world refuses them
 abbrev pub IsDecoded : List ℕ → Result Block Refused → Type 0

@@ -1,13 +1,14 @@
 //! A block on its way into a world: decoded, at the place of the next one, linked. Each step answers why not, so that the
-//! order of refusals stands here: bytes that spell no block, the number, the previous hash, the data hash.
+//! order of refusals stands here: bytes that spell no block, the number, the previous hash, the data hash, the version.
 ghost use Rattle.std.specs.Prelude.{◌≡◌, IfOk, MatchResult};
 ghost use Rattle.header_hash.specs.Hashes.{data_hash_of};
 ghost use Rattle.rules.specs.World as world;
 ghost use Rattle.rules.specs.World.{World};
-ghost use Rattle.rules.specs.Linked.{HasDataHash, IsUnlinked};
-ghost use Rattle.block_steps.specs.OnItsWay.{EndsAt, IsAtPlace, IsDecoded, IsNextOf, IsPlaced, bytes_of};
+ghost use Rattle.block.specs.Grammar.{bytes_of};
+ghost use Rattle.rules.specs.Linked.{HasDataHash, HasVersion, IsUnlinked, is_older};
+ghost use Rattle.block_steps.specs.OnItsWay.{EndsAt, IsAtPlace, IsDecoded, IsNextOf, IsPlaced};
 
-use block::{Block, BlockFault, Header, Previous, decode_block};
+use block::{Block, BlockFault, BlockVersion, Header, Previous, decode_block};
 use header_hash::data_hash;
 use rules::Refused;
 use std::alloc::{AllocError, Global};
@@ -131,6 +132,23 @@ fn check_data_hash(block: &Block<'_>, data_hash: Hash) -> Result<(), Refused>
     Ok(())
 }
 
+fn is_older(version: BlockVersion, last: BlockVersion) -> bool
+    ensures { result ≡ is_older version last }
+{
+    version == BlockVersion::V1 && last == BlockVersion::V2
+}
+
+/// Whether a block at its place, whose data hash is right, is linked behind a block of this version.
+fn check_version(block: &Block<'_>, last_version: BlockVersion) -> Result<(), Refused>
+    ensures { (w : World) → world.last_version w ≡ last_version → IsAtPlace w block.now → HasDataHash block.now
+        → MatchResult result (λ _. HasVersion w block.now) (IsUnlinked w block.now) }
+{
+    if is_older(block.version, last_version) {
+        return Err(Refused::OldVersion);
+    }
+    Ok(())
+}
+
 impl<'b> DecodedBlock<'b> {
     /// The block that the bytes spell, or why they spell none. Costs what [`decode_block`] does.
     pub fn decode(alloc: Global, bytes: &'b [u8]) -> Result<DecodedBlock<'b>, Refused>
@@ -187,21 +205,27 @@ impl<'b> PlacedBlock<'b> {
         self.decoded
     }
 
-    /// The block, where it is the next one. Hashes its transactions: linear in their bytes, and takes no memory.
-    pub fn linked(self) -> Result<LinkedBlock<'b>, Refused>
+    /// The block, where it is the next one behind a block of this version. Hashes its transactions: linear in their bytes, and
+    /// takes no memory.
+    pub fn linked(self, last_version: BlockVersion) -> Result<LinkedBlock<'b>, Refused>
         ensures same { IfOk result (λ linked. linked ≡ self.entry) }
-        ensures next { (w : World) → IsAtPlace w self.entry → IsNextOf w self.entry result }
+        ensures next { (w : World) → IsAtPlace w self.entry → world.last_version w ≡ last_version → IsNextOf w self.entry result }
     {
         let hash = data_hash(self.decoded.txs());
-        self.linked_by(hash)
+        self.linked_by(hash, last_version)
     }
 
-    fn linked_by(self, data_hash: Hash) -> Result<LinkedBlock<'b>, Refused>
+    fn linked_by(
+        self,
+        data_hash: Hash,
+        last_version: BlockVersion,
+    ) -> Result<LinkedBlock<'b>, Refused>
         requires { data_hash ≡ data_hash_of self.txs }
         ensures same { IfOk result (λ linked. linked ≡ self.entry) }
-        ensures next { (w : World) → IsAtPlace w self.entry → IsNextOf w self.entry result }
+        ensures next { (w : World) → IsAtPlace w self.entry → world.last_version w ≡ last_version → IsNextOf w self.entry result }
     {
         check_data_hash(&self.decoded.block, data_hash)?;
+        check_version(&self.decoded.block, last_version)?;
         Ok(LinkedBlock {
             decoded: self.decoded,
         })
@@ -209,20 +233,21 @@ impl<'b> PlacedBlock<'b> {
 }
 
 impl<'b> HashedBlock<'b> {
-    /// The block, where it is the next one of any world of this height and last header hash; else its first fault there: of its
-    /// place, as of [`DecodedBlock::at_place`], then of its data hash. Constant time.
+    /// The block, where it is the next one of any world of this height, last header hash and last version; else its first fault
+    /// there: of its place, as of [`DecodedBlock::at_place`], then of its data hash, then of its version. Constant time.
     pub fn linked(
         self,
         height: u64,
         last_header_hash: Option<Hash>,
+        last_version: BlockVersion,
     ) -> Result<LinkedBlock<'b>, Refused>
         ensures same { IfOk result (λ linked. linked ≡ self.entry) }
-        ensures next { (w : World) → EndsAt w height last_header_hash → IsNextOf w self.entry result }
+        ensures next { (w : World) → EndsAt w height last_header_hash → world.last_version w ≡ last_version → IsNextOf w self.entry result }
     {
         let HashedBlock { decoded, data_hash } = self;
         decoded
             .at_place(height, last_header_hash)?
-            .linked_by(data_hash)
+            .linked_by(data_hash, last_version)
     }
 }
 
@@ -231,6 +256,12 @@ impl<'b> LinkedBlock<'b> {
         ensures { result.now ≡ self.now.header }
     {
         &self.decoded.block.header
+    }
+
+    pub fn version(&self) -> BlockVersion
+        ensures { result ≡ self.now.version }
+    {
+        self.decoded.block.version
     }
 
     pub fn txs(&self) -> &[Slice<'b>]

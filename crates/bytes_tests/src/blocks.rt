@@ -1,5 +1,5 @@
 use crate::joined::joined;
-use block::{Block, BlockFault, Header, Previous, decode_block, encode_block};
+use block::{Block, BlockFault, BlockVersion, Header, Previous, decode_block, encode_block};
 use std::alloc::{AllocError, Global};
 use std::process::Abort;
 use std::test::Fail;
@@ -103,6 +103,29 @@ fn a_block_with_transactions_both_ways(rt: HostRuntime) -> Result<(), Fail> {
     Ok(())
 }
 
+// The same bytes with the magic of version 2.
+fn three_of_version_2(alloc: Global) -> Result<Vec<u8>, AllocError> {
+    let bytes = three(alloc)?;
+    joined(alloc, &[b"FBK2", bytes.get(4..).unwrap_or(&[])])
+}
+
+fn version_of(alloc: Global, bytes: &[u8]) -> Option<BlockVersion> {
+    match decode_block(alloc, bytes) {
+        Ok(block) => Some(block.version),
+        Err(_) => None,
+    }
+}
+
+#[test]
+fn a_block_of_version_2_both_ways(rt: HostRuntime) -> Result<(), Fail> {
+    let bytes = three_of_version_2(rt.alloc())?;
+    expect_three(&rt, rt.alloc(), &bytes);
+    assert!(rt; version_of(rt.alloc(), &bytes) == Some(BlockVersion::V2));
+    let bytes = three(rt.alloc())?;
+    assert!(rt; version_of(rt.alloc(), &bytes) == Some(BlockVersion::V1));
+    Ok(())
+}
+
 fn fault_when_cut(len: usize) -> BlockFault {
     if len < 4 {
         BlockFault::BadMagic
@@ -132,8 +155,12 @@ fn cut_and_lengthened(rt: HostRuntime) -> Result<(), Fail> {
 
 #[test]
 fn the_first_fault_of_a_header(rt: HostRuntime) -> Result<(), Fail> {
-    let rows: [(&[u8], BlockFault); 3] = [
-        (b"FBK2", BlockFault::BadMagic),
+    let rows: [(&[u8], BlockFault); 7] = [
+        (b"FBK3", BlockFault::BadMagic),
+        (b"FBK", BlockFault::BadMagic),
+        (b"fbk2", BlockFault::BadMagic),
+        (b"FBK2", BlockFault::Truncated),
+        (b"FBK2\0\0\0\0\0\0\0\0\x01", BlockFault::PreviousLength),
         (b"FBK1\0\0\0\0\0\0\0\0\x01", BlockFault::PreviousLength),
         (b"FBK1\0\0\0\0\0\0\0\0\x20", BlockFault::Truncated),
     ];
@@ -180,6 +207,7 @@ fn txs_of<'a>(alloc: Global, empty: usize, last: &'a [u8]) -> Result<Items<Slice
 
 fn block_of(txs: Items<Slice<'_>>) -> Block<'_> {
     Block {
+        version: BlockVersion::V1,
         header: Header {
             number: 1,
             previous: Previous::Hash([1; 32]),

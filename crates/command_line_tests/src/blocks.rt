@@ -178,7 +178,7 @@ fn expect_no_blocks<'a>(
     let files = [
         ("c", CHANNEL),
         ("k", KEYS),
-        ("1", b"FBK2".as_slice()),
+        ("1", b"FBK3".as_slice()),
         ("2", cut),
         ("3", b"FBK1\0\0\0\0\0\0\0\0\x01".as_slice()),
         ("4", many),

@@ -2,7 +2,7 @@
 use crate::drafted::vectors::{answers, first_block, first_script, second_block, second_script};
 use crate::fixture::{CHANNEL, File, MemoryFiles, OneOut, expect, expect_rows};
 use crate::signatures::keys;
-use std::alloc::AllocError;
+use std::alloc::{AllocError, Global};
 use std::cell::Cell;
 use std::process::Abort;
 use std::sync::Wait;
@@ -24,6 +24,15 @@ fn expect_block<'a>(
     };
     expect(rt, &files, words, 0, "", "");
     assert!(rt; files.written.get() == 1);
+}
+
+// The same bytes with the magic of version 2.
+fn of_version_2(alloc: Global, block: &[u8]) -> Result<Vec<u8>, AllocError> {
+    let mut bytes = Vec::from_slice(alloc, block)?;
+    if let Some(byte) = bytes.get_mut(3) {
+        *byte = b'2';
+    }
+    Ok(bytes)
 }
 
 const WORDS: [&str; 10] = [
@@ -52,13 +61,47 @@ fn scripts_become_blocks(rt: HostRuntime) {
     expect_block(&rt, &files, &WORDS, second_block());
 }
 
+const IN_VERSION_2: [&str; 10] = [
+    "fabcommit",
+    "draft",
+    "--format",
+    "2",
+    "s",
+    "out",
+    "--channel",
+    "c",
+    "--keys",
+    "k",
+];
+
 #[test]
-fn what_the_blocks_leave_behind(rt: HostRuntime) -> Result<(), AllocError> {
+fn scripts_become_blocks_of_version_2(rt: HostRuntime) -> Result<(), AllocError> {
+    let files = [("c", CHANNEL), ("k", keys()), ("s", first_script())];
+    let block = of_version_2(rt.alloc(), first_block())?;
+    expect_block(&rt, &files, &IN_VERSION_2, &block);
+    Ok(())
+}
+
+// The blocks of both scripts, in version 1 and in version 2.
+fn expect_answers<'a>(
+    rt: &(impl Abort + AllocGlobal + Threads + Wait + Sync),
+    first: &'a [u8],
+    second: &'a [u8],
+) -> Result<(), AllocError> {
     let files = [
         ("c", CHANNEL),
         ("k", keys()),
         ("b0", first_block()),
         ("b1", second_block()),
+        ("c0", first),
+        ("c1", second),
     ];
-    expect_rows(&rt, &MemoryFiles(&files), answers())
+    expect_rows(rt, &MemoryFiles(&files), answers())
+}
+
+#[test]
+fn what_the_blocks_leave_behind(rt: HostRuntime) -> Result<(), AllocError> {
+    let first = of_version_2(rt.alloc(), first_block())?;
+    let second = of_version_2(rt.alloc(), second_block())?;
+    expect_answers(&rt, &first, &second)
 }

@@ -34,7 +34,7 @@ const EXPLAIN: &str =
 // Words behind the program's name, and two texts that what is said of them has.
 type Row = (&'static [&'static str], &'static str, &'static str);
 
-const MISTAKES: [Row; 24] = [
+const MISTAKES: [Row; 26] = [
     (
         &[],
         "'fabcommit' requires a subcommand but one was not provided",
@@ -80,6 +80,26 @@ const MISTAKES: [Row; 24] = [
         &["draft", "--channel", "c", "--keys", "k", "s", "o", "p"],
         "unexpected argument 'p' found",
         "fabcommit draft",
+    ),
+    (
+        &["draft", "--format", "3"],
+        "invalid value '3' for '--format <N>': 3 is not in 1..=2",
+        "--help",
+    ),
+    (
+        &[
+            "draft",
+            "--channel",
+            "c",
+            "--keys",
+            "k",
+            "--format",
+            "+1",
+            "s",
+            "o",
+        ],
+        "a number is written with digits alone",
+        COMMAND,
     ),
     (
         &["get", "--channel", "c", "--keys", "k", "--ns", "cc"],

@@ -1,8 +1,9 @@
 //! The words of `draft`.
-use crate::arguments::{Argument, Form};
+use crate::arguments::{Argument, Form, number_of};
 use crate::paths::{CHANNEL, ConfigurationPaths, KEYS};
 use crate::subcommand::Subcommand;
 use clap::ArgMatches;
+use transaction::BlockVersion;
 
 pub(crate) static DRAFT: Subcommand = Subcommand {
     name: "draft",
@@ -18,7 +19,7 @@ Example:
     endorse Org1:peer:p0
 
   Prints nothing. Where the script has a fault, OUT stays as it was.",
-    arguments: &[CHANNEL, KEYS, AFTER, SCRIPT, OUT],
+    arguments: &[CHANNEL, KEYS, AFTER, FORMAT, SCRIPT, OUT],
 };
 
 const AFTER: Argument = Argument {
@@ -26,6 +27,17 @@ const AFTER: Argument = Argument {
     value_name: "FILE",
     help: "The block that the new one follows; without it block 0 is made",
     form: Form::Optional,
+};
+
+const FORMAT: Argument = Argument {
+    name: "format",
+    value_name: "N",
+    help: "The version of the block, 1 or 2; behind a block of version 2 none of version 1 is accepted",
+    form: Form::Count {
+        default: "1",
+        least: 1,
+        most: 2,
+    },
 };
 
 const SCRIPT: Argument = Argument {
@@ -47,8 +59,18 @@ const OUT: Argument = Argument {
 pub struct Draft<'a> {
     pub configuration: ConfigurationPaths<'a>,
     pub after: Option<&'a str>,
+    pub version: BlockVersion,
     pub script: &'a str,
     pub out: &'a str,
+}
+
+// Clap has looked at the bounds already.
+fn version_of(matches: &ArgMatches<'_>) -> Option<BlockVersion> {
+    match number_of(matches, "format")? {
+        1 => Some(BlockVersion::V1),
+        2 => Some(BlockVersion::V2),
+        _ => None,
+    }
 }
 
 impl<'a> Draft<'a> {
@@ -56,6 +78,7 @@ impl<'a> Draft<'a> {
         Some(Draft {
             configuration: ConfigurationPaths::from_matches(matches)?,
             after: matches.get_str("after"),
+            version: version_of(matches)?,
             script: matches.get_str("script")?,
             out: matches.get_str("out")?,
         })

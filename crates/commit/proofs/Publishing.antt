@@ -1,18 +1,13 @@
 -- The delta of the next block may be published, and once it is, the block is committed.
 use Rattle.std.proofs.Common.{◌≡◌, ℕ, false, List, [], ◌∷◌, ◌++◌, length, refl, sym, ap, subst, ◌∙◌}
-use Rattle.std.proofs.lemmas.List.{length-map}
-use Rattle.block.specs.Grammar.{Spells}
 use Rattle.channel.specs.Configuration.{Configuration}
 use Rattle.policy_eval.specs.Accepts.{Accepts}
-use Rattle.rules.specs.declared.committed.CommittedBlock.{CommittedBlock}
 use Rattle.rules.specs.declared.delta.Delta.{Delta}
-use Rattle.rules.specs.Commit.{txs_of, job_of}
 use Rattle.rules.specs.Delta.{applied}
 use Rattle.rules.specs.declared.answer.Refused.{Refused}
 use Rattle.rules.specs.Linked.{IsRefused, IsLinkedDelta}
 use Rattle.rules.specs.World.{World, empty_world, height_of}
-use Rattle.rules.proofs.BlockFlags.{length-flags}
-use Rattle.rules.proofs.Candidates.{length-candidates_from}
+use Rattle.rules.proofs.Deltas.{delta-is_linked}
 use Rattle.query.specs.declared.receipt.Receipt.{Receipt}
 use Rattle.query.specs.Published.{Publishing, applied_all, published_world}
 use Rattle.ledger.specs.NextDelta.{IsNextDelta}
@@ -27,16 +22,7 @@ refused_by p w bytes r empty lent is =
 
 module _ (channel : Configuration) (accepts : Accepts) where
   pub next-linked : (w : World) (bytes : List ℕ) (d : Delta) → IsNextDelta channel accepts w bytes d → IsLinkedDelta w d
-  next-linked w bytes d next =
-      let b = next.block in
-      record {
-        block = b;
-        spelled = subst (λ (k : CommittedBlock). Spells k.bytes b) (sym next.delta.block) next.spelled;
-        linked = next.linked;
-        header_hash = ap (λ (k : CommittedBlock). k.header_hash) next.delta.block;
-        flags = ap (λ (k : CommittedBlock). length k.flags) next.delta.block
-            ∙ (length-flags (job_of channel accepts w (txs_of b)) ∙ (length-candidates_from channel accepts w.first_uses [] (txs_of b) ∙ length-map b.txs _));
-      }
+  next-linked w bytes d next = delta-is_linked channel accepts w bytes next.block d next.spelled next.linked next.delta
 
   applied_all-more : (w : World) (ds : List Delta) (d : Delta) → applied_all w (ds ++ d ∷ []) ≡ applied (applied_all w ds) d
   applied_all-more w [] d = refl

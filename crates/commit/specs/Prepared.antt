@@ -2,7 +2,8 @@
 use Rattle.std.specs.Prelude.{◌≡◌, ◌∷◌, [], ℕ, List, map, take, drop, length, Option, Result, IfSome, MatchResult}
 use Rattle.std.specs.Vec.Iter.{into_iter_items}
 use Rattle.block.specs.declared.block.Block.{Block}
-use Rattle.block_steps.specs.OnItsWay.{IsDecoded, bytes_of}
+use Rattle.block.specs.Grammar.{bytes_of}
+use Rattle.block_steps.specs.OnItsWay.{IsDecoded}
 use Rattle.channel.specs.Configuration.{Configuration}
 use Rattle.intake.specs.declared.taking.Taken.{Taken}
 use Rattle.intake.specs.Place.{taken_of, shown}

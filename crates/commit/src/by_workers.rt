@@ -75,7 +75,7 @@ fn linked<'b>(
         bytes,
     } = hashed;
     let hashed = block.with_data_hash(data_hash);
-    let linked = hashed.linked(world.height(), world.header_hash())?;
+    let linked = hashed.linked(world.height(), world.header_hash(), world.version())?;
     Ok((linked, bytes))
 }
 

@@ -1,6 +1,6 @@
 //! A channel and a key book, and what a script drafts there.
 
-use block::Header;
+use block::{BlockVersion, Header};
 use drafts::{DraftFault, draft};
 use failing::Failed;
 use key_book::{KeyBook, KeyBookFault};
@@ -35,7 +35,7 @@ pub fn drafted(
         }
     }
     let channel = channel(alloc)?;
-    match draft(alloc, &channel, keys, after, script) {
+    match draft(alloc, &channel, keys, BlockVersion::V1, after, script) {
         Ok(block) => Ok(Ok(block)),
         Err(DraftFault::Line(line)) => Ok(Err(line)),
         Err(DraftFault::Memory) => Err(Failed::from(DraftFault::Memory)),

@@ -19,6 +19,7 @@ use Rattle.scripts.specs.Draft.{Draft}
 use Rattle.drafts.specs.declared.fault.DraftFault.{DraftFault}
 use Rattle.drafts.specs.declared.fault.DraftFault.TheVariants.{Line}
 use Rattle.drafts.specs.DraftTx.{tx_of, is_too_long}
+use Rattle.transaction.specs.declared.block_version.BlockVersion.TheVariants.{V1, V2}
 use Rattle.drafts.specs.DraftBlock.{◌>>=◌, item_bytes, or_line, script_txs, block_after, txs_of, drafted}
 
 client : Identity
@@ -109,9 +110,13 @@ short_enough d short =
 
 -- ---- blocks
 
-first_of_all : drafted keys (codes "ch") None [] ≡ Ok (0x46 ∷ 0x42 ∷ 0x4b ∷ 0x31 ∷ 0 ∷ 0 ∷ 0 ∷ 0 ∷ 0 ∷ 0 ∷ 0 ∷ 0 ∷ 0 ∷ (sha256 [] ++ (0 ∷ 0 ∷ 0 ∷ 0 ∷ [])))
+first_of_all : drafted keys (codes "ch") V1 None [] ≡ Ok (0x46 ∷ 0x42 ∷ 0x4b ∷ 0x31 ∷ 0 ∷ 0 ∷ 0 ∷ 0 ∷ 0 ∷ 0 ∷ 0 ∷ 0 ∷ 0 ∷ (sha256 [] ++ (0 ∷ 0 ∷ 0 ∷ 0 ∷ [])))
 unfolding client peer keys
 first_of_all = refl
 
-behind_another : (h : Header) → h.number ≡ 4 → (block_after (Some h) ((1 ∷ []) ∷ (2 ∷ []) ∷ [])).header ≡ record { number = 5; previous = Hash (sha256 (der_of h)); data_hash = sha256 (1 ∷ 2 ∷ []) }
+second_format : drafted keys (codes "ch") V2 None [] ≡ Ok (0x46 ∷ 0x42 ∷ 0x4b ∷ 0x32 ∷ 0 ∷ 0 ∷ 0 ∷ 0 ∷ 0 ∷ 0 ∷ 0 ∷ 0 ∷ 0 ∷ (sha256 [] ++ (0 ∷ 0 ∷ 0 ∷ 0 ∷ [])))
+unfolding client peer keys
+second_format = refl
+
+behind_another : (h : Header) → h.number ≡ 4 → (block_after V1 (Some h) ((1 ∷ []) ∷ (2 ∷ []) ∷ [])).header ≡ record { number = 5; previous = Hash (sha256 (der_of h)); data_hash = sha256 (1 ∷ 2 ∷ []) }
 behind_another h four = ap (λ (n : ℕ). record { number = n + 1; previous = Hash (sha256 (der_of h)); data_hash = sha256 (1 ∷ 2 ∷ []) }) four

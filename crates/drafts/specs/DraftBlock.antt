@@ -1,7 +1,8 @@
 -- The block that a script makes behind a header, or its first faulty line.
-use Rattle.std.specs.Prelude.{ℕ, ◌+◌, ◌++◌, if◌then◌else◌, List, [], ◌∷◌, length, Option, Some, None, Result, Ok, Err}
+use Rattle.std.specs.Prelude.{ℕ, ◌+◌, if◌then◌else◌, List, [], ◌∷◌, Option, Some, None, Result, Ok, Err}
 use Rattle.transaction.specs.Grammar.{whole_bytes}
-use Rattle.block.specs.Grammar.{header_bytes, txs_bytes}
+use Rattle.transaction.specs.declared.block_version.BlockVersion.{BlockVersion}
+use Rattle.block.specs.Grammar.{bytes_of}
 use Rattle.block.specs.declared.block.Block.{Block}
 use Rattle.block.specs.declared.block.Header.{Header}
 use Rattle.block.specs.declared.block.Previous.{Previous}
@@ -56,21 +57,17 @@ abbrev pub previous_after : Option Header → Previous
 previous_after None = Empty
 previous_after (Some previous) = Hash (header_hash_of previous)
 
--- the block of these transactions behind a header
-abbrev pub block_after : Option Header → List (List ℕ) → Block
-block_after previous txs =
-    record {
-      header = record { number = number_after previous; previous = previous_after previous; data_hash = data_hash_of txs };
-      txs = txs;
-    }
+abbrev pub header_after : Option Header → List (List ℕ) → Header
+header_after previous txs = record { number = number_after previous; previous = previous_after previous; data_hash = data_hash_of txs }
 
-abbrev pub block_bytes : Block → List ℕ
-block_bytes block = header_bytes block.header ++ txs_bytes (length block.txs) block.txs
+-- the block of this version and these transactions behind a header
+abbrev pub block_after : BlockVersion → Option Header → List (List ℕ) → Block
+block_after version previous txs = record { version = version; header = header_after previous txs; txs = txs }
 
 -- the transactions of a text's script, or its first faulty line
 abbrev pub txs_of : List Entry → List ℕ → List ℕ → Result (List (List ℕ)) DraftFault
 txs_of keys channel text = script_txs keys channel (script_of keys text)
 
 -- the bytes of its block, or its first faulty line
-abbrev pub drafted : List Entry → List ℕ → Option Header → List ℕ → Result (List ℕ) DraftFault
-drafted keys channel previous text = txs_of keys channel text >>= λ txs. Ok (block_bytes (block_after previous txs))
+abbrev pub drafted : List Entry → List ℕ → BlockVersion → Option Header → List ℕ → Result (List ℕ) DraftFault
+drafted keys channel version previous text = txs_of keys channel text >>= λ txs. Ok (bytes_of (block_after version previous txs))

@@ -1,6 +1,7 @@
 -- What a drafted block is: it has the header that belongs behind another, and the transactions of its script in order.
 use Rattle.std.specs.Prelude.{◌≡◌, ℕ, List, [], ◌∷◌, Option, None}
 use Rattle.transaction.specs.Grammar.{SpellsTx}
+use Rattle.transaction.specs.declared.block_version.BlockVersion.{BlockVersion}
 use Rattle.block.specs.Grammar.{Spells}
 use Rattle.block.specs.declared.block.Header.{Header}
 use Rattle.key_book.specs.Entry.{Entry}
@@ -22,9 +23,9 @@ MakesAll keys channel [] (tx ∷ txs) = ⊥
 MakesAll keys channel (item ∷ items) [] = ⊥
 MakesAll keys channel (item ∷ items) (tx ∷ txs) = Makes keys channel item tx × MakesAll keys channel items txs
 
-pub record IsDrafted (keys : List Entry) (channel : List ℕ) (previous : Option Header) (text bytes : List ℕ) : Type 0 where
+pub record IsDrafted (keys : List Entry) (channel : List ℕ) (version : BlockVersion) (previous : Option Header) (text bytes : List ℕ) : Type 0 where
   -- no line is faulty
   pub whole : (script_of keys text).fault ≡ None
   pub txs : List (List ℕ)
   pub makes : MakesAll keys channel (script_of keys text).items txs
-  pub spelled : Spells bytes (block_after previous txs)
+  pub spelled : Spells bytes (block_after version previous txs)

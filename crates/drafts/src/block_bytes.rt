@@ -1,11 +1,11 @@
 //! The bytes of a block of transactions behind a header.
 ghost use Rattle.std.specs.Prelude.{◌≡◌, ◌+◌, ◌<◌, ◌≤◌, ◌^◌, length, IfOk, IfSome};
 ghost use Rattle.std.specs.List.{AllByRecursion};
-ghost use Rattle.block.specs.Grammar.{IsTx, Spells};
+ghost use Rattle.block.specs.Grammar.{IsTx, Spells, bytes_of};
 ghost use Rattle.block.specs.Limits.{max_txs};
 ghost use Rattle.drafts.specs.DraftBlock as spec;
 
-use block::{Block, Header, Previous, encode_block};
+use block::{Block, BlockVersion, Header, Previous, encode_block};
 use header_hash::{data_hash, header_hash};
 use std::alloc::{AllocError, Global};
 use transaction::EncodeFault;
@@ -23,7 +23,7 @@ fn lend_txs<'a>(alloc: Global, txs: &'a [Bytes]) -> Result<Items<Slice<'a>>, All
 
 fn header_after(previous: Option<Header>, txs: &[Slice<'_>]) -> Header
     requires { IfSome previous (λ h. h.number + 1 < 2 ^ 64) }
-    ensures { result ≡ (spec.block_after previous txs.now).header }
+    ensures { result ≡ spec.header_after previous txs.now }
 {
     let data_hash = data_hash(txs);
     match previous {
@@ -42,17 +42,19 @@ fn header_after(previous: Option<Header>, txs: &[Slice<'_>]) -> Header
 
 pub(crate) fn block_bytes(
     alloc: Global,
+    version: BlockVersion,
     previous: Option<Header>,
     txs: &[Bytes],
 ) -> Result<Bytes, AllocError>
     requires number { IfSome previous (λ h. h.number + 1 < 2 ^ 64) }
     requires count { length txs.now ≤ max_txs }
     requires each { AllByRecursion IsTx txs.now }
-    ensures bytes { IfOk result (λ bytes. bytes ≡ spec.block_bytes (spec.block_after previous txs.now)) }
-    ensures spelled { IfOk result (λ bytes. Spells bytes (spec.block_after previous txs.now)) }
+    ensures bytes { IfOk result (λ bytes. bytes ≡ bytes_of (spec.block_after version previous txs.now)) }
+    ensures spelled { IfOk result (λ bytes. Spells bytes (spec.block_after version previous txs.now)) }
 {
     let lent = lend_txs(alloc, txs)?;
     let block = Block {
+        version,
         header: header_after(previous, lent.as_slice()),
         txs: lent,
     };

@@ -12,7 +12,7 @@ ghost use Rattle.drafts.specs.Drafted.{Makes, MakesAll, IsDrafted};
 use crate::block_bytes::block_bytes;
 use crate::fault::DraftFault;
 use crate::tx_bytes::tx_bytes;
-use block::Header;
+use block::{BlockVersion, Header};
 use key_book::KeyBook;
 use scripts::{Draft, Item, read};
 use std::alloc::Global;
@@ -70,7 +70,7 @@ fn items_bytes(
     Ok(txs)
 }
 
-/// The bytes of the block that a script drafts on a channel: behind the header of the block before, or block 0 where
+/// The bytes of the block of this version that a script drafts on a channel: behind the header of the block before, or block 0 where
 /// there is none. A drafted transaction gets its id, and the signatures of its endorsers and its creator by the book's
 /// keys; a raw one is taken as it is. [`scripts::read`] says how a script is read.
 ///
@@ -84,19 +84,20 @@ pub fn draft(
     alloc: Global,
     channel: &Name,
     keys: &KeyBook,
+    version: BlockVersion,
     previous: Option<Header>,
     text: &str,
 ) -> Result<Bytes, DraftFault>
     requires { IfSome previous (λ h. h.number + 1 < 2 ^ 64) }
     // Exactly these bytes, or the first faulty line.
-    ensures drafted { GivesUnless Memory result (spec.drafted keys.now channel.now previous text.now) }
+    ensures drafted { GivesUnless Memory result (spec.drafted keys.now channel.now version previous text.now) }
     // They spell the block that has the script's transactions and stands behind the header.
-    ensures block { IfOk result (λ bytes. IsDrafted keys.now channel.now previous text.now bytes) }
+    ensures block { IfOk result (λ bytes. IsDrafted keys.now channel.now version previous text.now bytes) }
 {
     let script = read(alloc, text, keys)?;
     let txs = items_bytes(alloc, channel, keys, script.items.as_slice())?;
     match script.fault {
         Some(line) => Err(DraftFault::Line(line)),
-        None => Ok(block_bytes(alloc, previous, txs.as_slice())?),
+        None => Ok(block_bytes(alloc, version, previous, txs.as_slice())?),
     }
 }

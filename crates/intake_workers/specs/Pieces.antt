@@ -2,7 +2,7 @@
 use Rattle.std.specs.Prelude.{◌++◌, ◌∷◌, ℕ, List, [], Result, Ok, Err, Vec}
 use Rattle.std.specs.declared.alloc.Global.{Global}
 use Rattle.block.specs.declared.block.Block.{Block}
-use Rattle.block_steps.specs.OnItsWay.{bytes_of}
+use Rattle.block.specs.Grammar.{bytes_of}
 use Rattle.rules.specs.declared.answer.Refused.{Refused}
 use Rattle.intake.specs.declared.taking.Taken.{Taken}
 use Rattle.intake_workers.specs.declared.handed.Handed.{Handed}

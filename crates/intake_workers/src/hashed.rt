@@ -1,5 +1,5 @@
 ghost use Rattle.std.specs.Prelude.{◌≡◌};
-ghost use Rattle.block_steps.specs.OnItsWay.{bytes_of};
+ghost use Rattle.block.specs.Grammar.{bytes_of};
 ghost use Rattle.header_hash.specs.Hashes.{data_hash_of};
 
 use block_steps::DecodedBlock;

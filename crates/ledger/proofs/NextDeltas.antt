@@ -30,19 +30,18 @@ module _ (channel : Configuration) (accepts : Accepts) (w : World) where
   pub count-job : (b : Block) (j : Job) (ids : List (Option (List ℕ))) → j ≡ job_of channel accepts w (txs_of b) → ids ≡ map (used_id channel accepts) (txs_of b) → length ids ≡ length j.candidates
   count-job b j ids job_is ids_are = count-ids b ids ids_are ∙ ap (λ (k : Job). length k.candidates) (sym job_is)
 
-  pub changes-is_delta : (bytes : List ℕ) (b : Block) (j : Job) (ids : List (Option (List ℕ))) (header_hash : List ℕ) (d : Delta)
-      → j ≡ job_of channel accepts w (txs_of b) → ids ≡ map (used_id channel accepts) (txs_of b) → header_hash ≡ header_hash_of b.header
-      → Changes j ids bytes header_hash d
+  pub changes-is_delta : (bytes : List ℕ) (b : Block) (j : Job) (ids : List (Option (List ℕ))) (kept : CommittedBlock) (d : Delta)
+      → j ≡ job_of channel accepts w (txs_of b) → ids ≡ map (used_id channel accepts) (txs_of b) → kept ≡ committed_of bytes b j
+      → Changes j ids kept d
       → IsDelta channel accepts w (txs_of b) (committed_of bytes b (job_of channel accepts w (txs_of b))) d × AreRealChanges w.state (changes_in d.changes)
-  changes-is_delta bytes b j ids header_hash d job_is ids_are hash_is changes =
-      let own = subst (λ (h : List ℕ). Changes (job_of channel accepts w (txs_of b)) (map (used_id channel accepts) (txs_of b)) bytes h d) hash_is (
-      subst (λ (us : List (Option (List ℕ))). Changes (job_of channel accepts w (txs_of b)) us bytes header_hash d) ids_are (
-      subst (λ (k : Job). Changes k ids bytes header_hash d) job_is changes)) in (
+  changes-is_delta bytes b j ids kept d job_is ids_are kept_is changes =
+      let own = subst (λ (us : List (Option (List ℕ))). Changes (job_of channel accepts w (txs_of b)) us kept d) ids_are (
+      subst (λ (k : Job). Changes k ids kept d) job_is changes) in (
         record {
           state = own.state;
           history = own.history w.history;
           first_uses = ap (with_uses w.first_uses) own.uses;
-          block = own.block;
+          block = own.block ∙ kept_is ∙ ap (committed_of bytes b) job_is;
         },
         own.real,
       )

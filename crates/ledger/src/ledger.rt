@@ -5,6 +5,7 @@ ghost use Rattle.rules.specs.Delta.{applied};
 ghost use Rattle.rules.specs.Linked.{IsRefused};
 ghost use Rattle.rules.specs.Step.{Step};
 ghost use Rattle.rules.specs.Chain.{Chain};
+ghost use Rattle.first_version.specs.AsBefore.{StepsAsBefore};
 ghost use Rattle.ledger.specs.NextDelta.{IsNextDelta, answer_to};
 ghost use Rattle.ledger.specs.NextReasons.{AreNextReasons};
 ghost use Rattle.ledger.specs.Submissions.{submissions};
@@ -12,6 +13,7 @@ ghost use Rattle.ledger.specs.Submissions.{submissions};
 use crate::explaining::next_reasons;
 use crate::serial::next_delta;
 use channel::Channel;
+use first_version::first_version_steps_as_before;
 use policy_eval::Verify;
 use reasons::Reason;
 use rules::{Accepted, CommittedBlock, Delta, Refused};
@@ -98,8 +100,10 @@ impl Ledger {
     /// changes, and for what it adds to the ledger.
     pub fn submit_one<V: Verify>(&mut self, bytes: &[u8], verifier: &V) -> Result<Accepted, Refused>
         ensures step { Step self.old.channel (V.accepts verifier.now) self.old.world bytes.now result self.new.world }
+        ensures first_version { StepsAsBefore self.old.channel (V.accepts verifier.now) self.old.world bytes.now result self.new.world }
         ensures channel { self.new.channel ≡ self.old.channel }
     {
+        first_version_steps_as_before();
         let delta = self.delta(bytes, verifier)?;
         self.apply(&delta)
     }

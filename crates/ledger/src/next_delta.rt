@@ -100,7 +100,7 @@ fn changes_of(
     requires flags { block.flags ≡ fold.flags job.now }
     requires ids { length ids.now ≡ length job.now.candidates }
     requires few { length ids.now ≤ max_txs }
-    ensures { IfOk result (λ d. Changes job.now ids.now block.bytes block.header_hash d) }
+    ensures { IfOk result (λ d. Changes job.now ids.now block d) }
 {
     let effects = effects_in(alloc, job, block.get(), txs)?;
     let uses = uses_of(alloc, job.number(), ids, block.get().flags.as_slice())?;
@@ -134,6 +134,7 @@ pub fn delta_of(
         CommittedBlock {
             bytes,
             header_hash: header_hash(block.header()),
+            version: block.version(),
             flags: Items::from_vec(flags),
         },
     )?;

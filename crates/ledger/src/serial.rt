@@ -1,8 +1,7 @@
 //! The delta of the next block, by one thread.
 ghost use Rattle.std.specs.Prelude.{◌≡◌, ◌≤◌, length, MatchResult};
-ghost use Rattle.block.specs.Grammar.{Spells};
+ghost use Rattle.block.specs.Grammar.{Spells, bytes_of};
 ghost use Rattle.block.specs.Limits.{max_txs};
-ghost use Rattle.block_steps.specs.OnItsWay.{bytes_of};
 ghost use Rattle.rules.specs.declared.answer.Refused.TheVariants.{Memory};
 ghost use Rattle.rules.specs.Linked.{IsLinked, IsRefused};
 ghost use Rattle.ledger.specs.NextDelta.{IsDeltaOfJob, IsNextDelta};
@@ -26,7 +25,7 @@ fn next_block<'b>(alloc: Global, world: &World, bytes: &'b [u8]) -> Result<Linke
 {
     let decoded = DecodedBlock::decode(alloc, bytes)?;
     let placed = decoded.at_place(world.height(), world.header_hash())?;
-    placed.linked()
+    placed.linked(world.version())
 }
 
 /// The next block of a world, and what can be said of its transactions without the world; or why the bytes are refused.

@@ -4,7 +4,7 @@ use crate::fault::Fault;
 use crate::files::Files;
 use crate::inputs::{Configuration, read_file, text_in};
 use crate::status::ACCEPTED;
-use block::{BlockFault, Header, decode_block};
+use block::{BlockFault, BlockVersion, Header, decode_block};
 use command_words::Draft;
 use std::alloc::Global;
 use values::Bytes;
@@ -38,6 +38,7 @@ fn read_header<'a, F: Files>(
 fn drafted<'a>(
     alloc: Global,
     configuration: &Configuration,
+    version: BlockVersion,
     previous: Option<Header>,
     path: &'a str,
     script: &Bytes,
@@ -49,6 +50,7 @@ fn drafted<'a>(
         alloc,
         configuration.channel.name(),
         &configuration.keys,
+        version,
         previous,
         text,
     )
@@ -60,7 +62,14 @@ fn block<'a, F: Files>(alloc: Global, files: &F, words: &Draft<'a>) -> Result<By
     let configuration = Configuration::read(alloc, files, &words.configuration)?;
     let previous = read_header(alloc, files, words.after)?;
     let script = read_file(alloc, files, words.script)?;
-    drafted(alloc, &configuration, previous, words.script, &script)
+    drafted(
+        alloc,
+        &configuration,
+        words.version,
+        previous,
+        words.script,
+        &script,
+    )
 }
 
 /// Reads the files, and writes the block that the script drafts. Nothing is written where there is

@@ -2,7 +2,7 @@
 //! the rules of linked blocks as they are written, and a list of the blocks that were accepted.
 
 use crate::fixture::{configuration, key, name};
-use block::{Block, BlockFault, MAX_TXS, Previous, decode_block};
+use block::{Block, BlockFault, BlockVersion, MAX_TXS, Previous, decode_block};
 use chain_vectors::first_blocks::first_blocks;
 use chain_vectors::later_blocks::later_blocks;
 use chain_vectors::rows::rows;
@@ -120,6 +120,15 @@ fn decoded(alloc: Global, bytes: &[u8]) -> Result<Block<'_>, Refused> {
     }
 }
 
+// Of bytes that begin with a magic.
+fn version_of(bytes: &[u8]) -> BlockVersion {
+    if bytes.starts_with(b"FBK2") {
+        BlockVersion::V2
+    } else {
+        BlockVersion::V1
+    }
+}
+
 // The first reason why the block isn't the next one.
 fn check_linked(world: &World, block: &Block<'_>) -> Result<(), Refused> {
     let header = &block.header;
@@ -134,6 +143,8 @@ fn check_linked(world: &World, block: &Block<'_>) -> Result<(), Refused> {
         Err(Refused::WrongPrevious)
     } else if header.data_hash != data_hash(block.txs.as_slice()) {
         Err(Refused::WrongDataHash)
+    } else if block.version == BlockVersion::V1 && world.version() == BlockVersion::V2 {
+        Err(Refused::OldVersion)
     } else {
         Ok(())
     }
@@ -194,6 +205,7 @@ impl Pair {
 
     fn keep(&mut self, alloc: Global, bytes: &[u8], accepted: Accepted) -> Result<(), AllocError> {
         count(&mut self.given, accepted.flags.as_slice());
+        let version = version_of(bytes);
         let bytes = Shared::new(alloc, Bytes::from_slice(alloc, bytes)?)?;
         let Accepted {
             number: _,
@@ -203,6 +215,7 @@ impl Pair {
         self.accepted.push(CommittedBlock {
             bytes,
             header_hash,
+            version,
             flags,
         })?;
         Ok(())

@@ -5,11 +5,12 @@ use crate::fixture::{are_numbered, configuration};
 use crate::refusals::{Changed, changed_bytes};
 use crate::scripted::ScriptedPeer;
 use crate::worked_chains::worked;
-use block::MAX_TXS;
+use block::{BlockVersion, MAX_TXS};
 use chain_vectors::first_blocks::first_blocks;
 use chain_vectors::later_blocks::later_blocks;
 use chain_vectors::rows::rows;
 use chain_vectors::uses::uses;
+use chain_vectors::worked_reads::worked_reads;
 use chain_vectors::{Committed, SaysOk, WorkedChain};
 use commit::{Committer, NotCommitted, QueryHandle};
 use failing::Failed;
@@ -203,22 +204,36 @@ fn is_so_by(
 fn is_so<R: Threads + Wait + Sync>(
     rt: &R,
     alloc: Global,
+    version: BlockVersion,
     chain: &WorkedChain,
 ) -> Result<bool, Failed> {
-    let mut peer = ScriptedPeer::open(alloc)?;
+    let mut peer = ScriptedPeer::of(alloc, version)?;
     is_so_by(rt, alloc, &mut peer, chain)
 }
 
-// The name of the first chain that isn't so.
+// The name of the first of these chains that isn't so in blocks of this version.
+fn first_other_of<R: Threads + Wait + Sync>(
+    rt: &R,
+    alloc: Global,
+    version: BlockVersion,
+    chains: &'static [WorkedChain],
+) -> Result<Option<&'static str>, Failed> {
+    for chain in chains {
+        if !is_so(rt, alloc, version, chain)? {
+            return Ok(Some(chain.name));
+        }
+    }
+    Ok(None)
+}
+
 fn first_other<R: Threads + Wait + Sync>(
     rt: &R,
     alloc: Global,
 ) -> Result<Option<&'static str>, Failed> {
     for chains in worked() {
-        for chain in chains {
-            if !is_so(rt, alloc, chain)? {
-                return Ok(Some(chain.name));
-            }
+        let other = first_other_of(rt, alloc, BlockVersion::V1, chains)?;
+        if other.is_some() {
+            return Ok(other);
         }
     }
     Ok(None)
@@ -227,6 +242,13 @@ fn first_other<R: Threads + Wait + Sync>(
 #[test]
 fn flags_and_what_is_left_by_workers(rt: HostRuntime) -> Result<(), Failed> {
     let other = first_other(&rt, rt.alloc())?;
+    assert!(rt; other.is_none(), "{other:?}");
+    Ok(())
+}
+
+#[test]
+fn the_same_in_version_2_by_workers(rt: HostRuntime) -> Result<(), Failed> {
+    let other = first_other_of(&rt, rt.alloc(), BlockVersion::V2, worked_reads())?;
     assert!(rt; other.is_none(), "{other:?}");
     Ok(())
 }

@@ -2,6 +2,7 @@
 
 use crate::fixture::{CREATOR, Peer};
 use crate::scripted::drafted;
+use block::BlockVersion;
 use failing::Failed;
 use header_hash::tx_id;
 use key_book::KeyBook;
@@ -98,7 +99,7 @@ fn has_flags(
     verifying: &KeyBook,
     flags: &[u8],
 ) -> Result<bool, Failed> {
-    let block = drafted(alloc, signing, None, SCRIPT)?;
+    let block = drafted(alloc, signing, BlockVersion::V1, None, SCRIPT)?;
     Ok(peer.is_taken(block.as_slice(), verifying, flags)?)
 }
 

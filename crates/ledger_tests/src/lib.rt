@@ -41,4 +41,6 @@ mod submitting;
 #[cfg(test)]
 mod told;
 #[cfg(test)]
+mod versions;
+#[cfg(test)]
 mod worked_chains;

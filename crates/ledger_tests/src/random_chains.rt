@@ -5,6 +5,7 @@ use crate::fixture::CREATOR;
 use crate::forgers::{Books, FORGER, read_books};
 use crate::random_scripts::{KEYS, NAMESPACES, NONCES, script_at_random};
 use crate::scripted::next_block;
+use block::BlockVersion;
 use failing::Failed;
 use header_hash::tx_id;
 use key_book::KeyBook;
@@ -24,7 +25,21 @@ fn drafted_at_random(
     nonces: &mut Vec<u8>,
 ) -> Result<Bytes, Failed> {
     let script = script_at_random(alloc, random, keys, world, nonces)?;
-    next_block(alloc, keys, world, script.as_str())
+    next_block(
+        alloc,
+        keys,
+        version_at_random(random, world),
+        world,
+        script.as_str(),
+    )
+}
+
+// Seldom another one than the last block's.
+fn version_at_random(random: &mut Random, world: &World) -> BlockVersion {
+    match (world.version(), random.one_of(8)) {
+        (BlockVersion::V1, false) | (BlockVersion::V2, true) => BlockVersion::V1,
+        _ => BlockVersion::V2,
+    }
 }
 
 // The next block, of which one in ten has a bit of its front changed.

@@ -19,7 +19,7 @@ pub struct Changed {
 }
 
 // The bytes with the lowest bit of one flipped.
-fn flipped(alloc: Global, bytes: &[u8], place: usize) -> Result<Vec<u8>, Failed> {
+pub fn flipped(alloc: Global, bytes: &[u8], place: usize) -> Result<Vec<u8>, Failed> {
     let mut changed = Vec::from_slice(alloc, bytes)?;
     let byte = changed.get_mut(place).ok_or(Failed::Missing("a byte"))?;
     *byte ^= 1;
@@ -40,7 +40,7 @@ const FLIPS: [(usize, Refused); 8] = [
 ];
 
 // The lowest byte of the number.
-const NUMBER: usize = 11;
+pub const NUMBER: usize = 11;
 
 // The highest bytes of the first transaction's length.
 const LENGTH: usize = 81;

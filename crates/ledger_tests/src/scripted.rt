@@ -1,7 +1,7 @@
 //! A peer whose blocks are drafted from scripts.
 
 use crate::fixture::{Peer, name};
-use block::{Header, decode_block};
+use block::{BlockVersion, Header, decode_block};
 use drafts::draft;
 use failing::Failed;
 use key_book::KeyBook;
@@ -29,10 +29,11 @@ fn last_header(alloc: Global, world: &World) -> Result<Option<Header>, Failed> {
     }
 }
 
-/// The bytes of this script's block, behind the one with this header.
+/// The bytes of this script's block, of this version and behind the one with this header.
 pub fn drafted(
     alloc: Global,
     keys: &KeyBook,
+    version: BlockVersion,
     after: Option<Header>,
     script: &str,
 ) -> Result<Bytes, Failed> {
@@ -42,32 +43,42 @@ pub fn drafted(
         }
     }
     let channel = name(alloc, b"ch")?;
-    Ok(draft(alloc, &channel, keys, after, script)?)
+    Ok(draft(alloc, &channel, keys, version, after, script)?)
 }
 
-/// The bytes of the next block, which a script drafts.
+/// The bytes of the next block, of this version, which a script drafts.
 pub fn next_block(
     alloc: Global,
     keys: &KeyBook,
+    version: BlockVersion,
     world: &World,
     script: &str,
 ) -> Result<Bytes, Failed> {
     let after = last_header(alloc, world)?;
-    drafted(alloc, keys, after, script)
+    drafted(alloc, keys, version, after, script)
 }
 
-/// A peer with the keys of all who sign.
+/// A peer with the keys of all who sign, whose blocks are of one version.
 #[derive(Drop)]
 pub struct ScriptedPeer {
     peer: Peer,
     keys: KeyBook,
+    version: BlockVersion,
 }
 
 impl ScriptedPeer {
     pub fn open(alloc: Global) -> Result<ScriptedPeer, Failed> {
+        ScriptedPeer::of(alloc, BlockVersion::V1)
+    }
+
+    pub fn of(alloc: Global, version: BlockVersion) -> Result<ScriptedPeer, Failed> {
         let keys = KeyBook::read(alloc, KEYS)?;
         let peer = Peer::open(alloc)?;
-        Ok(ScriptedPeer { peer, keys })
+        Ok(ScriptedPeer {
+            peer,
+            keys,
+            version,
+        })
     }
 
     pub fn keys(&self) -> &KeyBook {
@@ -80,7 +91,7 @@ impl ScriptedPeer {
 
     /// The bytes of the next block, which a script drafts.
     pub fn block(&self, alloc: Global, script: &str) -> Result<Bytes, Failed> {
-        next_block(alloc, &self.keys, self.world(), script)
+        next_block(alloc, &self.keys, self.version, self.world(), script)
     }
 
     pub fn refusal_of(&mut self, bytes: &[u8]) -> Option<Refused> {

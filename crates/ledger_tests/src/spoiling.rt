@@ -2,7 +2,7 @@
 //! creator. They are drafted first, then changed and signed anew, and stand in the script as they are.
 
 use crate::scripted::drafted;
-use block::decode_block;
+use block::{BlockVersion, decode_block};
 use failing::Failed;
 use key_book::KeyBook;
 use random_numbers::Random;
@@ -14,7 +14,7 @@ use values::Bytes;
 const SIGNATURE: usize = 34;
 
 fn drafted_tx(alloc: Global, keys: &KeyBook, lines: &str) -> Result<Bytes, Failed> {
-    let block = drafted(alloc, keys, None, lines)?;
+    let block = drafted(alloc, keys, BlockVersion::V1, None, lines)?;
     let block = decode_block(alloc, block.as_slice())?;
     match block.txs.as_slice().first() {
         Some(tx) => Ok(tx.copy(alloc)?),

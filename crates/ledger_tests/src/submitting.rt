@@ -1,7 +1,7 @@
 //! Blocks that are handed in at once.
 
 use crate::scripted::drafted;
-use block::{Header, decode_block};
+use block::{BlockVersion, Header, decode_block};
 use channel::Channel;
 use commit::{Accepted, Ledger, Refused};
 use failing::Failed;
@@ -27,7 +27,7 @@ fn add_next(
     last: Option<Header>,
     blocks: &mut Vec<Bytes>,
 ) -> Result<Header, Failed> {
-    let block = drafted(alloc, keys, last, "")?;
+    let block = drafted(alloc, keys, BlockVersion::V1, last, "")?;
     let header = decode_block(alloc, block.as_slice())?.header;
     if last.is_none() {
         blocks.push(block.copy(alloc)?)?;

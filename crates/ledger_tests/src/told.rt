@@ -7,7 +7,7 @@ fn told() -> &'static [(Refused, &'static str)] {
     &TOLD
 }
 
-static TOLD: [(Refused, &str); 5] = [
+static TOLD: [(Refused, &str); 6] = [
     (
         Refused::Malformed(BlockFault::TrailingBytes),
         "no block: bytes remain behind the last transaction",
@@ -23,6 +23,10 @@ static TOLD: [(Refused, &str); 5] = [
     (
         Refused::WrongDataHash,
         "not the data hash of the transactions",
+    ),
+    (
+        Refused::OldVersion,
+        "a block of version 1 behind one of version 2",
     ),
     (Refused::Memory, "out of memory"),
 ];

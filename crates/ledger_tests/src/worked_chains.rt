@@ -2,6 +2,7 @@
 
 use crate::scripted::ScriptedPeer;
 use crate::shown::{is_history, is_row, is_wanted_use};
+use block::BlockVersion;
 use chain_vectors::worked_endorsers::worked_endorsers;
 use chain_vectors::worked_ranges::worked_ranges;
 use chain_vectors::worked_reads::worked_reads;
@@ -46,27 +47,28 @@ fn is_so_by(alloc: Global, peer: &mut ScriptedPeer, chain: &WorkedChain) -> Resu
     Ok(are_rows_left(alloc, peer.world(), chain.left)? && are_uses_left(peer.world(), chain.uses))
 }
 
-fn is_so(alloc: Global, chain: &WorkedChain) -> Result<bool, Failed> {
-    let mut peer = ScriptedPeer::open(alloc)?;
+fn is_so(alloc: Global, version: BlockVersion, chain: &WorkedChain) -> Result<bool, Failed> {
+    let mut peer = ScriptedPeer::of(alloc, version)?;
     is_so_by(alloc, &mut peer, chain)
 }
 
 fn first_other_of(
     alloc: Global,
+    version: BlockVersion,
     chains: &'static [WorkedChain],
 ) -> Result<Option<&'static str>, Failed> {
     for chain in chains {
-        if !is_so(alloc, chain)? {
+        if !is_so(alloc, version, chain)? {
             return Ok(Some(chain.name));
         }
     }
     Ok(None)
 }
 
-// The name of the first chain that isn't so.
-fn first_other(alloc: Global) -> Result<Option<&'static str>, Failed> {
+// The name of the first chain that isn't so in blocks of this version.
+fn first_other(alloc: Global, version: BlockVersion) -> Result<Option<&'static str>, Failed> {
     for chains in worked() {
-        let other = first_other_of(alloc, chains)?;
+        let other = first_other_of(alloc, version, chains)?;
         if other.is_some() {
             return Ok(other);
         }
@@ -76,7 +78,14 @@ fn first_other(alloc: Global) -> Result<Option<&'static str>, Failed> {
 
 #[test]
 fn flags_and_what_is_left(rt: HostRuntime) -> Result<(), Failed> {
-    let other = first_other(rt.alloc())?;
+    let other = first_other(rt.alloc(), BlockVersion::V1)?;
+    assert!(rt; other.is_none(), "{other:?}");
+    Ok(())
+}
+
+#[test]
+fn the_same_in_version_2(rt: HostRuntime) -> Result<(), Failed> {
+    let other = first_other(rt.alloc(), BlockVersion::V2)?;
     assert!(rt; other.is_none(), "{other:?}");
     Ok(())
 }

@@ -1,7 +1,7 @@
 //! Blocks that scripts draft, one behind the other, and what each changes.
 ghost use Rattle.std.specs.Prelude.{◌+◌, ◌<◌, ◌^◌, IfOk, IfSome};
 
-use block::{Header, decode_block};
+use block::{BlockVersion, Header, decode_block};
 use channel::{Channel, ChannelFault};
 use commit::{Accepted, Ledger, Refused};
 use drafts::draft;
@@ -90,10 +90,15 @@ impl Drafter {
         self.ledger.view()
     }
 
-    /// The bytes of this script's block, the next one.
+    /// The bytes of this script's block, the next one, of version 1.
     pub fn drafted(&self, script: &str) -> Result<Bytes, Failed> {
+        self.drafted_in(BlockVersion::V1, script)
+    }
+
+    /// The same of this version.
+    pub fn drafted_in(&self, version: BlockVersion, script: &str) -> Result<Bytes, Failed> {
         let last = followed(self.last)?;
-        Ok(draft(self.alloc, &self.channel, &self.keys, last, script)?)
+        Ok(draft(self.alloc, &self.channel, &self.keys, version, last, script)?)
     }
 
     /// What the ledger answers to these bytes. A block that it takes is the one that the next one follows.

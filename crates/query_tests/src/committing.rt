@@ -4,6 +4,7 @@
 use crate::asking::{check_blocks, check_key, check_range, check_use};
 use crate::blocks::{Drafter, configuration};
 use crate::spoiling::spoiled;
+use block::BlockVersion;
 use commit::{Accepted, Committer, NotCommitted, OpenFault, QueryHandle, Receipt, Refused};
 use failing::{Failed, check, is_alike};
 use gates::{Gate, Open, Phase, Reverse};
@@ -100,7 +101,16 @@ pub fn next_block(alloc: Global, drafter: &Drafter, random: &mut Random) -> Resu
         return drafter.drafted(FIRST);
     }
     let script = script(alloc, random)?;
-    drafter.drafted(script.as_str())
+    drafter.drafted_in(version_at_random(random, drafter.world()), script.as_str())
+}
+
+// That of the last block, or seldom a newer one.
+fn version_at_random(random: &mut Random, world: &World) -> BlockVersion {
+    if random.one_of(8) {
+        BlockVersion::V2
+    } else {
+        world.version()
+    }
 }
 
 fn add_uses(drafter: &Drafter, bytes: &Bytes, uses: &mut Vec<NewUse>) -> Result<(), Failed> {

@@ -1,6 +1,6 @@
 //! Blocks that were spoiled on their way.
 
-use block::{Block, Header, decode_block, encode_block};
+use block::{Block, BlockVersion, Header, decode_block, encode_block};
 use failing::Failed;
 use header_hash::data_hash;
 use random_numbers::Random;
@@ -62,6 +62,7 @@ fn resealed(alloc: Global, bytes: &[u8]) -> Result<Bytes, Failed> {
         return Ok(Bytes::from_slice(alloc, bytes)?);
     };
     let sealed = Block {
+        version: block.version,
         header: Header {
             number: block.header.number,
             previous: block.header.previous,
@@ -69,7 +70,11 @@ fn resealed(alloc: Global, bytes: &[u8]) -> Result<Bytes, Failed> {
         },
         txs: block.txs,
     };
-    match encode_block(alloc, &sealed) {
+    spelled(alloc, &sealed)
+}
+
+fn spelled(alloc: Global, block: &Block<'_>) -> Result<Bytes, Failed> {
+    match encode_block(alloc, block) {
         Ok(bytes) => Ok(bytes),
         Err(_) => Err(Failed::Missing("a spelling")),
     }
@@ -84,6 +89,22 @@ fn changed(alloc: Global, random: &mut Random, bytes: &[u8]) -> Result<Vec<u8>, 
     }
 }
 
+// The same block of the other version.
+fn of_other_version(alloc: Global, bytes: &[u8]) -> Result<Bytes, Failed> {
+    let Ok(block) = decode_block(alloc, bytes) else {
+        return Ok(Bytes::from_slice(alloc, bytes)?);
+    };
+    let other = Block {
+        version: match block.version {
+            BlockVersion::V1 => BlockVersion::V2,
+            BlockVersion::V2 => BlockVersion::V1,
+        },
+        header: block.header,
+        txs: block.txs,
+    };
+    spelled(alloc, &other)
+}
+
 /// These bytes changed in some place, or another block in their place. Some are a block that is linked still, with a spoiled
 /// transaction.
 pub fn spoiled(
@@ -95,6 +116,7 @@ pub fn spoiled(
     match random.below(16) {
         0 => resealed(alloc, flipped(alloc, random, bytes)?.as_slice()),
         1..=3 => Ok(Bytes::from_slice(alloc, other)?),
+        4 | 5 => of_other_version(alloc, bytes),
         _ => Ok(Bytes::from_vec(changed(alloc, random, bytes)?)),
     }
 }

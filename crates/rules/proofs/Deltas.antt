@@ -148,12 +148,13 @@ delta-is_linked channel accepts w bytes b d spelled linked is =
       spelled = subst (λ (x : List ℕ). Spells x b) (sym (ap (λ (x : CommittedBlock). x.bytes) is.block)) spelled;
       linked = linked;
       header_hash = ap (λ (x : CommittedBlock). x.header_hash) is.block;
+      version = ap (λ (x : CommittedBlock). x.version) is.block;
       flags = ap (λ (x : CommittedBlock). length x.flags) is.block ∙ length-flags j ∙ length-candidates_from channel accepts w.first_uses [] (txs_of b) ∙ length-map b.txs tx_of;
     }
 
 -- what is said of the block of a linked delta
 abbrev IsKeptOf : World → Delta → Block → Type 0
-IsKeptOf w d b = IsLinked w b × (d.block.header_hash ≡ header_hash_of b.header) × (length d.block.flags ≡ length b.txs)
+IsKeptOf w d b = IsLinked w b × (d.block.header_hash ≡ header_hash_of b.header) × (d.block.version ≡ b.version) × (length d.block.flags ≡ length b.txs)
 
-pub block_of_linked : (w : World) (b : Block) (d : Delta) (linked : IsLinkedDelta w d) → linked.block ≡ b → IsLinked w b × (d.block.header_hash ≡ header_hash_of b.header) × (length d.block.flags ≡ length b.txs)
-block_of_linked w b d linked same = subst (λ (x : Block). IsKeptOf w d x) same (linked.linked, linked.header_hash, linked.flags)
+pub block_of_linked : (w : World) (b : Block) (d : Delta) (linked : IsLinkedDelta w d) → linked.block ≡ b → IsLinked w b × (d.block.header_hash ≡ header_hash_of b.header) × (d.block.version ≡ b.version) × (length d.block.flags ≡ length b.txs)
+block_of_linked w b d linked same = subst (λ (x : Block). IsKeptOf w d x) same (linked.linked, linked.header_hash, linked.version, linked.flags)

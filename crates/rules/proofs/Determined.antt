@@ -5,6 +5,7 @@ use Rattle.std.specs.Str.{bytes_eq}
 use Rattle.std.proofs.lemmas.Bool.{false≢true}
 use Rattle.std.proofs.lemmas.Bool.Decides.{Decides-eqb}
 use Rattle.std.proofs.lemmas.Slice.Eq.{bytes_eq-Decides}
+use Rattle.transaction.specs.declared.block_version.BlockVersion.{BlockVersion}
 use Rattle.block.specs.declared.block.Block.{Block}
 use Rattle.block.specs.declared.block.Previous.{Previous}
 use Rattle.block.specs.declared.block.Previous.TheVariants.{Empty, Hash}
@@ -15,10 +16,10 @@ use Rattle.channel.specs.Configuration.{Configuration}
 use Rattle.policy_eval.specs.Accepts.{Accepts}
 use Rattle.rules.specs.declared.answer.Accepted.{Accepted}
 use Rattle.rules.specs.declared.answer.Refused.{Refused}
-use Rattle.rules.specs.declared.answer.Refused.TheVariants.{Malformed, WrongNumber, WrongPrevious, WrongDataHash, Memory}
+use Rattle.rules.specs.declared.answer.Refused.TheVariants.{Malformed, WrongNumber, WrongPrevious, WrongDataHash, OldVersion, Memory}
 use Rattle.header_hash.specs.Hashes.{data_hash_of}
-use Rattle.rules.specs.World.{World, height_of, last_header_hash, previous_from}
-use Rattle.rules.specs.Linked.{HasNumber, HasPrevious, HasDataHash, IsLinked, IsUnlinked, IsRefused}
+use Rattle.rules.specs.World.{World, height_of, last_header_hash, previous_from, last_version}
+use Rattle.rules.specs.Linked.{is_older, HasNumber, HasPrevious, HasDataHash, HasVersion, IsLinked, IsUnlinked, IsRefused}
 use Rattle.rules.specs.Commit.{world_after}
 use Rattle.rules.specs.Step.{accepted_of, Step}
 
@@ -27,6 +28,9 @@ pub record ReadsOnce : Type 0 where
   pub one_block : (bytes : List ℕ) (a b : Block) → Spells bytes a → Spells bytes b → a ≡ b
   pub one_fault : (bytes : List ℕ) (f g : BlockFault) → HasFault bytes f → HasFault bytes g → f ≡ g
   pub block_or_fault : (bytes : List ℕ) (b : Block) (f : BlockFault) → Spells bytes b → HasFault bytes f → ⊥
+
+older_or_not : (v : BlockVersion) (b c : Block) → c ≡ b → is_older c.version v ≡ true → is_older b.version v ≡ false → ⊥
+older_or_not v b c same older not_older = let wrong : false ≡ true = sym not_older ∙ ap (λ (x : Block). is_older x.version v) (sym same) ∙ older in false≢true wrong
 
 module _ (laws : ReadsOnce) (w : World) (bytes : List ℕ) where
   number_of_both : (a b : Block) → Spells bytes a → Spells bytes b → HasNumber w b → HasNumber w a
@@ -37,6 +41,9 @@ module _ (laws : ReadsOnce) (w : World) (bytes : List ℕ) where
 
   data_hash_of_both : (a b : Block) → Spells bytes a → Spells bytes b → HasDataHash b → HasDataHash a
   data_hash_of_both a b s t h = subst (λ (x : Block). HasDataHash x) (laws.one_block bytes b a t s) h
+
+  version_of_both : (a b : Block) → Spells bytes a → Spells bytes b → HasVersion w b → HasVersion w a
+  version_of_both a b s t h = subst (λ (x : Block). HasVersion w x) (laws.one_block bytes b a t s) h
 
   one_refusal : (r s : Refused) → IsRefused w bytes r → IsRefused w bytes s → r ≢ Memory → s ≢ Memory → r ≡ s
   one_refusal (Malformed f) (Malformed g) x y p q = ap Malformed (laws.one_fault bytes f g x y)
@@ -56,6 +63,16 @@ module _ (laws : ReadsOnce) (w : World) (bytes : List ℕ) where
   one_refusal WrongDataHash (WrongNumber want got) x y p q = absurd (y.2.0 (number_of_both y.0 x.0 y.1 x.1 x.2.0))
   one_refusal WrongDataHash WrongPrevious x y p q = absurd (y.2.1 (previous_of_both y.0 x.0 y.1 x.1 x.2.1))
   one_refusal WrongDataHash WrongDataHash x y p q = refl
+  one_refusal (Malformed f) OldVersion x y p q = absurd (laws.block_or_fault bytes y.0 f y.1 x)
+  one_refusal (WrongNumber want got) OldVersion x y p q = absurd (x.2.0 (number_of_both x.0 y.0 x.1 y.1 y.2.0))
+  one_refusal WrongPrevious OldVersion x y p q = absurd (x.2.1 (previous_of_both x.0 y.0 x.1 y.1 y.2.1))
+  one_refusal WrongDataHash OldVersion x y p q = absurd (x.2.2 (data_hash_of_both x.0 y.0 x.1 y.1 y.2.2))
+  one_refusal OldVersion (Malformed f) x y p q = absurd (laws.block_or_fault bytes x.0 f x.1 y)
+  one_refusal OldVersion (WrongNumber want got) x y p q = absurd (y.2.0 (number_of_both y.0 x.0 y.1 x.1 x.2.0))
+  one_refusal OldVersion WrongPrevious x y p q = absurd (y.2.1 (previous_of_both y.0 x.0 y.1 x.1 x.2.1))
+  one_refusal OldVersion WrongDataHash x y p q = absurd (y.2.2 (data_hash_of_both y.0 x.0 y.1 x.1 x.2.2))
+  one_refusal OldVersion OldVersion x y p q = refl
+  one_refusal OldVersion Memory x y p q = absurd (q refl)
   one_refusal Memory s x y p q = absurd (p refl)
   one_refusal (Malformed f) Memory x y p q = absurd (q refl)
   one_refusal (WrongNumber want got) Memory x y p q = absurd (q refl)
@@ -67,6 +84,7 @@ module _ (laws : ReadsOnce) (w : World) (bytes : List ℕ) where
   accepted_or_refused b (WrongNumber want got) s l x p = x.2.0 (number_of_both x.0 b x.1 s l.number)
   accepted_or_refused b WrongPrevious s l x p = x.2.1 (previous_of_both x.0 b x.1 s l.previous)
   accepted_or_refused b WrongDataHash s l x p = x.2.2 (data_hash_of_both x.0 b x.1 s l.data_hash)
+  accepted_or_refused b OldVersion s l x p = older_or_not (last_version w) b (x.0) (laws.one_block bytes x.0 b x.1 s) x.2.3 l.version
   accepted_or_refused b Memory s l x p = p refl
 
 abbrev refused_answer : Refused → Result Accepted Refused
@@ -118,17 +136,20 @@ unlinked_or_not w b = by
     (decided (b.header.number == height_of w) (Decides-eqb b.header.number (height_of w)))
     (same_previous b.header.previous (previous_from (last_header_hash w)))
     (decided (bytes_eq b.header.data_hash (data_hash_of b.txs)) (bytes_eq-Decides b.header.data_hash (data_hash_of b.txs)))
+    (is_older b.version (last_version w)) refl
   where
-    by : HasNumber w b ⊎ (HasNumber w b → ⊥) → HasPrevious w b ⊎ (HasPrevious w b → ⊥) → HasDataHash b ⊎ (HasDataHash b → ⊥) → IsLinked w b ⊎ ((r : Refused) × IsUnlinked w b r)
-    by (inl n) (inl p) (inl d) = inl (record { number = n; previous = p; data_hash = d })
-    by (inl n) (inl p) (inr d) = inr (WrongDataHash, (n, p, d))
-    by (inl n) (inr p) d = inr (WrongPrevious, (n, p))
-    by (inr n) p d = inr (WrongNumber (height_of w) b.header.number, (n, refl, refl))
+    by : HasNumber w b ⊎ (HasNumber w b → ⊥) → HasPrevious w b ⊎ (HasPrevious w b → ⊥) → HasDataHash b ⊎ (HasDataHash b → ⊥) → (o : Bool) → is_older b.version (last_version w) ≡ o → IsLinked w b ⊎ ((r : Refused) × IsUnlinked w b r)
+    by (inl n) (inl p) (inl d) false v = inl (record { number = n; previous = p; data_hash = d; version = v })
+    by (inl n) (inl p) (inl d) true v = inr (OldVersion, (n, p, d, v))
+    by (inl n) (inl p) (inr d) o v = inr (WrongDataHash, (n, p, d))
+    by (inl n) (inr p) d o v = inr (WrongPrevious, (n, p))
+    by (inr n) p d o v = inr (WrongNumber (height_of w) b.header.number, (n, refl, refl))
 
 unlinked_is_refused : (w : World) (bytes : List ℕ) (b : Block) (r : Refused) → Spells bytes b → IsUnlinked w b r → IsRefused w bytes r × (refused_answer r ≢ Err Memory)
 unlinked_is_refused w bytes b (WrongNumber want got) s u = ((b, s, u), λ e. absurd cc)
 unlinked_is_refused w bytes b WrongPrevious s u = ((b, s, u), λ e. absurd cc)
 unlinked_is_refused w bytes b WrongDataHash s u = ((b, s, u), λ e. absurd cc)
+unlinked_is_refused w bytes b OldVersion s u = ((b, s, u), λ e. absurd cc)
 unlinked_is_refused w bytes b (Malformed f) s u = absurd u
 unlinked_is_refused w bytes b Memory s u = absurd u
 

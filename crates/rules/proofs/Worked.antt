@@ -6,7 +6,8 @@ use Rattle.block.specs.declared.block.Header.{Header}
 use Rattle.block.specs.declared.block.Previous.{Previous}
 use Rattle.block.specs.declared.block.Previous.TheVariants.{Empty, Hash}
 use Rattle.transaction.specs.declared.transaction.Tx.{Tx}
-use Rattle.block.specs.Grammar.{header_bytes, txs_bytes, Spells}
+use Rattle.block.specs.Grammar.{bytes_of, Spells}
+use Rattle.transaction.specs.declared.block_version.BlockVersion.TheVariants.{V1}
 use Rattle.transaction.specs.Reading.{name_at, body_at, tx_at, whole_tx_at}
 use Rattle.header_hash.specs.Hashes.{header_hash_of, data_hash_of}
 use Rattle.policy_eval.specs.Accepts.{Accepts}
@@ -25,24 +26,21 @@ abbrev txs_0 : List (List ℕ)
 txs_0 = (97 ∷ []) ∷ [] ∷ []
 
 abbrev block_0 : Block
-block_0 = record { header = record { number = 0; previous = Empty; data_hash = data_hash_of txs_0 }; txs = txs_0 }
+block_0 = record { version = V1; header = record { number = 0; previous = Empty; data_hash = data_hash_of txs_0 }; txs = txs_0 }
 
 abbrev hash_0 : List ℕ
 hash_0 = header_hash_of block_0.header
 
 abbrev empty_block : ℕ → Previous → Block
-empty_block n previous = record { header = record { number = n; previous = previous; data_hash = data_hash_of [] }; txs = [] }
+empty_block n previous = record { version = V1; header = record { number = n; previous = previous; data_hash = data_hash_of [] }; txs = [] }
 
 -- with the data hash of block 0
 abbrev wrong_block : ℕ → Previous → Block
-wrong_block n previous = record { header = record { number = n; previous = previous; data_hash = data_hash_of txs_0 }; txs = [] }
-
-abbrev bytes_of : Block → List ℕ
-bytes_of b = header_bytes b.header ++ txs_bytes (length b.txs) b.txs
+wrong_block n previous = record { version = V1; header = record { number = n; previous = previous; data_hash = data_hash_of txs_0 }; txs = [] }
 
 -- the world after block 0: two bad payloads
 abbrev world_1 : World
-world_1 = record { state = empty; history = empty; first_uses = empty; blocks = record { bytes = bytes_of block_0; header_hash = hash_0; flags = BadPayload ∷ BadPayload ∷ [] } ∷ [] }
+world_1 = record { state = empty; history = empty; first_uses = empty; blocks = record { bytes = bytes_of block_0; header_hash = hash_0; version = V1; flags = BadPayload ∷ BadPayload ∷ [] } ∷ [] }
 
 abbrev no_txs : List (Option Tx)
 no_txs = None ∷ None ∷ []
@@ -75,7 +73,7 @@ module _ (channel : Configuration) (accepts : Accepts) (data_hash_len : (txs : L
   block_0_first = (
     block_0,
     spelled_0,
-    record { number = refl; previous = refl; data_hash = refl },
+    record { number = refl; previous = refl; data_hash = refl; version = refl },
     ap (λ (txs : List (Option Tx)). record { number = 0; header_hash = hash_0; flags = flags (job_of channel accepts empty_world txs) }) (sym no_txs_in_0),
     kept_0 ∙ ap (λ (txs : List (Option Tx)). committed channel accepts empty_world txs (committed_of (bytes_of block_0) block_0 (job_of channel accepts empty_world txs))) (sym no_txs_in_0),
   )
@@ -88,11 +86,11 @@ module _ (channel : Configuration) (accepts : Accepts) (data_hash_len : (txs : L
   block_2_too_early = ((empty_block 2 (Hash hash_0), spelled_after_0 2 (omega arith), ((λ e. absurd (omega arith)), refl, refl)), refl)
 
   abbrev world_2 : World
-  world_2 = record { state = empty; history = empty; first_uses = empty; blocks = world_1.blocks ++ record { bytes = bytes_of (empty_block 1 (Hash hash_0)); header_hash = header_hash_of (empty_block 1 (Hash hash_0)).header; flags = [] } ∷ [] }
+  world_2 = record { state = empty; history = empty; first_uses = empty; blocks = world_1.blocks ++ record { bytes = bytes_of (empty_block 1 (Hash hash_0)); header_hash = header_hash_of (empty_block 1 (Hash hash_0)).header; version = V1; flags = [] } ∷ [] }
 
   block_1_next : Step channel accepts world_1 (bytes_of (empty_block 1 (Hash hash_0))) (Ok (record { number = 1; header_hash = header_hash_of (empty_block 1 (Hash hash_0)).header; flags = [] })) world_2
   unfolding running entries_to with_entries with_uses
-  block_1_next = (empty_block 1 (Hash hash_0), spelled_after_0 1 (omega arith), record { number = refl; previous = refl; data_hash = refl }, refl, refl)
+  block_1_next = (empty_block 1 (Hash hash_0), spelled_after_0 1 (omega arith), record { number = refl; previous = refl; data_hash = refl; version = refl }, refl, refl)
 
   -- block 0 with a previous hash
   block_0_with_previous : Step channel accepts empty_world (bytes_of (empty_block 0 (Hash hash_0))) (Err WrongPrevious) empty_world

@@ -12,4 +12,5 @@ mod Origins
 mod History
 mod TenBlocks
 mod Answers
+mod Versions
 mod Runs

@@ -36,7 +36,7 @@ uses_from j i (id ∷ ids) =
 
 -- the block as it is kept
 abbrev pub committed_of : List ℕ → Block → Job → CommittedBlock
-committed_of bytes b j = record { bytes = bytes; header_hash = header_hash_of b.header; flags = flags j }
+committed_of bytes b j = record { bytes = bytes; header_hash = header_hash_of b.header; version = b.version; flags = flags j }
 
 abbrev pub committed : Configuration → Accepts → World → List (Option Tx) → CommittedBlock → World
 committed channel accepts w txs kept =

@@ -1,6 +1,8 @@
 -- What a ledger holds.
-use Rattle.std.specs.Prelude.{ℕ, ◌-◌, List, [], length, Option, Some, None, option_map, slice_get}
+use Rattle.std.specs.Prelude.{ℕ, ◌-◌, List, [], length, Option, Some, None, option_map, unwrap_or, slice_get}
 use Rattle.std.specs.FinMap.{empty}
+use Rattle.transaction.specs.declared.block_version.BlockVersion.{BlockVersion}
+use Rattle.transaction.specs.declared.block_version.BlockVersion.TheVariants.{V1}
 use Rattle.block.specs.declared.block.Previous.{Previous}
 use Rattle.block.specs.declared.block.Previous.TheVariants.{Empty, Hash}
 use Rattle.rules.specs.declared.committed.CommittedBlock.{CommittedBlock}
@@ -30,3 +32,7 @@ last_header_hash w = option_map (λ b. b.header_hash) (slice_get w.blocks (lengt
 abbrev pub previous_from : Option (List ℕ) → Previous
 previous_from None = Empty
 previous_from (Some hash) = Hash hash
+
+-- the version of the last block, and 1 at height 0
+abbrev pub last_version : World → BlockVersion
+last_version w = unwrap_or (option_map (λ b. b.version) (slice_get w.blocks (length w.blocks - 1))) V1

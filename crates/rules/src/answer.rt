@@ -18,7 +18,7 @@ pub struct Accepted {
     pub flags: Items<Flag>,
 }
 
-/// Why a string of bytes isn't accepted as the next block. Of the first four the first that holds is
+/// Why a string of bytes isn't accepted as the next block. Of the first five the first that holds is
 /// answered. Want of memory may come in the place of any of them, or of an acceptance, where a growth
 /// was refused.
 #[derive(Clone, Copy, Debug, PartialEq, Eq, Error)]
@@ -35,6 +35,9 @@ pub enum Refused {
     /// The data hash isn't that of the transactions.
     #[error("not the data hash of the transactions")]
     WrongDataHash,
+    /// The block is of version 1, and the last accepted one is of version 2.
+    #[error("a block of version 1 behind one of version 2")]
+    OldVersion,
     /// A growth was refused before anything changed.
     #[error("out of memory")]
     Memory,

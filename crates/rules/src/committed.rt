@@ -1,4 +1,5 @@
 use crate::flag::Flag;
+use transaction::BlockVersion;
 use values::{Bytes, Hash, Items, Shared};
 
 /// An accepted block as a ledger keeps it.
@@ -8,6 +9,8 @@ pub struct CommittedBlock {
     pub bytes: Shared<Bytes>,
     /// SHA-256 of the header's DER bytes.
     pub header_hash: Hash,
+    /// As its first four bytes tell it.
+    pub version: BlockVersion,
     /// One for each transaction, in order.
     pub flags: Items<Flag>,
 }

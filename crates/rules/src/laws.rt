@@ -84,7 +84,7 @@ pub fn linked_deltas_keep_linked_blocks()
         → Spells bytes b → IsLinked w b → IsDelta channel accepts w (txs_of b) (committed_of bytes b (job_of channel accepts w (txs_of b))) d
         → IsLinkedDelta w d }
     ensures its_block { (w : World) (b : Block) (d : Delta) → IsLinkedDelta w d → Spells d.block.bytes b
-        → IsLinked w b × (d.block.header_hash ≡ header_hash_of b.header) × (length d.block.flags ≡ length b.txs) }
+        → IsLinked w b × (d.block.header_hash ≡ header_hash_of b.header) × (d.block.version ≡ b.version) × (length d.block.flags ≡ length b.txs) }
 {
     block::one_reading();
 }

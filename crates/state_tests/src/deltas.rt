@@ -10,6 +10,7 @@ use rules::{
     Change, CommittedBlock, Delta, HistoryEntry, KeptKey, KeyedRow, NewEntry, NewUse, Row,
 };
 use std::alloc::Global;
+use transaction::BlockVersion;
 use values::{Bytes, Items, Part, Shared};
 
 /// What is drawn, the same in each run.
@@ -102,6 +103,7 @@ fn block_of(alloc: Global, hash: [u8; 32]) -> Result<Shared<CommittedBlock>, Fai
     let block = CommittedBlock {
         bytes: Shared::new(alloc, Bytes::from_vec(Vec::new(alloc)))?,
         header_hash: hash,
+        version: BlockVersion::V1,
         flags: Items::new(alloc),
     };
     Ok(Shared::new(alloc, block)?)

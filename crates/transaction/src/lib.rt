@@ -2,6 +2,7 @@
 //! both ways.
 #![tactic(auto)]
 
+mod block_version;
 mod fault;
 mod field;
 mod identity;
@@ -14,6 +15,7 @@ mod spelled;
 mod transaction;
 mod writer;
 
+pub use block_version::BlockVersion;
 pub use fault::{EncodeFault, TxFault};
 pub use identity::{Identity, OwnedIdentity, Role};
 pub use laws::{limits_are_the_definitions, transaction_reading};

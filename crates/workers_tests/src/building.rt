@@ -1,6 +1,6 @@
 //! From a script to the job of its block.
 
-use block::{Header, MAX_TXS, Previous, decode_block};
+use block::{BlockVersion, Header, MAX_TXS, Previous, decode_block};
 use drafts::draft;
 use failing::Failed;
 use key_book::KeyBook;
@@ -151,7 +151,14 @@ const PREVIOUS: Header = Header {
 
 fn block_of(alloc: Global, keys: &KeyBook, script: &str) -> Result<Bytes, Failed> {
     let channel = name(alloc, b"ch")?;
-    Ok(draft(alloc, &channel, keys, Some(PREVIOUS), script)?)
+    Ok(draft(
+        alloc,
+        &channel,
+        keys,
+        BlockVersion::V1,
+        Some(PREVIOUS),
+        script,
+    )?)
 }
 
 fn candidate_of<'a>(

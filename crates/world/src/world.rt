@@ -2,7 +2,7 @@ ghost use Rattle.std.specs.Prelude.{◌≡◌, [], map, IfOk, IfErr, OnOk, OnErr
 ghost use Rattle.std.specs.Option.{option_copied};
 ghost use Rattle.rules.specs.State.{State, with_changes};
 ghost use Rattle.rules.specs.Delta.{applied, changes_in};
-ghost use Rattle.rules.specs.World.{empty_world, height_of, last_header_hash};
+ghost use Rattle.rules.specs.World.{empty_world, height_of, last_header_hash, last_version};
 ghost use Rattle.rules.specs.Answers.{row_answer, range_answer, history_answer, first_use_answer, block_answer};
 ghost use Rattle.state_db.specs.Batch.{changed};
 ghost use Rattle.txid_index.specs.Marks.{marks};
@@ -15,7 +15,7 @@ use rules::{CommittedBlock, Delta, FirstUse, Row};
 use state_db::{Batch, StateDb};
 use std::alloc::{AllocError, Global};
 use std::marker::Model;
-use transaction::TxId;
+use transaction::{BlockVersion, TxId};
 use txid_index::TxIds;
 use values::{BoundRef, Hash, KeyRef, NameRef, Shared};
 
@@ -68,6 +68,16 @@ impl World {
         match self.blocks.last() {
             None => None,
             Some(block) => Some(block.get().header_hash),
+        }
+    }
+
+    /// The version of the last block, and 1 at height 0. Constant time.
+    pub fn version(&self) -> BlockVersion
+        ensures { result ≡ last_version self.now }
+    {
+        match self.blocks.last() {
+            None => BlockVersion::V1,
+            Some(block) => block.get().version,
         }
     }
 

@@ -55,7 +55,7 @@ pub(crate) fn answers() -> &'static [Row<'static>] {
     &ANSWERS
 }
 
-static ANSWERS: [Row<'static>; 27] = [
+static ANSWERS: [Row<'static>; 31] = [
     (
         "run b0",
         0,
@@ -151,6 +151,25 @@ static ANSWERS: [Row<'static>; 27] = [
         "refused 1 C1 B1\nreader 1 height 0\n",
         "",
     ),
+    (
+        "run c0 b1",
+        1,
+        "accepted 0 3cb144bec4df02fe7692bec3a61fd9854ab76719525cb5a05c503649c91e4ae3 0\nrefused 2 C8\n",
+        "",
+    ),
+    (
+        "run b0 c1",
+        0,
+        "accepted 0 3cb144bec4df02fe7692bec3a61fd9854ab76719525cb5a05c503649c91e4ae3 0\naccepted 1 16bb8de34d5b806b6eaebe03554760ff5042823dc0a388688fe81a72e16addbc 0 0\n",
+        "",
+    ),
+    (
+        "run --workers 5 c0 b1 c1 b1",
+        1,
+        "accepted 0 3cb144bec4df02fe7692bec3a61fd9854ab76719525cb5a05c503649c91e4ae3 0\nrefused 2 C8\naccepted 1 16bb8de34d5b806b6eaebe03554760ff5042823dc0a388688fe81a72e16addbc 0 0\nrefused 4 C2 want 2 got 1\n",
+        "",
+    ),
+    ("explain c0 b1", 1, "refused 2 C8\n", ""),
     (
         "get --ns cc --key b b0 b1",
         0,

@@ -2,6 +2,7 @@
 use Rattle.std.proofs.Common.{◌≡◌, ℕ, true, false, List, [], ◌∷◌, Some, None, refl}
 use Rattle.std.specs.Prelude.{codes, replicate}
 use Rattle.std.specs.FinMap.{from_entries, empty}
+use Rattle.transaction.specs.declared.block_version.BlockVersion.TheVariants.{V1, V2}
 use Rattle.rules.specs.declared.committed.CommittedBlock.{CommittedBlock}
 use Rattle.rules.specs.declared.first_use.FirstUse.{FirstUse}
 use Rattle.rules.specs.declared.flag.Flag.TheVariants.{Valid, MvccReadConflict}
@@ -61,10 +62,10 @@ abbrev new_uses : List (List ℕ × FirstUse)
 new_uses = (codes "x", used 4) ∷ (codes "y", used 5) ∷ []
 
 abbrev block_0 : CommittedBlock
-block_0 = record { bytes = codes "0"; header_hash = replicate 32 1; flags = Valid ∷ [] }
+block_0 = record { bytes = codes "0"; header_hash = replicate 32 1; version = V1; flags = Valid ∷ [] }
 
 abbrev block_1 : CommittedBlock
-block_1 = record { bytes = codes "1"; header_hash = replicate 32 2; flags = [] }
+block_1 = record { bytes = codes "1"; header_hash = replicate 32 2; version = V2; flags = [] }
 
 abbrev world_of : List CommittedBlock → World
 world_of blocks = record { state = state; history = with_entries empty entries; first_uses = with_uses empty new_uses; blocks = blocks }

@@ -2,6 +2,7 @@
 use Rattle.std.proofs.Common.{◌≡◌, ℕ, true, false, List, [], ◌∷◌, map, Option, Some, None, Ok, Err, refl}
 use Rattle.std.specs.Prelude.{codes, replicate}
 use Rattle.std.specs.FinMap.{from_entries}
+use Rattle.transaction.specs.declared.block_version.BlockVersion.TheVariants.{V1}
 use Rattle.transaction.specs.declared.identity.Role.TheVariants.{Peer, Admin}
 use Rattle.transaction.specs.declared.identity.Identity.{Identity}
 use Rattle.transaction.specs.declared.transaction.Version.{Version}
@@ -231,7 +232,7 @@ block_over keys candidates = block_on 1 (state_with keys) candidates
 
 -- any bytes and flags will do for a kept block
 abbrev pub kept : CommittedBlock
-kept = record { bytes = []; header_hash = replicate 32 1; flags = [] }
+kept = record { bytes = []; header_hash = replicate 32 1; version = V1; flags = [] }
 
 -- of a transaction with that id
 abbrev pub entry : Version → Option (List ℕ) → HistoryEntry

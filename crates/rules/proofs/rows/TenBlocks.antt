@@ -9,7 +9,8 @@ use Rattle.transaction.specs.declared.transaction.Range.{Range}
 use Rattle.transaction.specs.declared.transaction.Tx.{Tx}
 use Rattle.transaction.specs.declared.transaction.Version.{Version}
 use Rattle.transaction.specs.declared.transaction.Write.{Write}
-use Rattle.block.specs.Grammar.{header_bytes, txs_bytes, Spells}
+use Rattle.block.specs.Grammar.{bytes_of, Spells}
+use Rattle.transaction.specs.declared.block_version.BlockVersion.TheVariants.{V1}
 use Rattle.values.specs.Order.{bytes_cmp}
 use Rattle.policy.specs.Policies.{Policies}
 use Rattle.policy.specs.Tree.{Tree}
@@ -262,10 +263,7 @@ module _ (old : History) where
 
 -- without transactions, whose previous hash isn't that of the kept block
 abbrev unlinked : ℕ → List ℕ → Block
-unlinked n data_hash = record { header = record { number = n; previous = Hash (replicate 32 0); data_hash = data_hash }; txs = [] }
-
-abbrev bytes_of : Block → List ℕ
-bytes_of b = header_bytes b.header ++ txs_bytes (length b.txs) b.txs
+unlinked n data_hash = record { version = V1; header = record { number = n; previous = Hash (replicate 32 0); data_hash = data_hash }; txs = [] }
 
 -- whatever the data hash
 module _ (data_hash : List ℕ) (data_hash_len : length data_hash ≡ 32) where

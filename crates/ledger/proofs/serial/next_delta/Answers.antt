@@ -1,6 +1,6 @@
 use Rattle.std.proofs.Common.{sym, subst, ◌∙◌}
 use Rattle.std.proofs.lemmas.Result.{MatchResult-weaker}
-use Rattle.block_steps.specs.OnItsWay.{bytes_of}
+use Rattle.block.specs.Grammar.{bytes_of}
 use Rattle.rules.specs.declared.answer.Refused.{Refused}
 use Rattle.rules.specs.Commit.{txs_of}
 use Rattle.rules.specs.Linked.{IsRefused}

@@ -1,0 +1,2 @@
+mod AsBefore
+mod Determined

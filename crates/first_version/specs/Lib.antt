@@ -1,0 +1,12 @@
+pub mod Configuration
+pub mod Answer
+pub mod Candidate
+pub mod Job
+pub mod Fold
+pub mod World
+pub mod Linked
+pub mod Commit
+pub mod Step
+pub mod Chain
+pub mod Seen
+pub mod AsBefore

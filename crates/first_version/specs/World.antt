@@ -1,0 +1,25 @@
+-- What a ledger holds.
+use Rattle.std.specs.Prelude.{ℕ, ◌-◌, List, [], length, Option, option_map, slice_get}
+use Rattle.std.specs.FinMap.{empty}
+use Rattle.first_version.specs.Answer.{CommittedBlock}
+use Rattle.rules.specs.State.{State}
+use Rattle.rules.specs.History.{History}
+use Rattle.rules.specs.FirstUses.{FirstUses}
+
+pub record World : Type 0 where
+  pub state : State
+  pub history : History
+  pub first_uses : FirstUses
+  -- the accepted blocks in order
+  pub blocks : List CommittedBlock
+
+abbrev pub empty_world : World
+empty_world = record { state = empty; history = empty; first_uses = empty; blocks = [] }
+
+-- the number of accepted blocks
+abbrev pub height_of : World → ℕ
+height_of w = length w.blocks
+
+-- the header hash of the last block; at height 0 place 0 - 1 = 0 has none
+abbrev pub last_header_hash : World → Option (List ℕ)
+last_header_hash w = option_map (λ b. b.header_hash) (slice_get w.blocks (length w.blocks - 1))

@@ -1,0 +1,7 @@
+//! The first version: what a step of a ledger was when blocks had one version, word for word, and that a step of today is the
+//! same where nothing is of another version. The definitions here stay as they are, whatever becomes of those of `rules`.
+#![tactic(auto)]
+
+mod laws;
+
+pub use laws::{first_version_steps_as_before, one_first_version_step};
