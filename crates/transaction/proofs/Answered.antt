@@ -1,5 +1,5 @@
 -- What an answer that reading gives says of the bytes.
-use Rattle.std.proofs.Common.{◌≡◌, ℕ, Bool, cond, eqb, leb, List, [], ◌++◌, length, Option, Some, None, Result, Ok, Err, refl, sym, ap, subst, ◌∙◌, inl, inr}
+use Rattle.std.proofs.Common.{◌≡◌, ℕ, Bool, cond, eqb, leb, List, [], ◌++◌, length, Option, Some, None, Result, Ok, Err, refl, sym, ap, subst, ◌∙◌, inl, inr, ◌≤◌}
 use Rattle.std.specs.Prelude.{IfOk}
 use Rattle.std.proofs.lemmas.Bool.{eqb-true, leb-true, le-leb}
 use Rattle.std.proofs.lemmas.List.{append-nil, nil_from_length}
@@ -62,6 +62,21 @@ module _ {A : Type 0} (read : Reader A) (spell : A → List ℕ) (Fits : A → T
   all_again bytes x e h =
       ap (all_at read) (e ∙ sym (append-nil (spell x))) ∙ ap (λ (r : Option (A × List ℕ)). r >>= λ y. cond (eqb (length y.1) 0) (Some y.0) None) (field.again x [] h)
 
+  -- no more bytes than a transaction has
+  pub record SpellsWithin (bytes : List ℕ) (x : A) : Type 0 where
+    pub fits : Fits x
+    pub fields : bytes ≡ spell x
+    pub short : length bytes ≤ max_tx_bytes
+
+  pub limited_taken : (bytes : List ℕ) (x : A) → IsBytes bytes → cond (leb (length bytes) max_tx_bytes) (all_at read bytes) None ≡ Some x → SpellsWithin bytes x
+  limited_taken bytes x fits e =
+      let g = if_some (leb (length bytes) max_tx_bytes) (all_at read bytes) x e in
+      let h = all_taken bytes x fits g.1 in
+      record { fits = h.1; fields = h.0; short = leb-true _ _ g.0 }
+
+  pub limited_again : (bytes : List ℕ) (x : A) → SpellsWithin bytes x → cond (leb (length bytes) max_tx_bytes) (all_at read bytes) None ≡ Some x
+  limited_again bytes x s = ap (λ (b : Bool). cond b (all_at read bytes) None) (le-leb _ _ s.short) ∙ all_again bytes x s.fields s.fits
+
 pub identity_law : (bytes : List ℕ) → IsBytes bytes → ReadsAs SpellsIdentity bytes (all_at identity_at bytes)
 identity_law bytes fits = record {
   taken = λ i e. let h = all_taken identity_at identity_bytes IsIdentity identity_field bytes i fits e in record { fits = h.1; fields = h.0 };
@@ -70,14 +85,11 @@ identity_law bytes fits = record {
 
 tx_taken : (bytes : List ℕ) (tx : Tx) → IsBytes bytes → whole_tx_at bytes ≡ Some tx → SpellsTx bytes tx
 unfolding whole_tx_at
-tx_taken bytes tx fits e =
-    let g = if_some (leb (length bytes) max_tx_bytes) (all_at tx_at bytes) tx e in
-    let h = all_taken tx_at whole_bytes IsWhole tx_field bytes tx fits g.1 in
-    record { fits = h.1; fields = h.0; short = leb-true _ _ g.0 }
+tx_taken bytes tx fits e = let h = limited_taken tx_at whole_bytes IsWhole tx_field bytes tx fits e in record { fits = h.fits; fields = h.fields; short = h.short }
 
 tx_again : (bytes : List ℕ) (tx : Tx) → SpellsTx bytes tx → whole_tx_at bytes ≡ Some tx
 unfolding whole_tx_at
-tx_again bytes tx s = ap (λ (b : Bool). cond b (all_at tx_at bytes) None) (le-leb _ _ s.short) ∙ all_again tx_at whole_bytes IsWhole tx_field bytes tx s.fields s.fits
+tx_again bytes tx s = limited_again tx_at whole_bytes IsWhole tx_field bytes tx (record { fits = s.fits; fields = s.fields; short = s.short })
 
 pub tx_law : (bytes : List ℕ) → IsBytes bytes → ReadsAs SpellsTx bytes (whole_tx_at bytes)
 tx_law bytes fits = record { taken = λ tx e. tx_taken bytes tx fits e; again = λ tx s. tx_again bytes tx s }

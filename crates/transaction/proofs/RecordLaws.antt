@@ -17,11 +17,11 @@ use Rattle.values.proofs.Numbers.{wide1, wide2, wide4, wide8}
 use Rattle.transaction.proofs.FieldLaws.{IsField, bytes_field, number_field, counted_field, tested_field, mapped_field, optional_field, listed_field, few_field, pair_field, byte_field, said_field, respelled_field}
 
 -- the combinations, with what the types show left out
-pair_of : {A B : Type 0} {ra : Reader A} {rb : Reader B} {sa : A → List ℕ} {sb : B → List ℕ} {Fa : A → Type 0} {Fb : B → Type 0} → IsField ra sa Fa → IsField rb sb Fb
+pub pair_of : {A B : Type 0} {ra : Reader A} {rb : Reader B} {sa : A → List ℕ} {sb : B → List ℕ} {Fa : A → Type 0} {Fb : B → Type 0} → IsField ra sa Fa → IsField rb sb Fb
     → IsField (pair_at ra rb) (λ p. sa p.0 ++ sb p.1) (λ p. Fa p.0 × Fb p.1)
 pair_of {ra = ra} {rb = rb} {sa = sa} {sb = sb} {Fa = Fa} {Fb = Fb} a b = pair_field ra rb sa sb Fa Fb a b
 
-mapped_of : {A B : Type 0} {r : Reader A} {s : A → List ℕ} {F : A → Type 0} (f : A → B) (g : B → A) → ((x : A) → g (f x) ≡ x) → ((y : B) → f (g y) ≡ y) → IsField r s F → IsField (mapped_at f r) (λ y. s (g y)) (λ y. F (g y))
+pub mapped_of : {A B : Type 0} {r : Reader A} {s : A → List ℕ} {F : A → Type 0} (f : A → B) (g : B → A) → ((x : A) → g (f x) ≡ x) → ((y : B) → f (g y) ≡ y) → IsField r s F → IsField (mapped_at f r) (λ y. s (g y)) (λ y. F (g y))
 mapped_of {r = r} {s = s} {F = F} f g back forth a = mapped_field r s F a f g back forth
 
 optional_of : {A : Type 0} {r : Reader A} {s : A → List ℕ} {F : A → Type 0} → IsField r s F → IsField (optional_at r) (optional s) (λ o. IfSome o F)
@@ -33,7 +33,7 @@ listed_of {r = r} {s = s} {F = F} a = listed_field r s F a 2 wide2
 tested_of : {A : Type 0} {r : Reader A} {s : A → List ℕ} {F : A → Type 0} (test : A → Bool) → IsField r s F → IsField (tested_at test r) s (λ x. F x × (test x ≡ true))
 tested_of {r = r} {s = s} {F = F} test a = tested_field r s F a test
 
-said_of : {A : Type 0} {r : Reader A} {s : A → List ℕ} {F : A → Type 0} (G : A → Type 0) → IsField r s F → ((x : A) → F x → G x) → ((x : A) → G x → F x) → IsField r s G
+pub said_of : {A : Type 0} {r : Reader A} {s : A → List ℕ} {F : A → Type 0} (G : A → Type 0) → IsField r s F → ((x : A) → F x → G x) → ((x : A) → G x → F x) → IsField r s G
 said_of {r = r} {s = s} {F = F} G a to from = said_field r s F G a to from
 
 -- ---- names, keys, bounds, bytes of a byte

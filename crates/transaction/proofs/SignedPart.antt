@@ -1,55 +1,62 @@
--- The signed part is the front of a transaction's bytes, all but the creator's signature.
-use Rattle.std.proofs.Common.{◌≡◌, ℕ, ◌+◌, ◌-◌, List, ◌++◌, length, take, drop, sym, ap, ◌∙◌, append_assoc, arith}
-use Rattle.std.proofs.lemmas.List.{take_at, drop_at, length-append}
-use Rattle.std.specs.List.{flat_map}
+-- The parts of the bytes of a transaction or an update: the signed part, the body and the creator's identity.
+use Rattle.std.proofs.Common.{◌≡◌, ℕ, ◌+◌, ◌≤◌, List, [], ◌∷◌, ◌++◌, length, sym, ap, ◌∙◌, append_assoc, arith}
+use Rattle.std.proofs.lemmas.List.{length-append}
 use Rattle.byteorder.specs.Endian.{big_bytes}
+use Rattle.transaction.specs.declared.transaction.Endorsement.{Endorsement}
 use Rattle.transaction.specs.declared.transaction.Tx.{Tx}
+use Rattle.transaction.specs.declared.update.Update.{Update}
 use Rattle.transaction.specs.Limits.{id_bytes}
-use Rattle.transaction.specs.Grammar.{counted, listed, identity_bytes, namespace_bytes, endorsement_bytes, body_bytes, signed_bytes, SpellsTx, SpellsSigned}
+use Rattle.transaction.specs.Grammar.{counted, listed, identity_bytes, namespace_bytes, endorsement_bytes, signed_bytes, SpellsTx, SpellsSigned}
+use Rattle.transaction.specs.UpdateGrammar.{update_signed_bytes, SpellsUpdate, SpellsSignedUpdate}
+use Rattle.transaction.specs.Cuts.{EndsIn, HasBehind}
 
-whole_length : (front signature : List ℕ) → length (front ++ counted 2 signature) ≡ length front + (2 + length signature)
-whole_length front signature =
-    length-append front (counted 2 signature) ∙ ap (λ (n : ℕ). length front + n) (length-append (big_bytes 2 (length signature)) signature)
+-- ---- the signed part
 
-pub signed_front : (tx : Tx) (bytes : List ℕ) → SpellsTx bytes tx → length (signed_bytes tx) ≡ length bytes - 2 - length tx.signature
-signed_front tx bytes s = omega (arith, ap length s.fields ∙ whole_length (signed_bytes tx) tx.signature)
+shorter : (front ending bytes : List ℕ) → bytes ≡ front ++ ending → length front ≤ length bytes
+shorter front ending bytes e = omega (arith, ap length e, length-append front ending)
 
-pub signed-from_whole : (tx : Tx) (bytes part : List ℕ) → SpellsTx bytes tx → part ≡ take (length bytes - 2 - length tx.signature) bytes → SpellsSigned part tx
-signed-from_whole tx bytes part s e =
-    let len = signed_front tx bytes s in
-    let same : part ≡ signed_bytes tx =
-    e ∙ ap (λ (b : List ℕ). take (length bytes - 2 - length tx.signature) b) s.fields ∙ take_at (signed_bytes tx) (counted 2 tx.signature) (length bytes - 2 - length tx.signature) len in
-    record { fits = s.fits.signed; fields = same; short = omega (arith, ap length same, len, s.short) }
+pub signed_tx : (tx : Tx) (bytes part : List ℕ) → SpellsTx bytes tx → part ≡ signed_bytes tx → SpellsSigned part tx
+signed_tx tx bytes part s e =
+    record { fits = s.fits.signed; fields = e; short = omega (arith, ap length e, shorter (signed_bytes tx) (counted 2 tx.signature) bytes s.fields, s.short) }
 
--- ---- the body is its front, all but the endorsements
+pub signed_update : (u : Update) (bytes part : List ℕ) → SpellsUpdate bytes u → part ≡ update_signed_bytes u → SpellsSignedUpdate part u
+signed_update u bytes part s e =
+    record { fits = s.fits.signed; fields = e; short = omega (arith, ap length e, shorter (update_signed_bytes u) (counted 2 u.signature) bytes s.fields, s.short) }
 
-pub body-from_signed : (tx : Tx) (signed : List ℕ) (n : ℕ) → signed ≡ signed_bytes tx → n ≡ length (flat_map endorsement_bytes tx.endorsements)
-    → take (length signed - (1 + n)) signed ≡ body_bytes tx
-body-from_signed tx signed n fields size =
-    let behind : List ℕ = listed 1 endorsement_bytes tx.endorsements in
-    let all : length signed ≡ length (body_bytes tx) + (1 + length (flat_map endorsement_bytes tx.endorsements)) =
-    ap length fields ∙ length-append (body_bytes tx) behind
-    ∙ ap (λ (m : ℕ). length (body_bytes tx) + m) (length-append (big_bytes 1 (length tx.endorsements)) (flat_map endorsement_bytes tx.endorsements)) in
-    ap (take (length signed - (1 + n))) fields ∙ take_at (body_bytes tx) behind (length signed - (1 + n)) (omega (arith, all, size))
+-- ---- endorsements behind a body
+
+pub ends_in : (body signed : List ℕ) (es found : List Endorsement) → signed ≡ body ++ listed 1 endorsement_bytes es → found ≡ es → EndsIn (listed 1 endorsement_bytes found) signed
+ends_in body signed es found e same = record { front = body; parts = e ∙ ap (λ (xs : List Endorsement). body ++ listed 1 endorsement_bytes xs) (sym same) }
 
 -- ---- the creator's identity bytes stand behind the channel and the id
 
-regrouped : (a b c d e f : List ℕ) → ((a ++ (b ++ (c ++ d))) ++ e) ++ f ≡ (a ++ b) ++ (c ++ (d ++ (e ++ f)))
-regrouped a b c d e f =
-    append_assoc (a ++ (b ++ (c ++ d))) e f ∙ append_assoc a (b ++ (c ++ d)) (e ++ f) ∙ ap (λ (x : List ℕ). a ++ x) (append_assoc b (c ++ d) (e ++ f) ∙ ap (λ (x : List ℕ). b ++ x) (append_assoc c d (e ++ f))) ∙ sym (append_assoc a b (c ++ (d ++ (e ++ f))))
+behind_id : (mark channel id creator others bytes : List ℕ) (start : ℕ) → length id ≡ id_bytes → start ≡ length mark + (1 + length channel) + id_bytes
+    → bytes ≡ mark ++ (counted 1 channel ++ (id ++ (creator ++ others))) → HasBehind start creator bytes
+behind_id mark channel id creator others bytes start size first e = record {
+  front = mark ++ (counted 1 channel ++ id);
+  rest = others;
+  len = omega (arith, length-append mark (counted 1 channel ++ id), length-append (counted 1 channel) id, length-append (big_bytes 1 (length channel)) channel, size, first);
+  parts = e ∙ regroup mark (counted 1 channel) id (creator ++ others);
+}
+  where
+    regroup : (a b c d : List ℕ) → a ++ (b ++ (c ++ d)) ≡ (a ++ (b ++ c)) ++ d
+    regroup a b c d = simp append_assoc
 
--- what stands behind a front, up to its length
-between : (front middle rest bytes : List ℕ) → bytes ≡ front ++ (middle ++ rest) → (start n : ℕ) → length front ≡ start → length middle ≡ n → take n (drop start bytes) ≡ middle
-between front middle rest bytes e start n first size =
-    ap (λ (b : List ℕ). take n (drop start b)) e ∙ ap (take n) (drop_at front (middle ++ rest) start first) ∙ take_at middle rest n size
+regrouped : (mark a b c d e f : List ℕ) → ((mark ++ (a ++ (b ++ (c ++ d)))) ++ e) ++ f ≡ mark ++ (a ++ (b ++ (c ++ (d ++ (e ++ f)))))
+regrouped mark a b c d e f = simp append_assoc
 
-channel_length : (channel id : List ℕ) → length (counted 1 channel ++ id) ≡ 1 + length channel + length id
-channel_length channel id = length-append (counted 1 channel) id ∙ ap (λ (n : ℕ). n + length id) (length-append (big_bytes 1 (length channel)) channel)
-
-pub creator_between : (tx : Tx) (bytes : List ℕ) → SpellsTx bytes tx → (start n : ℕ) → start ≡ 1 + length tx.channel + id_bytes → length (identity_bytes tx.creator) ≡ n
-    → take n (drop start bytes) ≡ identity_bytes tx.creator
-creator_between tx bytes s start n first size =
+pub creator_of_tx : (tx : Tx) (bytes : List ℕ) (start : ℕ) → SpellsTx bytes tx → start ≡ 1 + length tx.channel + id_bytes → HasBehind start (identity_bytes tx.creator) bytes
+creator_of_tx tx bytes start s first =
     let behind : List ℕ = counted 1 tx.nonce ++ (counted 1 tx.chaincode ++ listed 2 namespace_bytes tx.namespaces) in
-    let others : List ℕ = listed 1 endorsement_bytes tx.endorsements ++ counted 2 tx.signature in
-    let fields = regrouped (counted 1 tx.channel) tx.id (identity_bytes tx.creator) behind (listed 1 endorsement_bytes tx.endorsements) (counted 2 tx.signature) in
-    between (counted 1 tx.channel ++ tx.id) (identity_bytes tx.creator) (behind ++ others) bytes (s.fields ∙ fields) start n (channel_length tx.channel tx.id ∙ omega (arith, s.fits.signed.body.id, first)) size
+    let es : List ℕ = listed 1 endorsement_bytes tx.endorsements in
+    let signature : List ℕ = counted 2 tx.signature in
+    behind_id [] tx.channel tx.id (identity_bytes tx.creator) (behind ++ (es ++ signature)) bytes start s.fits.signed.body.id (omega (arith, first))
+    (s.fields ∙ regrouped [] (counted 1 tx.channel) tx.id (identity_bytes tx.creator) behind es signature)
+
+pub creator_of_update : (u : Update) (bytes : List ℕ) (start : ℕ) → SpellsUpdate bytes u → start ≡ 2 + length u.channel + id_bytes → HasBehind start (identity_bytes u.creator) bytes
+creator_of_update u bytes start s first =
+    let behind : List ℕ = counted 1 u.nonce ++ (counted 1 u.namespace ++ counted 2 u.policy) in
+    let es : List ℕ = listed 1 endorsement_bytes u.endorsements in
+    let signature : List ℕ = counted 2 u.signature in
+    behind_id (0 ∷ []) u.channel u.id (identity_bytes u.creator) (behind ++ (es ++ signature)) bytes start s.fits.signed.body.id (omega (arith, first))
+    (s.fields ∙ regrouped (0 ∷ []) (counted 1 u.channel) u.id (identity_bytes u.creator) behind es signature)

@@ -1,8 +1,11 @@
 ghost use Rattle.std.specs.Prelude.{◌≡◌, ◌<◌, ◌↔◌, ℕ, List, Some, slice_index};
+ghost use Rattle.transaction.specs.declared.block_version.BlockVersion.{BlockVersion};
+ghost use Rattle.transaction.specs.declared.item.Item.{Item};
 ghost use Rattle.transaction.specs.declared.transaction.Tx.{Tx};
 ghost use Rattle.transaction.specs.Limits.{id_bytes, max_endorsements, max_tx_bytes};
 ghost use Rattle.transaction.specs.Grammar.{SpellsTx};
 ghost use Rattle.transaction.specs.Decoded.{tx_of};
+ghost use Rattle.transaction.specs.Items.{SpellsItem, item_of};
 
 use crate::limits::{ID_BYTES, MAX_ENDORSEMENTS, MAX_TX_BYTES};
 
@@ -17,4 +20,9 @@ pub fn limits_are_the_definitions()
 /// spell, and none where they spell none.
 pub fn transaction_reading()
     ensures { (bytes : List ℕ) (tx : Tx) → ((i : ℕ) → slice_index bytes i < 256) → (tx_of bytes ≡ Some tx) ↔ SpellsTx bytes tx }
+{}
+
+/// The same law of items, in a block of either version.
+pub fn item_reading()
+    ensures { (version : BlockVersion) (bytes : List ℕ) (item : Item) → ((i : ℕ) → slice_index bytes i < 256) → (item_of version bytes ≡ Some item) ↔ SpellsItem version bytes item }
 {}

@@ -4,11 +4,10 @@ ghost use Rattle.transaction.specs.declared.identity.Identity.{Identity};
 ghost use Rattle.transaction.specs.declared.transaction.Tx.{Tx};
 ghost use Rattle.transaction.specs.declared.fault.TxFault.TheVariants.{Form, Memory};
 ghost use Rattle.transaction.specs.Grammar.{SpellsIdentity, SpellsTx};
-ghost use Rattle.transaction.specs.Limits.{id_bytes, max_endorsements};
-ghost use Rattle.transaction.specs.BodyFields.{body_fields};
+ghost use Rattle.transaction.specs.Limits.{max_endorsements};
 ghost use Rattle.transaction.specs.Decoded.{tx_of};
-ghost use Rattle.transaction.specs.Combined.{bytes_at, byte_at, optional_at, counted_at, few_at};
-ghost use Rattle.transaction.specs.Reading.{Gives, role_of, bool_of, identity_at, version_at, read_at, result_at, range_at, write_at, policy_write_at, namespace_at, endorsement_at, body_at, tx_at, all_at, whole_tx_at};
+ghost use Rattle.transaction.specs.Combined.{byte_at, optional_at, counted_at, few_at};
+ghost use Rattle.transaction.specs.Reading.{Gives, role_of, bool_of, identity_at, version_at, read_at, result_at, range_at, write_at, policy_write_at, namespace_at, endorsement_at, tx_at, all_at, whole_tx_at};
 
 use crate::fault::TxFault;
 use crate::field::{
@@ -16,13 +15,14 @@ use crate::field::{
     read_name, read_u8, read_u32, read_u64,
 };
 use crate::identity::{Identity, Role};
-use crate::limits::{ID_BYTES, MAX_ENDORSEMENTS, MAX_TX_BYTES};
+use crate::limits::{MAX_ENDORSEMENTS, MAX_TX_BYTES};
+use crate::opening::{OpeningFields, read_opening};
 use crate::spelled::SpelledTx;
 use crate::transaction::{
-    Endorsement, KeyVersion, NsSet, PolicyWrite, Range, Read, Tx, TxId, Version, Write,
+    Endorsement, KeyVersion, NsSet, PolicyWrite, Range, Read, Tx, Version, Write,
 };
 use std::alloc::Global;
-use values::{Items, NameRef, Slice};
+use values::{Items, Slice};
 
 fn read_role(bytes: &[u8]) -> Result<(Role, &[u8]), TxFault>
     ensures { Gives (λ x. (x.0, x.1.now)) result (byte_at role_of bytes.now) }
@@ -47,7 +47,7 @@ fn read_bool(bytes: &[u8]) -> Result<(bool, &[u8]), TxFault>
 }
 
 #[tactic(auto, unfolding(crate::specs::Reading::identity_at))]
-fn read_identity(bytes: &[u8]) -> Result<(Identity<'_>, &[u8]), TxFault>
+pub(crate) fn read_identity(bytes: &[u8]) -> Result<(Identity<'_>, &[u8]), TxFault>
     ensures { Gives (λ x. (x.0, x.1.now)) result (identity_at bytes.now) }
 {
     let (org, rest) = read_name(bytes)?;
@@ -217,51 +217,7 @@ impl<'a> Field<'a> for Endorsement<'a> {
     }
 }
 
-// The fields of a transaction's body.
-#[derive(Drop)]
-struct BodyFields<'a> {
-    channel: NameRef<'a>,
-    id: TxId,
-    creator: Identity<'a>,
-    nonce: Slice<'a>,
-    chaincode: NameRef<'a>,
-    namespaces: Items<NsSet<'a>>,
-}
-
-fn read_id(bytes: &[u8]) -> Result<(TxId, &[u8]), TxFault>
-    ensures { Gives (λ x. (x.0, x.1.now)) result (bytes_at id_bytes bytes.now) }
-{
-    if bytes.len() < ID_BYTES {
-        return Err(TxFault::Form);
-    }
-    let (front, rest) = bytes.split_at(ID_BYTES);
-    let mut id = [0; ID_BYTES];
-    id.copy_from_slice(front);
-    Ok((id, rest))
-}
-
-#[tactic(auto, unfolding(crate::specs::Reading::body_at))]
-fn read_body(alloc: Global, bytes: &[u8]) -> Result<(BodyFields<'_>, &[u8]), TxFault>
-    ensures { Gives (λ x. (body_fields x.0, x.1.now)) result (body_at bytes.now) }
-{
-    let (channel, rest) = read_name(bytes)?;
-    let (id, rest) = read_id(rest)?;
-    let (creator, rest) = read_identity(rest)?;
-    let (nonce, rest) = read_bytes8(rest)?;
-    let (chaincode, rest) = read_name(rest)?;
-    let (namespaces, rest) = read_list::<NsSet>(alloc, rest)?;
-    let body = BodyFields {
-        channel,
-        id,
-        creator,
-        nonce,
-        chaincode,
-        namespaces,
-    };
-    Ok((body, rest))
-}
-
-fn read_endorsements(
+pub(crate) fn read_endorsements(
     alloc: Global,
     bytes: &[u8],
 ) -> Result<(Items<Endorsement<'_>>, &[u8]), TxFault>
@@ -274,21 +230,21 @@ fn read_endorsements(
     read_fields::<Endorsement>(alloc, u16::from(count), rest)
 }
 
-#[tactic(auto, unfolding(crate::specs::Reading::tx_at))]
+#[tactic(auto, using(crate::proofs::OpeningLaws::body_opens), unfolding(crate::specs::Reading::tx_at))]
 fn read_tx(alloc: Global, bytes: &[u8]) -> Result<(Tx<'_>, &[u8]), TxFault>
     ensures { Gives (λ x. (x.0, x.1.now)) result (tx_at bytes.now) }
 {
-    let (body, rest) = read_body(alloc, bytes)?;
+    let (opening, rest) = read_opening(bytes)?;
+    let (chaincode, rest) = read_name(rest)?;
+    let (namespaces, rest) = read_list::<NsSet>(alloc, rest)?;
     let (endorsements, rest) = read_endorsements(alloc, rest)?;
     let (signature, rest) = read_bytes16(rest)?;
-    let BodyFields {
+    let OpeningFields {
         channel,
         id,
         creator,
         nonce,
-        chaincode,
-        namespaces,
-    } = body;
+    } = opening;
     let tx = Tx {
         channel,
         id,
@@ -303,7 +259,7 @@ fn read_tx(alloc: Global, bytes: &[u8]) -> Result<(Tx<'_>, &[u8]), TxFault>
 }
 
 #[tactic(auto, unfolding(crate::specs::Reading::whole_tx_at))]
-fn read_bare_tx(alloc: Global, bytes: &[u8]) -> Result<Tx<'_>, TxFault>
+pub(crate) fn read_bare_tx(alloc: Global, bytes: &[u8]) -> Result<Tx<'_>, TxFault>
     ensures { Gives (λ tx. tx) result (whole_tx_at bytes.now) }
 {
     if MAX_TX_BYTES < bytes.len() {

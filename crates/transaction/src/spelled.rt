@@ -1,10 +1,10 @@
-ghost use Rattle.std.specs.Prelude.{◌≡◌, ◌≤◌, length, flat_map};
-ghost use Rattle.transaction.specs.Limits.{max_tx_bytes};
-ghost use Rattle.transaction.specs.Grammar.{identity_bytes, endorsement_bytes, body_bytes, SpellsTx, SpellsSigned};
+ghost use Rattle.std.specs.Prelude.{◌≡◌};
+ghost use Rattle.transaction.specs.Grammar.{identity_bytes, body_bytes, SpellsTx, SpellsSigned};
 ghost use Rattle.transaction.specs.Spelled.{IsSpelled};
 
+use crate::cut::{before_endorsements, before_signature, identity_behind};
 use crate::limits::ID_BYTES;
-use crate::transaction::{Endorsement, Tx};
+use crate::transaction::Tx;
 use std::marker::Model;
 
 /// A transaction with the bytes that spell it, both lent. A contract sees the transaction.
@@ -25,18 +25,6 @@ impl<'a> Model for SpelledTx<'a> {
     ghost view = { λ s. s.tx };
 
     ghost invariant = { λ s. SpellsTx s.bytes.now s.tx };
-}
-
-/// How many bytes spell these endorsements, without their count.
-fn endorsements_len(endorsements: &[Endorsement<'_>]) -> usize
-    requires { length (flat_map endorsement_bytes endorsements.now) ≤ max_tx_bytes }
-    ensures { result ≡ length (flat_map endorsement_bytes endorsements.now) }
-{
-    let mut len = 0;
-    for endorsement in endorsements {
-        len += endorsement.endorser.bytes_len() + 2 + endorsement.signature.len();
-    }
-    len
 }
 
 impl<'a> SpelledTx<'a> {
@@ -65,25 +53,21 @@ impl<'a> SpelledTx<'a> {
     pub fn creator_message(&self) -> &'a [u8]
         ensures { SpellsSigned result.now self.now }
     {
-        &self.bytes[..self.bytes.len() - 2 - self.tx.signature.len()]
+        before_signature(self.bytes, &self.tx.signature)
     }
 
     /// The body, with which begins what each endorser signs. Linear in the number of endorsements, no copy.
     pub fn body(&self) -> &'a [u8]
         ensures { result.now ≡ body_bytes self.now }
     {
-        let signed = self.creator_message();
-        let behind = 1 + endorsements_len(self.tx.endorsements.as_slice());
-        &signed[..signed.len() - behind]
+        before_endorsements(self.creator_message(), self.tx.endorsements.as_slice())
     }
 
     /// The creator's identity bytes, which the id is made of. Constant time, no copy.
     pub fn creator_bytes(&self) -> &'a [u8]
         ensures { result.now ≡ identity_bytes self.now.creator }
     {
-        let creator = &self.tx.creator;
         let start = 1 + self.tx.channel.len() + ID_BYTES;
-        let end = start + creator.bytes_len();
-        &self.bytes[start..end]
+        identity_behind(self.bytes, start, &self.tx.creator)
     }
 }

@@ -6,23 +6,24 @@ ghost use Rattle.values.specs.Key.{is_key, is_bound};
 ghost use Rattle.values.specs.Memory.{GivesUnless};
 ghost use Rattle.transaction.specs.declared.fault.EncodeFault.TheVariants.{TooLarge, Memory};
 ghost use Rattle.transaction.specs.Grammar.{counted, listed, optional, bool_byte, role_byte, identity_bytes, version_bytes, read_bytes, result_bytes, range_bytes, write_bytes, policy_write_bytes, namespace_bytes, endorsement_bytes, body_bytes, signed_bytes, whole_bytes, IsIdentity, IsVersion, IsRead, IsResult, AreItems, AreEndorsements, IsRange, IsWrite, IsPolicyWrite, IsNsSet, IsEndorsement, IsBody, IsSigned, IsWhole, SpellsIdentity, SpellsBody, SpellsSigned, SpellsTx};
-ghost use Rattle.transaction.specs.Limits.{id_bytes, max_tx_bytes};
+ghost use Rattle.transaction.specs.Limits.{max_tx_bytes};
 ghost use Rattle.transaction.specs.Putting.{Puts};
 
 use crate::fault::EncodeFault;
 use crate::identity::{Identity, Role};
 use crate::limits::{MAX_ENDORSEMENTS, MAX_TX_BYTES};
+use crate::opening::put_opening;
 use crate::put::{
     Spelled, put_bytes8, put_bytes16, put_bytes32, put_fields, put_len8, put_list, put_u8, put_u32,
     put_u64,
 };
 use crate::transaction::{
-    Endorsement, KeyVersion, NsSet, PolicyWrite, Range, Read, Tx, TxId, Version, Write,
+    Endorsement, KeyVersion, NsSet, PolicyWrite, Range, Read, Tx, Version, Write,
 };
 use std::alloc::{AllocError, Global};
 use values::{BoundRef, Bytes, KeyRef, NameRef, Slice};
 
-fn put_name(out: &mut Vec<u8>, name: &NameRef<'_>) -> Result<(), EncodeFault>
+pub(crate) fn put_name(out: &mut Vec<u8>, name: &NameRef<'_>) -> Result<(), EncodeFault>
     ensures { Puts result out.old.items out.new.items (counted 1 name.now) (IsTrue (is_name name.now)) }
 {
     put_bytes8(out, name.as_slice())
@@ -75,7 +76,7 @@ fn identity_reserved(out: &mut Vec<u8>, identity: &Identity<'_>, label_len: u8)
     extend_reserved(out, identity.label.as_slice());
 }
 
-fn put_identity(out: &mut Vec<u8>, identity: &Identity<'_>) -> Result<(), EncodeFault>
+pub(crate) fn put_identity(out: &mut Vec<u8>, identity: &Identity<'_>) -> Result<(), EncodeFault>
     ensures put { Puts result out.old.items out.new.items (identity_bytes identity.now) (IsIdentity identity.now) }
     ensures err { OnErr result (out.new.items ≡ out.old.items) }
 {
@@ -227,23 +228,16 @@ impl Spelled for Endorsement<'_> {
 fn put_body(out: &mut Vec<u8>, tx: &Tx<'_>) -> Result<(), EncodeFault>
     ensures { Puts result out.old.items out.new.items (body_bytes tx.now) (IsBody tx.now) }
 {
-    put_name(out, &tx.channel)?;
-    put_id(out, &tx.id)?;
-    put_identity(out, &tx.creator)?;
-    put_bytes8(out, tx.nonce.as_slice())?;
+    put_opening(out, &tx.channel, &tx.id, &tx.creator, &tx.nonce)?;
     put_name(out, &tx.chaincode)?;
     put_list(out, tx.namespaces.as_slice())?;
     Ok(())
 }
 
-fn put_id(out: &mut Vec<u8>, id: &TxId) -> Result<(), EncodeFault>
-    ensures { Puts result out.old.items out.new.items id.now (length id.now ≡ id_bytes) }
-{
-    out.extend_from_slice(id)?;
-    Ok(())
-}
-
-fn put_endorsements(out: &mut Vec<u8>, endorsements: &[Endorsement<'_>]) -> Result<(), EncodeFault>
+pub(crate) fn put_endorsements(
+    out: &mut Vec<u8>,
+    endorsements: &[Endorsement<'_>],
+) -> Result<(), EncodeFault>
     ensures { Puts result out.old.items out.new.items (listed 1 endorsement_bytes endorsements.now) (AreEndorsements endorsements.now) }
 {
     if MAX_ENDORSEMENTS < endorsements.len() {
@@ -270,7 +264,7 @@ fn put_tx(out: &mut Vec<u8>, tx: &Tx<'_>) -> Result<(), EncodeFault>
 }
 
 // The bytes, unless they are more than a transaction has.
-fn within_limit(bytes: Vec<u8>) -> Result<Bytes, EncodeFault>
+pub(crate) fn within_limit(bytes: Vec<u8>) -> Result<Bytes, EncodeFault>
     ensures ok { IfOk result (λ b. (b ≡ bytes.items) × (length bytes.items ≤ max_tx_bytes)) }
     ensures err { IfErr result (λ e. (e ≡ TooLarge) × (max_tx_bytes < length bytes.items)) }
 {

@@ -1,7 +1,7 @@
 use Rattle.std.proofs.Common.{◌≡◌, ◌+◌, length, drop}
 use Rattle.std.specs.Prelude.{flat_map}
 use Rattle.transaction.specs.Grammar.{endorsement_bytes}
-use Rattle.transaction.proofs.spelled.endorsements_len.Given as goal
+use Rattle.transaction.proofs.cut.endorsements_len.Given as goal
 
 abbrev pub invariant-loop-endorsement : goal.invariant-loop-endorsement
 invariant-loop-endorsement l =
