@@ -1,4 +1,4 @@
-//! Tests of bytes: blocks and transactions both ways, headers and hashes.
+//! Tests of bytes: blocks, transactions and updates both ways, headers and hashes.
 #![tactic(auto)]
 
 #[cfg(test)]
@@ -11,3 +11,5 @@ mod joined;
 mod told;
 #[cfg(test)]
 mod transactions;
+#[cfg(test)]
+mod updates;

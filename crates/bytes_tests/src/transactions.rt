@@ -19,7 +19,7 @@ const SIGNATURE: [u8; 32] = [7; 32];
 
 // Channel `ch`, creator `Org1:client:c0`, nonce `n1`, chaincode `cc`, one namespace `cc` with a read
 // of `k1` at (0, 0) and a write of `k3` with the value `v`, one endorsement of `Org1:peer:p0`.
-fn example(alloc: Global) -> Result<Vec<u8>, AllocError> {
+pub(crate) fn example(alloc: Global) -> Result<Vec<u8>, AllocError> {
     let parts: [&[u8]; 6] = [
         b"\x02ch",
         &[5; 64],

@@ -7,11 +7,11 @@ use Rattle.transaction.specs.declared.identity.Identity.{Identity}
 use Rattle.transaction.specs.declared.identity.Role.{Role}
 use Rattle.transaction.specs.declared.identity.Role.TheVariants.{Admin, Client, Peer, Orderer}
 use Rattle.transaction.specs.declared.transaction.Endorsement.{Endorsement}
-use Rattle.transaction.specs.declared.transaction.Tx.{Tx}
 use Rattle.transaction.specs.Grammar.{role_byte}
 use Rattle.transaction.specs.Same.{is_same_identity}
 use Rattle.policy_eval.specs.Accepts.{Accepts}
-use Rattle.policy_eval.specs.Signers.{each_once, is_accepted, signers_of, HasSigned}
+use Rattle.policy_eval.specs.Signers.{each_once}
+use Rattle.policy_eval.specs.Over.{is_accepted_over, signers_over}
 use Rattle.policy_eval.proofs.Once.{same_is, differs}
 use Rattle.policy_eval.proofs.Pairs.{Pairwise, all_pairs}
 
@@ -124,28 +124,32 @@ once_differ [] = tt
 once_differ (i ∷ is) =
     (all_filtered (differs i) (λ other. i ≢ other) (differ i) (each_once is), pairwise_filter (λ (a b : Identity). a ≢ b) (differs i) (each_once is) (once_differ is))
 
--- ---- the signers of a transaction
+-- ---- signers over a body
 
 abbrev endorser_of : Endorsement → Identity
 endorser_of e = e.endorser
 
-abbrev accepted : Accepts → Tx → List Endorsement
-accepted accepts tx = filter (is_accepted accepts tx) tx.endorsements
+module _ (accepts : Accepts) (body : List ℕ) (es : List Endorsement) where
+  abbrev accepted : List Endorsement
+  accepted = filter (is_accepted_over accepts body) es
 
-pub signers_are : (accepts : Accepts) (tx : Tx) (identity : Identity) → Contains (signers_of accepts tx) identity ↔ HasSigned accepts tx identity
-signers_are accepts tx identity = (to, from)
-  where
-    to : Contains (signers_of accepts tx) identity → HasSigned accepts tx identity
-    to h =
-        let e = from_map endorser_of (accepted accepts tx) identity (from_once (map endorser_of (accepted accepts tx)) identity (in_from (signers_of accepts tx) identity h)) in
-        let w = from_filter (is_accepted accepts tx) tx.endorsements e.0 e.1 in
-        (e.0, contains_from tx.endorsements e.0 w.0, e.2, w.1)
+  abbrev pub HasSignedOver : Identity → Type 0
+  HasSignedOver identity = (e : Endorsement) × Contains es e × (e.endorser ≡ identity) × (is_accepted_over accepts body e ≡ true)
 
-    from : HasSigned accepts tx identity → Contains (signers_of accepts tx) identity
-    from h =
-        let e = filter_in (is_accepted accepts tx) tx.endorsements h.0 (in_from tx.endorsements h.0 h.1) h.3 in
-        let its : IsIn h.0.endorser (signers_of accepts tx) = once_in (map endorser_of (accepted accepts tx)) h.0.endorser (map_in endorser_of (accepted accepts tx) h.0 e) in
-        contains_from (signers_of accepts tx) identity (subst (λ i. IsIn i (signers_of accepts tx)) h.2 its)
+  pub signers_are : (identity : Identity) → Contains (signers_over accepts body es) identity ↔ HasSignedOver identity
+  signers_are identity = (to, from)
+    where
+      to : Contains (signers_over accepts body es) identity → HasSignedOver identity
+      to h =
+          let e = from_map endorser_of accepted identity (from_once (map endorser_of accepted) identity (in_from (signers_over accepts body es) identity h)) in
+          let w = from_filter (is_accepted_over accepts body) es e.0 e.1 in
+          (e.0, contains_from es e.0 w.0, e.2, w.1)
 
-pub signers_differ : (accepts : Accepts) (tx : Tx) → AllPairs (λ (a b : Identity). a ≢ b) (signers_of accepts tx)
-signers_differ accepts tx = all_pairs (λ (a b : Identity). a ≢ b) (signers_of accepts tx) (once_differ (map endorser_of (accepted accepts tx)))
+      from : HasSignedOver identity → Contains (signers_over accepts body es) identity
+      from h =
+          let e = filter_in (is_accepted_over accepts body) es h.0 (in_from es h.0 h.1) h.3 in
+          let its : IsIn h.0.endorser (signers_over accepts body es) = once_in (map endorser_of accepted) h.0.endorser (map_in endorser_of accepted h.0 e) in
+          contains_from (signers_over accepts body es) identity (subst (λ i. IsIn i (signers_over accepts body es)) h.2 its)
+
+  pub signers_differ : AllPairs (λ (a b : Identity). a ≢ b) (signers_over accepts body es)
+  signers_differ = all_pairs (λ (a b : Identity). a ≢ b) (signers_over accepts body es) (once_differ (map endorser_of accepted))

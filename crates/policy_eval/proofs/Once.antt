@@ -7,12 +7,12 @@ use Rattle.std.proofs.lemmas.Slice.Eq.{bytes_eq-Decides}
 use Rattle.transaction.specs.declared.identity.Identity.{Identity}
 use Rattle.transaction.specs.declared.identity.Role.{Role}
 use Rattle.transaction.specs.declared.identity.Role.TheVariants.{Admin, Client, Peer, Orderer}
-use Rattle.transaction.specs.Grammar.{role_byte, body_bytes, identity_bytes}
+use Rattle.transaction.specs.Grammar.{role_byte, identity_bytes}
 use Rattle.transaction.specs.Same.{is_same_identity}
-use Rattle.policy_eval.specs.Signers.{each_once, is_accepted}
+use Rattle.policy_eval.specs.Signers.{each_once}
+use Rattle.policy_eval.specs.Over.{is_accepted_over, signers_over}
 use Rattle.policy_eval.specs.Accepts.{Accepts}
 use Rattle.transaction.specs.declared.transaction.Endorsement.{Endorsement}
-use Rattle.transaction.specs.declared.transaction.Tx.{Tx}
 use Rattle.std.proofs.lemmas.List.Elements.{filter-append}
 use Rattle.std.proofs.lemmas.List.{append-nil, map-append}
 use Rattle.std.proofs.Math.Seq.{take-suc}
@@ -93,52 +93,48 @@ once_more (i ∷ is) x = ap (λ signers. i ∷ filter (differs i) signers) (once
 
 -- ---- one endorsement more
 
--- who signed, of these endorsements
-abbrev pub signed_by : Accepts → Tx → List Endorsement → List Identity
-signed_by accepts tx es = each_once (map (λ e. e.endorser) (filter (is_accepted accepts tx) es))
-
-signed_more : (accepts : Accepts) (tx : Tx) (es : List Endorsement) (e : Endorsement)
-    → signed_by accepts tx (es ++ e ∷ []) ≡ cond (is_accepted accepts tx e) (with_identity (signed_by accepts tx es) e.endorser) (signed_by accepts tx es)
-signed_more accepts tx es e = ap (λ l. each_once (map (λ e. e.endorser) l)) (filter-append (is_accepted accepts tx) es (e ∷ [])) ∙ by (is_accepted accepts tx e) refl
+signed_more : (accepts : Accepts) (body : List ℕ) (es : List Endorsement) (e : Endorsement)
+    → signers_over accepts body (es ++ e ∷ []) ≡ cond (is_accepted_over accepts body e) (with_identity (signers_over accepts body es) e.endorser) (signers_over accepts body es)
+signed_more accepts body es e = ap (λ l. each_once (map (λ e. e.endorser) l)) (filter-append (is_accepted_over accepts body) es (e ∷ [])) ∙ by (is_accepted_over accepts body e) refl
   where
-    by : (b : Bool) → is_accepted accepts tx e ≡ b
-        → each_once (map (λ e. e.endorser) (filter (is_accepted accepts tx) es ++ cond b (e ∷ []) [])) ≡ cond b (with_identity (signed_by accepts tx es) e.endorser) (signed_by accepts tx es)
-    by true t = ap each_once (map-append (λ e. e.endorser) (filter (is_accepted accepts tx) es) (e ∷ [])) ∙ once_more (map (λ e. e.endorser) (filter (is_accepted accepts tx) es)) e.endorser
-    by false t = ap (λ l. each_once (map (λ e. e.endorser) l)) (append-nil (filter (is_accepted accepts tx) es))
+    by : (b : Bool) → is_accepted_over accepts body e ≡ b
+        → each_once (map (λ e. e.endorser) (filter (is_accepted_over accepts body) es ++ cond b (e ∷ []) [])) ≡ cond b (with_identity (signers_over accepts body es) e.endorser) (signers_over accepts body es)
+    by true t = ap each_once (map-append (λ e. e.endorser) (filter (is_accepted_over accepts body) es) (e ∷ [])) ∙ once_more (map (λ e. e.endorser) (filter (is_accepted_over accepts body) es)) e.endorser
+    by false t = ap (λ l. each_once (map (λ e. e.endorser) l)) (append-nil (filter (is_accepted_over accepts body) es))
 
-signed_step : (accepts : Accepts) (tx : Tx) (es : List Endorsement) (i : ℕ) (e : Endorsement) (signers : List Identity) → i < length es → e ≡ get_or es i e
-    → signers ≡ signed_by accepts tx (take i es)
-    → signed_by accepts tx (take (i + 1) es) ≡ cond (is_accepted accepts tx e) (with_identity signers e.endorser) signers
-signed_step accepts tx es i e signers h is so_far =
-    ap (signed_by accepts tx) (rw add-one (take-suc es i e h) ∙ ap (λ x. take i es ++ x ∷ []) (sym is))
-    ∙ signed_more accepts tx (take i es) e
-    ∙ ap (λ l. cond (is_accepted accepts tx e) (with_identity l e.endorser) l) (sym so_far)
+signed_step : (accepts : Accepts) (body : List ℕ) (es : List Endorsement) (i : ℕ) (e : Endorsement) (signers : List Identity) → i < length es → e ≡ get_or es i e
+    → signers ≡ signers_over accepts body (take i es)
+    → signers_over accepts body (take (i + 1) es) ≡ cond (is_accepted_over accepts body e) (with_identity signers e.endorser) signers
+signed_step accepts body es i e signers h is so_far =
+    ap (signers_over accepts body) (rw add-one (take-suc es i e h) ∙ ap (λ x. take i es ++ x ∷ []) (sym is))
+    ∙ signed_more accepts body (take i es) e
+    ∙ ap (λ l. cond (is_accepted_over accepts body e) (with_identity l e.endorser) l) (sym so_far)
 
 -- the signers after an endorsement whose endorser is a signer already, is a new one, or isn't accepted
-pub signed_already : (accepts : Accepts) (tx : Tx) (es : List Endorsement) (i : ℕ) (e : Endorsement) (signers : List Identity) → i < length es → e ≡ get_or es i e
-    → signers ≡ signed_by accepts tx (take i es) → list_any (λ signer. is_same_identity signer e.endorser) signers ≡ true
-    → signers ≡ signed_by accepts tx (take (i + 1) es)
-signed_already accepts tx es i e signers h is so_far there = sym (signed_step accepts tx es i e signers h is so_far ∙ rw there (by (is_accepted accepts tx e)))
+pub signed_already : (accepts : Accepts) (body : List ℕ) (es : List Endorsement) (i : ℕ) (e : Endorsement) (signers : List Identity) → i < length es → e ≡ get_or es i e
+    → signers ≡ signers_over accepts body (take i es) → list_any (λ signer. is_same_identity signer e.endorser) signers ≡ true
+    → signers ≡ signers_over accepts body (take (i + 1) es)
+signed_already accepts body es i e signers h is so_far there = sym (signed_step accepts body es i e signers h is so_far ∙ rw there (by (is_accepted_over accepts body e)))
   where
     by : (b : Bool) → cond b signers signers ≡ signers
     by true = refl
     by false = refl
 
-pub signed_newly : (accepts : Accepts) (tx : Tx) (es : List Endorsement) (i : ℕ) (e : Endorsement) (copied : Identity) (signers after : List Identity) → i < length es → e ≡ get_or es i e
-    → signers ≡ signed_by accepts tx (take i es) → list_any (λ signer. is_same_identity signer e.endorser) signers ≡ false → is_accepted accepts tx e ≡ true
-    → copied ≡ e.endorser → after ≡ signers ++ copied ∷ [] → after ≡ signed_by accepts tx (take (i + 1) es)
-signed_newly accepts tx es i e copied signers after h is so_far there accepted same pushed =
-    pushed ∙ ap (λ x. signers ++ x ∷ []) same ∙ sym (signed_step accepts tx es i e signers h is so_far ∙ rw (accepted, there) refl)
+pub signed_newly : (accepts : Accepts) (body : List ℕ) (es : List Endorsement) (i : ℕ) (e : Endorsement) (copied : Identity) (signers after : List Identity) → i < length es → e ≡ get_or es i e
+    → signers ≡ signers_over accepts body (take i es) → list_any (λ signer. is_same_identity signer e.endorser) signers ≡ false → is_accepted_over accepts body e ≡ true
+    → copied ≡ e.endorser → after ≡ signers ++ copied ∷ [] → after ≡ signers_over accepts body (take (i + 1) es)
+signed_newly accepts body es i e copied signers after h is so_far there accepted same pushed =
+    pushed ∙ ap (λ x. signers ++ x ∷ []) same ∙ sym (signed_step accepts body es i e signers h is so_far ∙ rw (accepted, there) refl)
 
-pub not_signed : (accepts : Accepts) (tx : Tx) (es : List Endorsement) (i : ℕ) (e : Endorsement) (signers : List Identity) → i < length es → e ≡ get_or es i e
-    → signers ≡ signed_by accepts tx (take i es) → is_accepted accepts tx e ≡ false
-    → signers ≡ signed_by accepts tx (take (i + 1) es)
-not_signed accepts tx es i e signers h is so_far refused = sym (signed_step accepts tx es i e signers h is so_far ∙ rw refused refl)
+pub not_signed : (accepts : Accepts) (body : List ℕ) (es : List Endorsement) (i : ℕ) (e : Endorsement) (signers : List Identity) → i < length es → e ≡ get_or es i e
+    → signers ≡ signers_over accepts body (take i es) → is_accepted_over accepts body e ≡ false
+    → signers ≡ signers_over accepts body (take (i + 1) es)
+not_signed accepts body es i e signers h is so_far refused = sym (signed_step accepts body es i e signers h is so_far ∙ rw refused refl)
 
 -- what the verifier answers of a message that begins with the body
-pub accepted_is : (accepts : Accepts) (tx : Tx) (e : Endorsement) (front : List ℕ) (signed : Bool) → front ≡ body_bytes tx
-    → signed ≡ accepts e.endorser (front ++ identity_bytes e.endorser) e.signature → is_accepted accepts tx e ≡ signed
-accepted_is accepts tx e front signed same answer =
+pub accepted_is : (accepts : Accepts) (body : List ℕ) (e : Endorsement) (front : List ℕ) (signed : Bool) → front ≡ body
+    → signed ≡ accepts e.endorser (front ++ identity_bytes e.endorser) e.signature → is_accepted_over accepts body e ≡ signed
+accepted_is accepts body e front signed same answer =
     ap (λ l. accepts e.endorser (l ++ identity_bytes e.endorser) e.signature) (sym same) ∙ sym answer
 
 pub found_is : (signers seen : List Identity) (x : Identity) (there : Bool) → there ≡ list_any (λ signer. is_same_identity signer x) seen → seen ≡ signers

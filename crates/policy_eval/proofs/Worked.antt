@@ -7,10 +7,12 @@ use Rattle.transaction.specs.declared.identity.Role.{Role}
 use Rattle.transaction.specs.declared.identity.Role.TheVariants.{Peer, Admin}
 use Rattle.transaction.specs.declared.transaction.Endorsement.{Endorsement}
 use Rattle.transaction.specs.declared.transaction.Tx.{Tx}
+use Rattle.transaction.specs.declared.update.Update.{Update}
 use Rattle.policy.specs.declared.tree.PolicyRole.TheVariants as wanted
 use Rattle.policy.specs.Tree.{Tree, Trees, principal, gate, none, more}
 use Rattle.policy_eval.specs.Accepts.{Accepts}
 use Rattle.policy_eval.specs.Signers.{signers_of}
+use Rattle.policy_eval.specs.UpdateSigners.{update_signers_of}
 use Rattle.policy_eval.specs.Evaluating.{is_satisfied}
 use Rattle.policy_eval.specs.Assignment.{assignment_of}
 
@@ -124,3 +126,30 @@ accepts_that_message who message signature = bytes_eq message message_of_b
 -- each endorser signs the body and its own bytes
 pub signs_its_own_bytes : signers_of accepts_that_message (endorsed_tx (endorsed (of_org (codes "A")) [] ∷ endorsed (of_org (codes "B")) [] ∷ [])) ≡ of_org (codes "B") ∷ []
 signs_its_own_bytes = refl
+
+-- ---- signers of an update
+
+abbrev endorsed_update : List Endorsement → Update
+endorsed_update endorsements = record {
+  channel = codes "c";
+  id = replicate 64 0;
+  creator = identity (codes "A") Admin [];
+  nonce = [];
+  namespace = codes "k";
+  policy = codes "OR";
+  endorsements = endorsements;
+  signature = [];
+}
+
+pub counts_once_on_an_update : update_signers_of accepts_one (endorsed_update (endorsed p0 (1 ∷ []) ∷ endorsed p1 (0 ∷ []) ∷ endorsed p0 (1 ∷ []) ∷ [])) ≡ p0 ∷ []
+counts_once_on_an_update = refl
+
+-- the byte 0, channel, id, creator, nonce, namespace, policy; then the endorser B, a peer, p
+abbrev update_message_of_b : List ℕ
+update_message_of_b = (0 ∷ 1 ∷ 99 ∷ replicate 64 0) ++ (1 ∷ 65 ∷ 0 ∷ 0 ∷ 0 ∷ 1 ∷ 107 ∷ 0 ∷ 2 ∷ 79 ∷ 82 ∷ 1 ∷ 66 ∷ 2 ∷ 1 ∷ 112 ∷ [])
+
+abbrev accepts_that_update : Accepts
+accepts_that_update who message signature = bytes_eq message update_message_of_b
+
+pub signs_its_own_bytes_on_an_update : update_signers_of accepts_that_update (endorsed_update (endorsed (of_org (codes "A")) [] ∷ endorsed (of_org (codes "B")) [] ∷ [])) ≡ of_org (codes "B") ∷ []
+signs_its_own_bytes_on_an_update = refl

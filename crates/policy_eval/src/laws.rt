@@ -2,9 +2,11 @@ ghost use Rattle.std.specs.Prelude.{◌≡◌, ◌≢◌, ◌↔◌, ◌++◌, �
 ghost use Rattle.std.specs.List.{Contains};
 ghost use Rattle.transaction.specs.declared.identity.Identity.{Identity};
 ghost use Rattle.transaction.specs.declared.transaction.Tx.{Tx};
+ghost use Rattle.transaction.specs.declared.update.Update.{Update};
 ghost use Rattle.policy.specs.Tree.{Tree, Trees, gate};
 ghost use Rattle.policy_eval.specs.Accepts.{Accepts};
 ghost use Rattle.policy_eval.specs.Signers.{signers_of, HasSigned};
+ghost use Rattle.policy_eval.specs.UpdateSigners.{update_signers_of, HasSignedUpdate};
 ghost use Rattle.policy_eval.specs.Evaluation.{Answers, Satisfied};
 ghost use Rattle.policy_eval.specs.Evaluating.{evaluate};
 ghost use Rattle.policy_eval.specs.Flat.{ArePrincipals};
@@ -13,6 +15,12 @@ ghost use Rattle.policy_eval.specs.Flat.{ArePrincipals};
 pub fn each_signer_once()
     ensures signed { (accepts : Accepts) (tx : Tx) (identity : Identity) → Contains (signers_of accepts tx) identity ↔ HasSigned accepts tx identity }
     ensures distinct { (accepts : Accepts) (tx : Tx) → AllPairs (λ (a b : Identity). a ≢ b) (signers_of accepts tx) }
+{}
+
+/// The same laws of an update's signers.
+pub fn each_update_signer_once()
+    ensures signed { (accepts : Accepts) (update : Update) (identity : Identity) → Contains (update_signers_of accepts update) identity ↔ HasSignedUpdate accepts update identity }
+    ensures distinct { (accepts : Accepts) (update : Update) → AllPairs (λ (a b : Identity). a ≢ b) (update_signers_of accepts update) }
 {}
 
 /// Laws of evaluation, and no work: from one tree, one list of signers and one set of used ones there is one

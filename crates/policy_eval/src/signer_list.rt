@@ -4,7 +4,7 @@ ghost use Rattle.transaction.specs.Limits.{max_endorsements};
 use std::marker::Model;
 use transaction::Identity;
 
-/// The identities that signed a transaction, at most 64. A contract sees the list of them.
+/// The identities that signed a transaction or an update, at most 64. A contract sees the list of them.
 #[derive(Debug, Drop)]
 pub struct Signers<'a> {
     pub(crate) identities: Vec<Identity<'a>>,

@@ -1,28 +1,48 @@
-ghost use Rattle.std.specs.Prelude.{◌≡◌, ◌≤◌, ◌++◌, length, take, IfOk, OnOk};
+ghost use Rattle.std.specs.Prelude.{◌≡◌, ◌≢◌, ◌≤◌, ◌++◌, length, take, IfOk, OnOk, Ok, Err};
 ghost use Rattle.std.specs.List.{list_any};
 ghost use Rattle.transaction.specs.Same.{is_same_identity};
-ghost use Rattle.transaction.specs.Grammar.{body_bytes, identity_bytes, IsIdentity};
-ghost use Rattle.transaction.specs.Spelled.{IsSpelled};
+ghost use Rattle.transaction.specs.declared.fault.EncodeFault.TheVariants.{TooLarge};
+ghost use Rattle.transaction.specs.Grammar.{body_bytes, identity_bytes, IsIdentity, AreEndorsements};
+ghost use Rattle.transaction.specs.UpdateGrammar.{update_body_bytes};
+ghost use Rattle.transaction.specs.Spelled.{IsSpelled, IsSpelledUpdate};
 ghost use Rattle.policy_eval.specs.Signers.{signers_of};
+ghost use Rattle.policy_eval.specs.UpdateSigners.{update_signers_of};
+ghost use Rattle.policy_eval.specs.Over.{signers_over};
 
 use crate::signer_list::Signers;
 use crate::verify::Verify;
 use std::alloc::{AllocError, Global};
-use transaction::{EncodeFault, Endorsement, Identity, Tx};
+use transaction::{EncodeFault, Endorsement, Identity, Tx, Update};
+use values::Bytes;
 
 // As many as an identity has at most: a message for it is made in one growth.
 const MOST_IDENTITY_BYTES: usize = 322;
+
+/// What was encoded, where it isn't too large.
+fn bytes_of(encoded: Result<Bytes, EncodeFault>) -> Result<Vec<u8>, AllocError>
+    requires { encoded ≢ Err TooLarge }
+    ensures { IfOk result (λ bytes. encoded ≡ Ok bytes.items) }
+{
+    match encoded {
+        Ok(bytes) => Ok(bytes.into_vec()),
+        Err(EncodeFault::Memory) => Err(AllocError),
+        Err(EncodeFault::TooLarge) => unreachable!(),
+    }
+}
 
 /// The bytes of the body, with which each endorser's message begins.
 fn body(alloc: Global, tx: &Tx<'_>) -> Result<Vec<u8>, AllocError>
     requires { IsSpelled tx.now }
     ensures { IfOk result (λ bytes. bytes.items ≡ body_bytes tx.now) }
 {
-    match transaction::encode_body(alloc, tx) {
-        Ok(bytes) => Ok(bytes.into_vec()),
-        Err(EncodeFault::Memory) => Err(AllocError),
-        Err(EncodeFault::TooLarge) => unreachable!(),
-    }
+    bytes_of(transaction::encode_body(alloc, tx))
+}
+
+fn update_body(alloc: Global, update: &Update<'_>) -> Result<Vec<u8>, AllocError>
+    requires { IsSpelledUpdate update.now }
+    ensures { IfOk result (λ bytes. bytes.items ≡ update_body_bytes update.now) }
+{
+    bytes_of(transaction::encode_update_body(alloc, update))
 }
 
 /// Puts the identity's bytes in the place of all that follows the body.
@@ -69,20 +89,19 @@ fn has_signed<V: Verify>(
     ))
 }
 
-/// The signers, over a message that has the body so far.
+/// Who signed of these endorsements, over a message that has the body so far.
 fn signers_from<'a, V: Verify>(
     alloc: Global,
-    tx: &Tx<'a>,
+    endorsements: &[Endorsement<'a>],
     mut message: Vec<u8>,
     verifier: &V,
 ) -> Result<Signers<'a>, AllocError>
-    requires spelled { IsSpelled tx.now }
-    requires body { message.items ≡ body_bytes tx.now }
-    ensures { IfOk result (λ signers. signers ≡ signers_of (V.accepts verifier.now) tx.now) }
+    requires { AreEndorsements endorsements.now }
+    ensures { IfOk result (λ signers. signers ≡ signers_over (V.accepts verifier.now) message.items endorsements.now) }
 {
     let body_len = message.len();
     let mut identities = Vec::new(alloc);
-    for endorsement in tx.endorsements.as_slice() {
+    for endorsement in endorsements {
         if !contains(identities.as_slice(), &endorsement.endorser)
             && has_signed(endorsement, &mut message, body_len, verifier)?
         {
@@ -106,7 +125,12 @@ pub fn signers<'a, V: Verify>(
     requires { IsSpelled tx.now }
     ensures { IfOk result (λ signers. signers ≡ signers_of (V.accepts verifier.now) tx.now) }
 {
-    signers_from(alloc, tx, body(alloc, tx)?, verifier)
+    signers_from(
+        alloc,
+        tx.endorsements.as_slice(),
+        body(alloc, tx)?,
+        verifier,
+    )
 }
 
 /// The same for a transaction whose body's bytes are at hand: they are copied, and not encoded anew.
@@ -123,5 +147,23 @@ pub fn signers_with_body<'a, V: Verify>(
     let room = body.len().saturating_add(MOST_IDENTITY_BYTES);
     let mut message = Vec::with_capacity(alloc, room)?;
     message.extend_from_slice(body)?;
-    signers_from(alloc, tx, message, verifier)
+    signers_from(alloc, tx.endorsements.as_slice(), message, verifier)
+}
+
+/// The same for an update: its endorsers whose signature over its body and their own identity's bytes the
+/// verifier accepts, at the cost of `signers`.
+pub fn update_signers<'a, V: Verify>(
+    alloc: Global,
+    update: &Update<'a>,
+    verifier: &V,
+) -> Result<Signers<'a>, AllocError>
+    requires { IsSpelledUpdate update.now }
+    ensures { IfOk result (λ signers. signers ≡ update_signers_of (V.accepts verifier.now) update.now) }
+{
+    signers_from(
+        alloc,
+        update.endorsements.as_slice(),
+        update_body(alloc, update)?,
+        verifier,
+    )
 }

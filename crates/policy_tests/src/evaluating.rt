@@ -9,6 +9,7 @@ mod limits;
 mod memory;
 mod policies;
 mod signing;
+mod updates;
 
 // Spelled identities: organization, role, label.
 const P0: &[u8] = b"\x04Org1\x02\x02p0";
@@ -38,29 +39,50 @@ fn body(alloc: Global) -> Result<Vec<u8>, AllocError> {
     Ok(bytes)
 }
 
-// What the identity signs, or nothing where its signature is to be refused.
-fn signature(alloc: Global, identity: &[u8], is_good: bool) -> Result<Vec<u8>, AllocError> {
+// What the identity signs of this body, or nothing where its signature is to be refused.
+fn signature(
+    alloc: Global,
+    body: &[u8],
+    identity: &[u8],
+    is_good: bool,
+) -> Result<Vec<u8>, AllocError> {
     if !is_good {
         return Ok(Vec::new(alloc));
     }
-    let mut signature = body(alloc)?;
+    let mut signature = Vec::from_slice(alloc, body)?;
     signature.extend_from_slice(identity)?;
     Ok(signature)
 }
 
-// The bytes of a transaction with these endorsers, and whether the signature of each is good.
-fn endorsed(alloc: Global, endorsements: &[(&[u8], bool)]) -> Result<Vec<u8>, AllocError> {
-    let mut bytes = body(alloc)?;
+// The bytes behind their number, in two bytes.
+fn push_counted(bytes: &mut Vec<u8>, field: &[u8]) -> Result<(), AllocError> {
+    let [.., high, low] = field.len().to_be_bytes();
+    bytes.extend_from_slice(&[high, low])?;
+    bytes.extend_from_slice(field)
+}
+
+// This body with these endorsers, and whether the signature of each is good: what the creator signs.
+fn endorsed_body(
+    alloc: Global,
+    body: &[u8],
+    endorsements: &[(&[u8], bool)],
+) -> Result<Vec<u8>, AllocError> {
+    let mut bytes = Vec::from_slice(alloc, body)?;
     let [.., count] = endorsements.len().to_be_bytes();
     bytes.push(count)?;
     for (identity, is_good) in endorsements {
-        let signature = signature(alloc, identity, *is_good)?;
-        let [.., high, low] = signature.len().to_be_bytes();
+        let signature = signature(alloc, body, identity, *is_good)?;
         bytes.extend_from_slice(identity)?;
-        bytes.extend_from_slice(&[high, low])?;
-        bytes.extend_from_slice(&signature)?;
+        push_counted(&mut bytes, &signature)?;
     }
-    bytes.extend_from_slice(&[0, 0])?;
+    Ok(bytes)
+}
+
+// The bytes of a transaction with these endorsers, and whether the signature of each is good.
+fn endorsed(alloc: Global, endorsements: &[(&[u8], bool)]) -> Result<Vec<u8>, AllocError> {
+    let body = body(alloc)?;
+    let mut bytes = endorsed_body(alloc, &body, endorsements)?;
+    push_counted(&mut bytes, b"")?;
     Ok(bytes)
 }
 

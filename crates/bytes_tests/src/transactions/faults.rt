@@ -1,7 +1,7 @@
 //! What the bytes of a transaction can't be.
 
 use super::{example, fault_of};
-use crate::joined::joined;
+use crate::joined::{joined, with_field};
 use std::alloc::{AllocError, Global};
 use std::test::Fail;
 use transaction::TxFault;
@@ -48,19 +48,6 @@ fn cut_lengthened_and_spoilt(rt: HostRuntime) -> Result<(), Fail> {
         assert!(rt; fault == Some(TxFault::Form), "{byte} at {place}");
     }
     Ok(())
-}
-
-// The bytes with a field in place of those from one place to before another.
-fn with_field(
-    alloc: Global,
-    bytes: &[u8],
-    from: usize,
-    to: usize,
-    field: &[u8],
-) -> Result<Vec<u8>, AllocError> {
-    let head = bytes.get(..from).unwrap_or_default();
-    let tail = bytes.get(to..).unwrap_or_default();
-    joined(alloc, &[head, field, tail])
 }
 
 fn example_with(

@@ -8,7 +8,7 @@ const CLIENT: &[u8] = b"\x04Org1\x01\x02p0";
 
 const UNNAMED: &[u8] = b"\x04Org1\x02\0";
 
-fn signed() -> &'static [(&'static [(&'static [u8], bool)], &'static [u8])] {
+pub(super) fn signed() -> &'static [(&'static [(&'static [u8], bool)], &'static [u8])] {
     &SIGNED
 }
 

@@ -1,7 +1,5 @@
-use Rattle.std.proofs.Common.{◌∙◌, ap, Err}
 use Rattle.policy_eval.proofs.Spelled.{spelled_body}
 use Rattle.policy_eval.proofs.signing.body.Goals as goal
 
-pub unreachable-requires : goal.unreachable-requires
-unreachable-requires c =
-    c.encode_body.ensures.too_large (c.in-Err-TooLarge.is ∙ ap Err c.in-Err-TooLarge.field-0-is) _ (spelled_body c.args.tx.now c.requires)
+pub bytes_of-requires : goal.bytes_of-requires
+bytes_of-requires c = λ e. c.encode_body.ensures.too_large e _ (spelled_body c.args.tx.now c.requires)

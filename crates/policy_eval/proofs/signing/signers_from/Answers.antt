@@ -6,8 +6,8 @@ use Rattle.policy_eval.proofs.signing.signers_from.Goals.{then-not-contains+in_o
 pub loop-endorsement-preserved : goal.loop-endorsement-preserved
 loop-endorsement-preserved g c =
     let accepts = g.V.Verify.accepts c.args.verifier.now in
-    let tx = c.args.tx.now in
-    let es = c.as_slice-endorsement-items.result.now in
+    let body = c.args.message.items in
+    let es = c.args.endorsements.now in
     let i = c.loop-endorsement.endorsement-index in
     let e = c.endorsement-item.result in
     let signers = c.loop-endorsement.identities.items in
@@ -18,8 +18,8 @@ loop-endorsement-preserved g c =
           let answer = w.in_ok-has_signed.ensures in
           record {
             so_far = rw w.identities-is (
-                signed_newly accepts tx es i e w.again.result signers w.push.new.self.items c.loop-endorsement-test.true c.endorsement-item.is before.so_far (found ∙ w.if-not-contains.true)
-                (accepted_is accepts tx e _ w.in_ok-has_signed.field-0 before.front answer.value ∙ w.if-branch.true)
+                signed_newly accepts body es i e w.again.result signers w.push.new.self.items c.loop-endorsement-test.true c.endorsement-item.is before.so_far (found ∙ w.if-not-contains.true)
+                (accepted_is accepts body e _ w.in_ok-has_signed.field-0 before.front answer.value ∙ w.if-branch.true)
                 w.again.ensures w.in_ok-push.ensures.items);
             few = rw (w.identities-is, w.in_ok-push.ensures.items) (omega (arith, before.few, length-append signers (w.again.result ∷ [])));
             front = rw w.message-is (answer.kept ∙ before.front);
@@ -30,8 +30,8 @@ loop-endorsement-preserved g c =
             let answer = v.in_ok-has_signed.ensures in
             record {
               so_far = rw w.identities-is (
-                  not_signed accepts tx es i e signers c.loop-endorsement-test.true c.endorsement-item.is before.so_far
-                  (accepted_is accepts tx e _ v.in_ok-has_signed.field-0 before.front answer.value ∙ v.if-branch.false));
+                  not_signed accepts body es i e signers c.loop-endorsement-test.true c.endorsement-item.is before.so_far
+                  (accepted_is accepts body e _ v.in_ok-has_signed.field-0 before.front answer.value ∙ v.if-branch.false));
               few = rw w.identities-is (omega (arith, before.few));
               front = rw (w.message-is, v.message-is) (answer.kept ∙ before.front);
               long = rw (w.message-is, v.message-is) answer.long;
@@ -39,7 +39,7 @@ loop-endorsement-preserved g c =
         | else-not-contains-via-else-not-contains v ↦
             record {
               so_far = rw w.identities-is (
-                  signed_already accepts tx es i e signers c.loop-endorsement-test.true c.endorsement-item.is before.so_far (found ∙ v.if-not-contains.false));
+                  signed_already accepts body es i e signers c.loop-endorsement-test.true c.endorsement-item.is before.so_far (found ∙ v.if-not-contains.false));
               few = rw w.identities-is (omega (arith, before.few));
               front = rw (w.message-is, v.message-is) before.front;
               long = rw (w.message-is, v.message-is) before.long;
