@@ -1,4 +1,5 @@
 use std::alloc::{AllocError, Global};
+use transaction::TxFault;
 
 /// The parts in one vector.
 pub fn joined(alloc: Global, parts: &[&[u8]]) -> Result<Vec<u8>, AllocError> {
@@ -16,4 +17,21 @@ pub fn with_field(
     let head = bytes.get(..from).unwrap_or_default();
     let tail = bytes.get(to..).unwrap_or_default();
     joined(alloc, &[head, field, tail])
+}
+
+/// A name of so many letters, behind its length.
+pub fn name_of(alloc: Global, len: u8) -> Result<Vec<u8>, AllocError> {
+    let letters = vec![in alloc; b'a'; len as usize]?;
+    joined(alloc, &[&[len], &letters])
+}
+
+/// So many endorsements without signatures, behind their number.
+pub fn endorsements_of(alloc: Global, count: u8) -> Result<Vec<u8>, AllocError> {
+    let endorsements = b"\x01O\x02\0\0\0".repeat(alloc, count as usize)?;
+    joined(alloc, &[&[count], &endorsements])
+}
+
+/// The fault of bytes that are good, or aren't.
+pub fn fault_unless(good: bool) -> Option<TxFault> {
+    if good { None } else { Some(TxFault::Form) }
 }

@@ -1,7 +1,7 @@
 //! What the bytes of a transaction can't be.
 
 use super::{example, fault_of};
-use crate::joined::{joined, with_field};
+use crate::joined::{endorsements_of, fault_unless, joined, name_of, with_field};
 use std::alloc::{AllocError, Global};
 use std::test::Fail;
 use transaction::TxFault;
@@ -76,10 +76,6 @@ fn counted_letters(alloc: Global, len: u16) -> Result<Vec<u8>, AllocError> {
     joined(alloc, &[&len.to_be_bytes(), &letters])
 }
 
-fn fault_unless(good: bool) -> Option<TxFault> {
-    if good { None } else { Some(TxFault::Form) }
-}
-
 fn fault_with_key(
     alloc: Global,
     from: usize,
@@ -144,8 +140,7 @@ fn fault_with_name(
     to: usize,
     len: u8,
 ) -> Result<Option<TxFault>, AllocError> {
-    let letters = vec![in alloc; b'a'; len as usize]?;
-    let name = joined(alloc, &[&[len], &letters])?;
+    let name = name_of(alloc, len)?;
     fault_with(alloc, from, to, &name)
 }
 
@@ -176,8 +171,7 @@ fn counts_and_lengths_behind_which_too_little_stands(rt: HostRuntime) -> Result<
 }
 
 fn fault_with_endorsements(alloc: Global, count: u8) -> Result<Option<TxFault>, AllocError> {
-    let endorsements = b"\x01O\x02\0\0\0".repeat(alloc, count as usize)?;
-    let counted = joined(alloc, &[&[count], &endorsements])?;
+    let counted = endorsements_of(alloc, count)?;
     fault_with(alloc, 122, 166, &counted)
 }
 

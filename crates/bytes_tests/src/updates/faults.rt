@@ -1,7 +1,7 @@
 //! What the bytes of an update can't be.
 
 use super::{example, fault_of};
-use crate::joined::{joined, with_field};
+use crate::joined::{endorsements_of, fault_unless, joined, name_of, with_field};
 use std::alloc::{AllocError, Global};
 use std::test::Fail;
 use transaction::TxFault;
@@ -22,10 +22,6 @@ fn fault_with(
     let whole = example(alloc)?;
     let bytes = with_field(alloc, &whole, from, to, field)?;
     Ok(fault_of(alloc, &bytes))
-}
-
-fn fault_unless(good: bool) -> Option<TxFault> {
-    if good { None } else { Some(TxFault::Form) }
 }
 
 #[test]
@@ -77,19 +73,13 @@ fn fields_of_other_forms(rt: HostRuntime) -> Result<(), Fail> {
     Ok(())
 }
 
-// So many letters behind their number.
-fn counted_letters(alloc: Global, len: u8) -> Result<Vec<u8>, AllocError> {
-    let letters = vec![in alloc; b'a'; len as usize]?;
-    joined(alloc, &[&[len], &letters])
-}
-
 fn fault_with_name(
     alloc: Global,
     from: usize,
     to: usize,
     len: u8,
 ) -> Result<Option<TxFault>, AllocError> {
-    let name = counted_letters(alloc, len)?;
+    let name = name_of(alloc, len)?;
     fault_with(alloc, from, to, &name)
 }
 
@@ -136,8 +126,7 @@ fn the_longest_fields(rt: HostRuntime) -> Result<(), Fail> {
 }
 
 fn fault_with_endorsements(alloc: Global, count: u8) -> Result<Option<TxFault>, AllocError> {
-    let endorsements = b"\x01O\x02\0\0\0".repeat(alloc, count as usize)?;
-    let counted = joined(alloc, &[&[count], &endorsements])?;
+    let counted = endorsements_of(alloc, count)?;
     fault_with(alloc, 100, 144, &counted)
 }
 
