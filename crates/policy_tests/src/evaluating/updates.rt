@@ -1,7 +1,7 @@
 //! Who signed an update, and what its creator signs.
 
 use super::signing::signed;
-use super::{ADMIN, Echo, P0, P1, body, endorsed_body, push_counted, spellings};
+use super::{ADMIN, Echo, P0, P1, body, endorsed_body, push_counted, signature, spellings};
 use policy_eval::{Signers, Verify, signers, update_signers};
 use std::alloc::{AllocError, Global};
 use std::process::Abort;
@@ -48,16 +48,19 @@ fn signed_item(
     Ok(bytes)
 }
 
+fn expect_signers(rt: &impl Abort, alloc: Global, body: &[u8]) -> Result<(), TxFault> {
+    for (endorsements, expected) in signed() {
+        let bytes = signed_item(alloc, body, endorsements)?;
+        assert!(rt; spelled_signers(alloc, &bytes)?.as_slice() == *expected);
+    }
+    Ok(())
+}
+
 #[test]
 fn who_signed_an_item(rt: HostRuntime) -> Result<(), Fail> {
     let alloc = rt.alloc();
-    let bodies = [body(alloc)?, update_body(alloc)?];
-    for body in &bodies {
-        for (endorsements, expected) in signed() {
-            let bytes = signed_item(alloc, body, endorsements)?;
-            assert!(rt; spelled_signers(alloc, &bytes)?.as_slice() == *expected);
-        }
-    }
+    expect_signers(&rt, alloc, &body(alloc)?)?;
+    expect_signers(&rt, alloc, &update_body(alloc)?)?;
     Ok(())
 }
 
@@ -71,29 +74,31 @@ fn endorsed_by_p0(alloc: Global, signature: &[u8]) -> Result<Vec<u8>, AllocError
     Ok(bytes)
 }
 
-fn is_signer_by(alloc: Global, signature: &[u8]) -> Result<bool, TxFault> {
-    let bytes = endorsed_by_p0(alloc, signature)?;
+// Whether P0 is a signer of the update by a signature of these bytes, and of this identity's behind them.
+fn is_signer_by(alloc: Global, front: &[u8], identity: &[u8]) -> Result<bool, TxFault> {
+    let signature = signature(alloc, front, identity, true)?;
+    let bytes = endorsed_by_p0(alloc, &signature)?;
     Ok(spelled_signers(alloc, &bytes)?.as_slice() == P0)
+}
+
+// With P0's bytes behind, P1's, and none.
+fn are_signers_by(alloc: Global, front: &[u8]) -> Result<[bool; 3], TxFault> {
+    Ok([
+        is_signer_by(alloc, front, P0)?,
+        is_signer_by(alloc, front, P1)?,
+        is_signer_by(alloc, front, b"")?,
+    ])
 }
 
 #[test]
 fn an_endorser_signs_the_body_and_its_own_bytes(rt: HostRuntime) -> Result<(), Fail> {
     let alloc = rt.alloc();
     let update = update_body(alloc)?;
-    let tx = body(alloc)?;
-    let unmarked = update.get(1..).unwrap_or_default();
-    let rows: [([&[u8]; 2], bool); 6] = [
-        ([&update, P0], true),
-        ([&update, P1], false),
-        ([&update, b""], false),
-        ([unmarked, P0], false),
-        ([&tx, P0], false),
-        ([b"", P0], false),
-    ];
-    for (parts, good) in &rows {
-        let signature = parts.concat(alloc)?;
-        assert!(rt; is_signer_by(alloc, &signature)? == *good);
-    }
+    assert!(rt; are_signers_by(alloc, &update)? == [true, false, false]);
+    // Without its first byte, nothing, and a transaction's.
+    assert!(rt; are_signers_by(alloc, update.get(1..).unwrap_or_default())? == [false; 3]);
+    assert!(rt; are_signers_by(alloc, b"")? == [false; 3]);
+    assert!(rt; are_signers_by(alloc, &body(alloc)?)? == [false; 3]);
     Ok(())
 }
 
