@@ -11,7 +11,7 @@ when it was called again; `stopped`, where a committer or a publisher stopped, a
 `done`, where the call did what it does otherwise, so that it does without that memory. Anything else is a failure, and is shown.
 
 Of a subject at most so many allocations are refused as `--at-most` says, 400 where it isn't given, evenly drawn from those from the
-call on; `allocations` is how many these are, with those by which the test looks at what is left. Each of the four crates is built
+call on; `allocations` is how many these are, with those by which the test looks at what is left. Each of the five crates is built
 three times, and a build with its tests is ended after `--minutes`, 15 where it isn't given: so it takes three hours at most. What
 wasn't tried by then is a failure.
 """
@@ -30,20 +30,25 @@ TOP = pathlib.Path(__file__).resolve().parent.parent
 # Subjects: the crate of tests, the file, and the call that tells the outcome.
 SUBJECTS = {
     "ledger": ("ledger_tests", "memory.rt", "outcome(rt.alloc())"),
+    "update": ("ledger_tests", "memory.rt", "outcome_of_update(rt.alloc())"),
     "explanations": ("ledger_tests", "explained_memory.rt", "outcome(rt.alloc())"),
     "committer": ("query_tests", "committer_memory.rt", "outcome_of_submitting(&rt, rt.alloc())"),
     "run of a committer": ("query_tests", "committer_memory.rt", "outcome_of_running(&rt, rt.alloc())"),
+    "committer's update": ("query_tests", "committer_memory.rt", "outcome_of_updating(&rt, rt.alloc())"),
+    "run of updates": ("query_tests", "committer_memory.rt", "outcome_of_running_updates(&rt, rt.alloc())"),
     "opening": ("query_tests", "memory.rt", "outcome_of_opening(&rt, rt.alloc())"),
     "publishing": ("query_tests", "memory.rt", "outcome_of_publishing(&rt, rt.alloc())"),
     "queries": ("query_tests", "memory.rt", "outcome_of_asking(&rt, rt.alloc())"),
     "state": ("state_tests", "pages.rt", "outcome(rt.alloc())"),
     "world": ("state_tests", "worlds.rt", "outcome(rt.alloc())"),
     "given delta": ("state_tests", "worlds.rt", "outcome_of_giving(rt.alloc())"),
+    "drafting": ("draft_tests", "memory.rt", "outcome(rt.alloc())"),
     "draft": ("command_line_tests", "memory.rt", "outcome_of_draft(&rt)"),
     "run": ("command_line_tests", "memory.rt", "outcome_of_run(&rt)"),
     "get": ("command_line_tests", "memory.rt", "outcome_of_get(&rt)"),
     "scan": ("command_line_tests", "memory.rt", "outcome_of_scan(&rt)"),
     "history": ("command_line_tests", "memory.rt", "outcome_of_history(&rt)"),
+    "definition": ("command_line_tests", "memory.rt", "outcome_of_definition(&rt)"),
     "explain": ("command_line_tests", "memory.rt", "outcome_of_explain(&rt)"),
 }
 

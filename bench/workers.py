@@ -49,7 +49,7 @@ ghost use Rattle.std.specs.Prelude.{◌≤◌};
 
 use anyhow::bail;
 use block::{MAX_TXS, decode_block};
-use channel::Channel;
+use channel::{Channel, Configuration};
 use check_workers::{Checked, check_all};
 use gates::Open;
 use commit::Ledger;
@@ -166,7 +166,7 @@ fn time_block<R: Clock + Print + Threads + Wait + Sync>(
     rt: &R,
     alloc: Global,
     are_loops: bool,
-    channel: &Channel,
+    channel: &Configuration,
     ledger: &Ledger,
     keys: &KeyBook,
     bytes: &[u8],
@@ -175,12 +175,13 @@ fn time_block<R: Clock + Print + Threads + Wait + Sync>(
         bail!("no block");
     };
     let used = vec![in alloc; false; block.txs.len()]?;
-    let taken = take_in(alloc, channel, keys, block.txs.as_slice())?;
+    let taken = take_in(alloc, channel, keys, block.version, block.txs.as_slice())?;
     let candidates = candidates_of(alloc, taken, used.as_slice())?;
     if candidates.as_slice().len() > MAX_TXS {
         bail!("too many");
     }
-    let job = Job::build(alloc, 1, ledger.view().state(), channel.definitions(), candidates)?;
+    let before = ledger.view();
+    let job = Job::build(alloc, 1, before.state(), before.definitions(), channel.admin(), candidates)?;
     if are_loops {
         time_loops(rt, alloc, &job)
     } else {
@@ -219,7 +220,7 @@ fn main(rt: HostRuntime) -> anyhow::Result<()> {
     if ledger.submit_one(&before, &keys).is_err() {
         bail!("refused");
     }
-    let channel = channel(alloc, &channel_bytes)?;
+    let (channel, _definitions) = channel(alloc, &channel_bytes)?.into_parts();
     let mut words = env::args(&rt)?.skip(1);
     let Some(way) = words.next() else {
         bail!("no way");

@@ -28,11 +28,12 @@ PROGRAM = r"""
 #![tactic(auto)]
 
 use anyhow::bail;
+use policy::Definitions;
 use rules::{Change, CommittedBlock, Delta, FirstUse, Flag, HistoryEntry, KeptKey, KeyedRow, NewEntry, NewUse, Row};
 use std::alloc::Global;
 use std::io::Print;
 use std::time::{Clock, Instant};
-use transaction::Version;
+use transaction::{BlockVersion, Version};
 use values::{Bytes, Items, Key, Name, Part, Shared, is_key, is_name};
 use world::World;
 
@@ -141,12 +142,14 @@ fn delta_of(alloc: Global, block: u64, count: u32, keys: Keys) -> anyhow::Result
     let block = CommittedBlock {
         bytes: Shared::new(alloc, Bytes::from_vec(Vec::new(alloc)))?,
         header_hash: [0; 32],
+        version: BlockVersion::V1,
         flags: Items::new(alloc),
     };
     Ok(Delta {
         changes,
         entries,
         uses,
+        definitions: Items::new(alloc),
         block: Shared::new(alloc, block)?,
     })
 }
@@ -217,7 +220,7 @@ fn measure(rt: &(impl Print + Clock), alloc: Global, count: u32) -> anyhow::Resu
     // The later ones put other keys, so that what they replace isn't what the earlier ones put.
     let early = to_be_timed(alloc, FIRST, 0)?;
     let late = to_be_timed(alloc, LAST, 5)?;
-    let mut world = World::new(alloc);
+    let mut world = World::new(alloc, Definitions::new(alloc));
     let all = Keys {
         first: 0,
         step: 1,

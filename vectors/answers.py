@@ -1,6 +1,7 @@
 """The lines that `fabcommit` prints of a world."""
 
 from committer import is_inside, text_of
+from policies import canonical
 from words import word
 
 
@@ -56,3 +57,8 @@ def history(world, namespace, key):
 def scan(world, namespace, start, end, limit):
     rows = sorted((key, row) for (space, key), row in world.state.items() if space == namespace and is_inside(key, start, end))
     return height(world) + "".join(row_line(*row) for row in rows[:limit]) + ("more\n" if len(rows) > limit else "")
+
+
+def definition(world, name):
+    policy = world.definitions.get(name)
+    return height(world) + (f"definition {canonical(policy)}\n" if policy else "absent\n")

@@ -1,4 +1,4 @@
-"""A serial committer: one transaction after the other, over whole maps. It says why each has its flag."""
+"""A serial committer: one transaction or update after the other, over whole maps. It says why each has its flag."""
 
 from collections.abc import Callable
 from dataclasses import dataclass, field
@@ -6,16 +6,17 @@ from dataclasses import dataclass, field
 from encoding import (
     NoSpelling,
     Refused,
+    Update,
     data_hash,
     header_hash,
     read_block,
-    read_tx,
+    read_item,
     spelled_body,
     spelled_signed,
     tx_id,
     version_of_block,
 )
-from policies import canonical, is_policy, read_policy, satisfied
+from policies import canonical, is_policy, policy_fault, read_policy, satisfied
 from words import at, bounds, known_as, named, word
 
 
@@ -27,8 +28,9 @@ def is_ok(identity, message, signature):
 @dataclass
 class World:
     channel: bytes
-    definitions: dict  # chaincode to policy
+    definitions: dict  # chaincode to policy, after the blocks so far
     accepts: Callable = is_ok  # of a spelled identity, a message and a signature
+    admin: tuple | None = None  # the policy of those who may update definitions
     state: dict = field(default_factory=dict)  # (namespace, key) to (value, version, policy or None)
     history: dict = field(default_factory=dict)  # (namespace, key) to [(version, id, value or None)], oldest first
     first_uses: dict = field(default_factory=dict)  # id to (block, place, flag)
@@ -49,8 +51,9 @@ class World:
             raise Refused("WrongDataHash")
         if version_of_block(octets) < self.version():
             raise Refused("OldVersion")
-        block = BlockRun(self, number)
+        block = BlockRun(self, octets)
         verdicts = [block.take(place, tx) for place, tx in enumerate(txs)]
+        self.definitions = block.definitions
         self.blocks.append((octets, header_hash(number, previous, hash_of_data), [flag for flag, _ in verdicts]))
         self.reasons.append([reason for _, reason in verdicts])
 
@@ -111,17 +114,40 @@ def signers_of(tx, accepts):
     return signers
 
 
-class BlockRun:
-    """One block: the state before it, and the keys whose policy was written by what passed endorsement, with its place."""
+def lacking_admin(update, world):
+    """What the signers of an update don't satisfy, with them."""
+    signers = signers_of(update, world.accepts)
+    return None if satisfied(world.admin, signers) else (canonical(world.admin), [known_as(signer) for signer in signers])
 
-    def __init__(self, world, number):
-        self.world, self.number = world, number
-        self.before, self.touched = dict(world.state), {}
+
+def fault_of_update(update, is_alone, world):
+    """The first of what keeps an update with an id of its own from being valid, by kind and with what belongs to it."""
+    if not is_alone:
+        return ("not-alone",)
+    if world.admin is None:
+        return ("no-admin-policy",)
+    if update.namespace not in world.definitions:
+        return "undefined", word(update.namespace)
+    if not is_policy(update.policy):
+        return "policy", policy_fault(update.policy)
+    lacking = lacking_admin(update, world)
+    return lacking and ("admin", lacking[0], *lacking[1])
+
+
+class BlockRun:
+    """One block: the state before it, the keys whose policy was written by what passed endorsement, with its place, and the
+    definitions that hold from the next block on."""
+
+    def __init__(self, world, octets):
+        self.world, self.version_of_block = world, version_of_block(octets)
+        self.number, _, _, txs = read_block(octets)
+        self.is_alone = len(txs) == 1
+        self.before, self.touched, self.definitions = dict(world.state), {}, world.definitions
 
     def take(self, place, octets):
         """The flag, and why."""
         try:
-            tx = read_tx(octets)
+            tx = read_item(self.version_of_block, octets)
         except NoSpelling:
             return 2, "the bytes spell no transaction"
         if tx.channel != self.world.channel:
@@ -133,11 +159,18 @@ class BlockRun:
         if tx.id in self.world.first_uses:
             block, first, flag = self.world.first_uses[tx.id]
             return 9, f"the id of ({block},{first}), which has flag {flag}"
-        flag, reason = self.checked(place, tx)
+        is_update = isinstance(tx, Update)
+        flag, reason = self.checked_update(tx) if is_update else self.checked(place, tx)
         self.world.first_uses[tx.id] = (self.number, place, flag)
-        if flag == 0:
+        if flag == 0 and is_update:
+            self.definitions = self.world.definitions | {tx.namespace: read_policy(tx.policy)}
+        elif flag == 0:
             self.apply(place, tx)
         return flag, reason
+
+    def checked_update(self, update):
+        fault = fault_of_update(update, self.is_alone, self.world)
+        return (6, " ".join(fault)) if fault else (0, "all holds")
 
     def checked(self, place, tx):
         fault = fault_of_form(tx)

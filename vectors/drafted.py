@@ -1,4 +1,4 @@
-"""Two draft scripts, the first of them that of docs/format.md, with their blocks and what is answered of these."""
+"""Three draft scripts, the first of them that of docs/format.md, with their blocks and what is answered of these."""
 
 from functools import partial
 
@@ -8,7 +8,8 @@ from rust import rust_file, rust_string
 from sample import channel_of
 from scripts import accepts, drafted, keys_of
 
-CHANNEL = b"channel ch\nchaincode cc OR('Org1.peer','Org2.peer')\n"
+CHANNEL = b"channel ch\nchaincode cc OR('Org1.peer','Org2.peer')\nadmin 'Org1.admin'\n"
+NAMES = ("first", "second", "third")
 SCRIPTS = [
     b"""\
 tx Org1:client:c0 n0 cc
@@ -30,15 +31,20 @@ delete a%20%25
 nopolicy b
 endorse Org2:peer:p0
 """,
+    b"""\
+update Org1:client:c0 n3 cc AND('Org1.peer', 'Org1.admin')
+endorse Org1:admin:a0
+""",
 ]
+VERSIONS = (1, 1, 2)
 
 
 def worlds(keys):
     """The world behind each block, with the block."""
-    name, definitions = channel_of(CHANNEL)
-    world, before = World(name, definitions, partial(accepts, keys)), None
-    for script in SCRIPTS:
-        before = drafted(name, keys, before, script)
+    name, definitions, admin = channel_of(CHANNEL)
+    world, before = World(name, definitions, partial(accepts, keys), admin), None
+    for script, version in zip(SCRIPTS, VERSIONS):
+        before = drafted(name, keys, before, script, version)
         world.submit(before)
         assert set(world.blocks[-1][2]) == {0}
         yield world, before
@@ -70,7 +76,7 @@ def of_both_versions(world):
 
 def rows(keys):
     """Words behind `--channel` and `--keys`, the status, and what goes to standard output."""
-    name, definitions = channel_of(CHANNEL)
+    name, definitions, _ = channel_of(CHANNEL)
     blank = World(name, definitions)
     states = worlds(keys)
     world, _ = next(states)
@@ -87,6 +93,10 @@ def rows(keys):
     yield "history --ns cc --key k1 b0", 0, answers.history(world, b"cc", b"k1")
     yield "history --ns cc --key k2 b0", 0, answers.history(world, b"cc", b"k2")
     yield "history --ns cc --key k1 b0 k", 1, answers.history(world, b"cc", b"k1")
+    for name in (b"cc", b"dd"):
+        yield f"definition --ns {name.decode()}", 0, answers.definition(blank, name)
+        yield f"definition --ns {name.decode()} b0", 0, answers.definition(world, name)
+    yield "definition --ns cc b0 k", 1, answers.definition(world, b"cc")
     world, _ = next(states)
     yield "run b0 b1", 0, answers.accepted(world, 0) + answers.accepted(world, 1)
     yield from runs(world)
@@ -97,16 +107,20 @@ def rows(keys):
         words = f"scan --ns cc --start {start} --end {end} --limit {limit} b0 b1"
         bounds = [bound.replace("%00", "\0").strip("%").encode() for bound in (start, end)]
         yield words, 0, answers.scan(world, b"cc", *bounds, limit)
+    yield "definition --ns cc b0 b1", 0, answers.definition(world, b"cc")
+    world, _ = next(states)
+    yield "run b0 b1 b2", 0, "".join(answers.accepted(world, number) for number in range(3))
+    yield "definition --ns cc b0 b1 b2", 0, answers.definition(world, b"cc")
 
 
 def rust_drafted(keys_text):
     keys = keys_of(keys_text)
-    yield "//! Two scripts, their blocks, and what is answered of these, made by vectors/drafted.py.\n"
+    yield "//! Three scripts, their blocks, and what is answered of these, made by vectors/drafted.py.\n"
     yield "use crate::fixture::Row;\n"
-    for name, octets in zip(("first", "second"), SCRIPTS):
+    for name, octets in zip(NAMES, SCRIPTS):
         yield f"pub(crate) fn {name}_script() -> &'static [u8] {{\n    {name.upper()}_SCRIPT\n}}\n"
         yield f"static {name.upper()}_SCRIPT: &[u8] =\n    {rust_string(octets)};\n"
-    for name, (_, octets) in zip(("first", "second"), worlds(keys)):
+    for name, (_, octets) in zip(NAMES, worlds(keys)):
         yield f"pub(crate) fn {name}_block() -> &'static [u8] {{\n    {name.upper()}_BLOCK\n}}\n"
         yield f"static {name.upper()}_BLOCK: &[u8] =\n    {rust_string(octets)};\n"
     table = list(rows(keys))

@@ -38,6 +38,20 @@ class Tx:
     signature: bytes = b"ok"
 
 
+@dataclass
+class Update:
+    """Of a chaincode's definition."""
+
+    channel: bytes
+    id: bytes
+    creator: bytes  # spelled
+    nonce: bytes
+    namespace: bytes
+    policy: bytes  # its text
+    endorsements: list  # (spelled identity, signature)
+    signature: bytes = b"ok"
+
+
 def u8(n):
     return n.to_bytes(1, "big")
 
@@ -97,8 +111,11 @@ def spelled_namespace(n):
 
 
 def spelled_body(tx):
-    body = short(tx.channel) + tx.id + tx.creator + short(tx.nonce) + short(tx.chaincode)
-    return body + listed(spelled_namespace, tx.namespaces)
+    """Of a transaction or an update, as the two functions behind it."""
+    opening = short(tx.channel) + tx.id + tx.creator + short(tx.nonce)
+    if isinstance(tx, Update):
+        return b"\0" + opening + short(tx.namespace) + long(tx.policy)
+    return opening + short(tx.chaincode) + listed(spelled_namespace, tx.namespaces)
 
 
 def spelled_signed(tx):
@@ -187,6 +204,9 @@ class Reader:
         self.test(role < 4)
         return short(org) + u8(role) + short(self.take(self.number(1)))
 
+    def opening(self):
+        return self.name(), self.take(64), self.identity(), self.take(self.number(1))
+
     def namespace(self):
         def read_range():
             start, end, exhausted = self.bound(), self.bound(), self.bit()
@@ -206,21 +226,37 @@ class Reader:
         return [(self.identity(), self.take(self.number(2))) for _ in range(count)]
 
 
-def read_tx(octets):
+def read_whole(octets, read):
+    """What a function reads, where nothing follows."""
     reader = Reader(octets, NoSpelling())
     reader.test(len(octets) <= LONGEST)
-    tx = Tx(
-        reader.name(),
-        reader.take(64),
-        reader.identity(),
-        reader.take(reader.number(1)),
+    item = read(reader)
+    reader.test(not reader.octets)
+    return item
+
+
+def read_tx(octets):
+    return read_whole(octets, lambda reader: Tx(
+        *reader.opening(),
         reader.name(),
         reader.listed(reader.namespace),
         reader.endorsements(),
         reader.take(reader.number(2)),
-    )
-    reader.test(not reader.octets)
-    return tx
+    ))
+
+
+def read_update(octets):
+    def fields(reader):
+        reader.test(reader.take(1) == b"\0")
+        opening, name, text = reader.opening(), reader.name(), reader.take(reader.number(2))
+        return Update(*opening, name, text, reader.endorsements(), reader.take(reader.number(2)))
+
+    return read_whole(octets, fields)
+
+
+def read_item(version, octets):
+    """A transaction, or in a block of version 2 an update, which begins with the byte 0."""
+    return read_update(octets) if version == 2 and octets[:1] == b"\0" else read_tx(octets)
 
 
 def version_of_block(octets):
@@ -232,7 +268,7 @@ def version_of_block(octets):
 
 
 def read_block(octets):
-    """Number, previous hash, data hash and transactions, which are spelled alike in both versions."""
+    """Number, previous hash, data hash, and the bytes of transactions and updates."""
     version_of_block(octets)
     reader = Reader(octets[4:], Refused("Truncated"))
     number, length = reader.number(8), reader.number(1)

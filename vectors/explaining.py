@@ -4,8 +4,8 @@ docs/behaviour.md, and not from the crates.
 
 from copy import deepcopy
 
-from committer import BlockRun, is_inside, signers_of, undefined
-from encoding import NoSpelling, header_hash, read_block, read_tx, tx_id
+from committer import BlockRun, fault_of_update, is_inside, signers_of, undefined
+from encoding import NoSpelling, header_hash, read_block, read_item, tx_id
 from policies import canonical, policy_fault, satisfied
 from words import known_as, word
 
@@ -13,6 +13,7 @@ NAMES = {
     0: "VALID",
     2: "BAD_PAYLOAD",
     4: "BAD_CREATOR_SIGNATURE",
+    6: "INVALID_CONFIG_TRANSACTION",
     8: "BAD_PROPOSAL_TXID",
     9: "DUPLICATE_TXID",
     10: "ENDORSEMENT_POLICY_FAILURE",
@@ -71,8 +72,8 @@ def set_words(ns):
 class Explaining(BlockRun):
     """A block, with the last valid transaction that wrote or deleted each key's row."""
 
-    def __init__(self, world, number):
-        super().__init__(world, number)
+    def __init__(self, world, octets):
+        super().__init__(world, octets)
         self.writers = {}
 
     def apply(self, place, tx):
@@ -88,13 +89,15 @@ class Explaining(BlockRun):
         used = dict(self.world.first_uses)
         flag, _ = self.take(place, octets)
         try:
-            tx = read_tx(octets)
+            tx = read_item(self.version_of_block, octets)
         except NoSpelling:
             tx = None
         return [str(flag), NAMES[flag], *self.reason(flag, tx, used)]
 
     def reason(self, flag, tx, used):
         match flag:
+            case 6:
+                return [*fault_of_update(tx, self.is_alone, self.world)]
             case 8:
                 return ["wanted", tx_id(tx.nonce, tx.creator).decode()]
             case 9:
@@ -149,7 +152,7 @@ class Explaining(BlockRun):
 def explained(world, octets):
     """The lines of the next block, which the world is not handed."""
     number, previous, hash_of_data, txs = read_block(octets)
-    block = Explaining(deepcopy(world), number)
+    block = Explaining(deepcopy(world), octets)
     yield f"block {number} {header_hash(number, previous, hash_of_data).hex()}"
     for place, tx in enumerate(txs):
         yield " ".join([str(place), *block.words(place, tx)])

@@ -12,18 +12,29 @@ from policies import read_policy
 from scripts import accepts, drafted, keys_of, lines_of
 from signing import Keys
 
-FLAGS = [[0, 0, 10, 9, 2], [0, 11, 12, 0, 0], [10, 0, 0, 0], [0, 2, 4, 8, 9, 10, 11, 12, 14, 22, 25]]
+FLAGS = [
+    [0, 0, 10, 9, 2],
+    [0, 11, 12, 0, 0],
+    [10, 0, 0, 0],
+    [10],
+    [0],
+    [0],
+    [0, 2, 4, 6, 8, 9, 10, 11, 12, 14, 22, 25],
+]
+
+# The other blocks are of version 1.
+OF_VERSION_2 = ("block4", "block5", "every_flag")
 
 # The block behind the others. Of what no other line of a script can say the bytes are made here.
 EVERY_FLAG = """\
-# A transaction for each flag, in the order of their numbers, behind block2.blk. A long raw line has the bytes of one of
-# Org1:client:c0 that writes car5, endorsed by Org1:peer:p0. This file is made by vectors/sample.py.
+# A transaction for each flag, in the order of their numbers, and an update, behind block5.blk, in version 2. A long raw line
+# has the bytes of one of Org1:client:c0 that writes car6, endorsed by Org1:peer:p0. This file is made by vectors/sample.py.
 
 # A new car: 0.
-tx Org1:client:c0 n14 cc
+tx Org1:client:c0 n17 cc
 ns cc
-read car4 absent
-write car4 white
+read car5 absent
+write car5 white
 endorse Org1:peer:p0
 
 # Bytes that are no transaction: 2.
@@ -32,50 +43,55 @@ raw 6e6f
 # Signed by Org1:admin:a0 in the place of its creator: 4.
 raw {signature}
 
-# Nonce n16, with the id that belongs to nonce n17: 8.
+# An update stands alone in its block: 6.
+update Org1:admin:a0 n19 cc 'Org2.peer'
+endorse Org1:admin:a0
+
+# Nonce n20, with the id that belongs to nonce n21: 8.
 raw {id}
 
 # The nonce of the first transaction of all: 9.
 tx Org1:client:c0 n1 cc
 ns cc
-write car5 grey
+write car6 grey
 endorse Org1:peer:p0
 
 # One organization isn't enough for car2: 10.
-tx Org1:client:c0 n18 cc
+tx Org1:client:c0 n22 cc
 ns cc
 write car2 black
 endorse Org1:peer:p0
 
-# car4 is there by now: 11.
-tx Org1:client:c0 n19 cc
+# car5 is there by now: 11.
+tx Org1:client:c0 n23 cc
 ns cc
-read car4 absent
-write car4 black
+read car5 absent
+write car5 black
 endorse Org1:peer:p0
 
 # It is in this range too: 12.
-tx Org1:client:c0 n20 cc
+tx Org1:client:c0 n24 cc
 ns cc
 range car1 car9 all
 result car2 2 1
 result car3 2 3
-write count 2
+result car4 5 0
+write count 3
 endorse Org1:peer:p0
 
 # For the channel other: 14.
 raw {channel}
 
 # One key, read twice: 22.
-tx Org1:client:c0 n22 cc
+tx Org1:client:c0 n26 cc
 ns cc
 read car2 2 1
 read car2 2 1
-write car5 grey
+write car6 grey
 endorse Org1:peer:p0
 
 # No chaincode is called parts: 25.
-tx Org1:client:c0 n23 cc
+tx Org1:client:c0 n27 cc
 ns parts
 write wheel 4
 endorse Org1:peer:p0
@@ -84,38 +100,41 @@ CLIENT, PEER, ADMIN = "Org1:client:c0", "Org1:peer:p0", "Org1:admin:a0"
 
 # Worked out by hand, but for the hash and the id.
 LINES = """\
-block 3 {hash}
+block 6 {hash}
 0 0 VALID
 1 2 BAD_PAYLOAD
 2 4 BAD_CREATOR_SIGNATURE
-3 8 BAD_PROPOSAL_TXID wanted {id}
-4 9 DUPLICATE_TXID used 0 0
-5 10 ENDORSEMENT_POLICY_FAILURE key cc car2 AND('Org1.peer','Org2.peer') Org1:peer:p0
-6 11 MVCC_READ_CONFLICT read cc car4 was absent is 3 0 by 0
-7 12 PHANTOM_READ_CONFLICT range cc car1 car9 key car4 was absent is 3 0
-8 14 TARGET_CHAIN_NOT_FOUND channel other
-9 22 BAD_RWSET repeated cc reads car2
-10 25 INVALID_CHAINCODE undefined parts
+3 6 INVALID_CONFIG_TRANSACTION not-alone
+4 8 BAD_PROPOSAL_TXID wanted {id}
+5 9 DUPLICATE_TXID used 0 0
+6 10 ENDORSEMENT_POLICY_FAILURE key cc car2 AND('Org1.peer','Org2.peer') Org1:peer:p0
+7 11 MVCC_READ_CONFLICT read cc car5 was absent is 6 0 by 0
+8 12 PHANTOM_READ_CONFLICT range cc car1 car9 key car5 was absent is 6 0
+9 14 TARGET_CHAIN_NOT_FOUND channel other
+10 22 BAD_RWSET repeated cc reads car2
+11 25 INVALID_CHAINCODE undefined parts
 """
 
 
 def channel_of(text):
-    """The name of a channel text without faults, and its policies."""
-    name, definitions = None, {}
+    """The name of a channel text without faults, its chaincodes' policies, and the admin policy, if it has one."""
+    name, definitions, admin = None, {}, None
     for _, line in lines_of(text):
         word, rest = line.split(" ", 1)
         if word == "channel":
             name = rest.strip().encode()
+        elif word == "admin":
+            admin = read_policy(rest.strip().encode())
         else:
             chaincode, policy = rest.strip().split(" ", 1)
             definitions[chaincode.encode()] = read_policy(policy.strip().encode())
-    return name, definitions
+    return name, definitions, admin
 
 
 def raw(keys, nonce, channel=b"ch", id_of=None, signer=CLIENT):
     """The bytes of a transaction, in hexadecimal digits."""
     creator = identity(CLIENT)
-    sets = [Namespace(b"cc", writes=[(b"car5", b"grey")])]
+    sets = [Namespace(b"cc", writes=[(b"car6", b"grey")])]
     tx = Tx(channel, tx_id(id_of or nonce, creator), creator, nonce, b"cc", sets, [])
     keys.endorse(tx, [PEER])
     keys.sign_whole(tx, signer)
@@ -125,23 +144,23 @@ def raw(keys, nonce, channel=b"ch", id_of=None, signer=CLIENT):
 def raws(keys):
     """One whose signature is bad, one with another id, and one for another channel."""
     return {
-        "signature": raw(keys, b"n15", signer=ADMIN),
-        "id": raw(keys, b"n16", id_of=b"n17"),
-        "channel": raw(keys, b"n21", channel=b"other"),
+        "signature": raw(keys, b"n18", signer=ADMIN),
+        "id": raw(keys, b"n20", id_of=b"n21"),
+        "channel": raw(keys, b"n25", channel=b"other"),
     }
 
 
 def blocks(folder):
     """The sample's blocks in order, by name, with the world that each is handed to."""
-    name, definitions = channel_of((folder / "channel.txt").read_bytes())
+    name, definitions, admin = channel_of((folder / "channel.txt").read_bytes())
     keys_text = (folder / "keys.txt").read_text()
     keys = keys_of(keys_text.encode())
-    world = World(name, definitions, partial(accepts, keys))
-    scripts = {f"block{number}": (folder / f"block{number}.txt").read_bytes() for number in range(3)}
+    world = World(name, definitions, partial(accepts, keys), admin)
+    scripts = {f"block{number}": (folder / f"block{number}.txt").read_bytes() for number in range(6)}
     scripts["every_flag"] = EVERY_FLAG.format(**raws(Keys(keys_text))).encode()
     before = None
     for title, script in scripts.items():
-        before = drafted(name, keys, before, script)
+        before = drafted(name, keys, before, script, 2 if title in OF_VERSION_2 else 1)
         yield title, script, before, world
         world.submit(before)
 
@@ -149,7 +168,7 @@ def blocks(folder):
 def explanation(block, world):
     """The lines of the last block, worked out by hand and read here alike."""
     lines = "".join(line + "\n" for line in explained(world, block))
-    wanted = LINES.format(hash=lines.split()[2], id=tx_id(b"n16", identity(CLIENT)).decode())
+    wanted = LINES.format(hash=lines.split()[2], id=tx_id(b"n20", identity(CLIENT)).decode())
     assert lines == wanted, lines
     return lines
 

@@ -16,16 +16,18 @@ Org.3:orderer:% 55
 A_-9:peer:x:y 66
 """
 
-def drafted(text, after):
-    """The block of a script behind the header of this number, which has fixed hashes; or the first faulty line."""
+def drafted(text, after, version):
+    """The block of this version of a script, behind the header of this number, which has fixed hashes; or the first faulty
+    line.
+    """
     try:
-        txs = txs_of(b"ch", keys_of(KEYS.encode()), text.encode())
+        txs = txs_of(b"ch", keys_of(KEYS.encode()), text.encode(), version)
     except Faulty as fault:
         return fault.args[0]
     if after is None:
-        return spelled_block(0, b"", data_hash(txs), txs)
+        return spelled_block(0, b"", data_hash(txs), txs, version)
     previous = header_hash(after, b"\7" * 32 if after else b"", b"\x09" * 32)
-    return spelled_block(after + 1, previous, data_hash(txs), txs)
+    return spelled_block(after + 1, previous, data_hash(txs), txs, version)
 
 
 SIGNERS = ["Org1:client:c0", "Org1:peer:p0", "Org2:peer:q0", "Org1:admin:a%20b", "Org.3:orderer:%", "A_-9:peer:x:y"]
@@ -59,10 +61,10 @@ def lines_at_random(draw):
         yield f"endorse {draw.choice(SIGNERS)}"
 
 
-def script_at_random(draw, is_bad):
-    lines = [line for _ in range(draw.randrange(1, 4)) for line in lines_at_random(draw)]
+def script_at_random(draw, is_bad, parts=lines_at_random, bad=BAD):
+    lines = [line for _ in range(draw.randrange(1, 4)) for line in parts(draw)]
     if is_bad:
-        lines.insert(draw.randrange(len(lines) + 1), draw.choice(BAD))
+        lines.insert(draw.randrange(len(lines) + 1), draw.choice(bad))
     for _ in range(draw.randrange(3)):
         lines.insert(draw.randrange(len(lines) + 1), draw.choice(["", "   ", "# read", "  #", "\r"]))
     spaced = [draw.choice(["", "", " "]) + draw.choice([line, line.replace(" ", "  ", 2)]) for line in lines]
@@ -89,8 +91,39 @@ def cases():
         yield script_at_random(draw, place % 3 == 2), draw.choice([None, 4])
 
 
-def rust_case(text, after):
-    made = drafted(text, after)
+BAD_UPDATES = [*BAD, "update Org1:client:c0 n cc", "update Org1:client:c0 n c/c x", "update Org9:peer:p0 n cc x",
+               "update Org1:client:c0 %4 cc x", "Update Org1:client:c0 n cc x"]
+
+
+def lines_with_updates(draw):
+    """An update with endorsers, in half of the places."""
+    if draw.random() < 0.5:
+        yield from lines_at_random(draw)
+        return
+    yield f"update {draw.choice(SIGNERS)} {draw.choice(WORDS + ['%'])} {draw.choice(NAMES)} {draw.choice(POLICIES)}"
+    for _ in range(draw.randrange(4)):
+        yield f"endorse {draw.choice(SIGNERS)}"
+
+
+UPDATE = "update Org1:admin:a%20b n2 cc OR('Org2.peer')\nendorse Org1:admin:a%20b\n"
+
+
+def update_cases():
+    """Scripts of blocks of version 2."""
+    yield UPDATE, None
+    yield UPDATE, 4
+    yield "", 4
+    yield WORKED, 4
+    yield UPDATE.partition("\n")[0], 4
+    yield "update Org1:client:c0 % E-_9   AND( 'Org1.peer' ,\n", None
+    yield WORKED + UPDATE + "raw 00\n" + UPDATE + WORKED, 4
+    draw = random.Random(20261126)
+    for place in range(18):
+        yield script_at_random(draw, place % 3 == 2, lines_with_updates, BAD_UPDATES), draw.choice([None, 4])
+
+
+def rust_case(text, after, version):
+    made = drafted(text, after, version)
     line, block = (f"Some({made})", b"") if isinstance(made, int) else ("None", made)
     yield "    DraftCase {"
     yield f"        script: {rust_text(text)},"
@@ -105,8 +138,15 @@ def rust_drafts():
     yield "use super::DraftCase;\n"
     yield "pub fn keys() -> &'static str {\n    KEYS\n}\n"
     yield f"static KEYS: &str =\n    {rust_text(KEYS)};\n"
-    yield from rust_table("drafts", "DraftCase", ["\n".join(rust_case(*case)) for case in cases()])
+    yield from rust_table("drafts", "DraftCase", ["\n".join(rust_case(*case, 1)) for case in cases()])
+
+
+def rust_updates():
+    yield "//! Scripts of blocks of version 2, with these or their first faulty lines, made by vectors/make.py.\n"
+    yield "use super::DraftCase;\n"
+    yield from rust_table("updates", "DraftCase", ["\n".join(rust_case(*case, 2)) for case in update_cases()])
 
 
 def files():
     yield "vectors.rt", rust_file(rust_drafts())
+    yield "updates.rt", rust_file(rust_updates())

@@ -10,6 +10,7 @@ from encoding import (
     ROLES,
     Namespace,
     Tx,
+    Update,
     data_hash,
     header_hash,
     read_block,
@@ -77,6 +78,13 @@ def key_bytes(word):
     return bound_bytes(word)
 
 
+def text_bytes(text):
+    """A policy's text."""
+    octets = text.encode()
+    test(1 <= len(octets) <= MOST_LISTED)
+    return octets
+
+
 def identity_bytes(text):
     parts = text.split(":", 2)
     test(len(parts) == 3 and parts[1] in ROLES)
@@ -105,10 +113,11 @@ def accepts(keys, identity, message, signature):
 
 
 class Drafting:
-    """The transactions so far, and the one that is open with the line where it began."""
+    """The transactions and updates so far, and the one that is open with the line where it began."""
 
-    def __init__(self, channel, keys):
+    def __init__(self, channel, keys, version):
         self.channel, self.keys, self.txs, self.open = channel, keys, [], None
+        self.openings = ("tx", "raw", "update") if version == 2 else ("tx", "raw")
 
     def end(self):
         if self.open:
@@ -123,7 +132,7 @@ class Drafting:
         return hmac.digest(self.keys[who], message, sha256)
 
     def signed(self, tx, endorsers):
-        """The whole transaction, unless it or a part of it is too long."""
+        """The whole transaction or update, unless it or a part of it is too long."""
         body = spelled_body(tx)
         tx.endorsements = [(who, self.sign(who, body + who)) for who in endorsers]
         signed = spelled_signed(tx)
@@ -139,20 +148,31 @@ class Drafting:
 
     def say(self, number, line):
         first, rest = apart(line)
-        if first in ("tx", "raw"):
+        if first in self.openings:
             self.end()
-        test(hasattr(self, "say_" + first))
+        test(hasattr(self, "say_" + first) and (first != "update" or first in self.openings))
         try:
             getattr(self, "say_" + first)(number, rest)
-        except (TypeError, IndexError):
+        except (AttributeError, TypeError, IndexError):
             raise ValueError("nothing is open for it")
+
+    def begin(self, number, who, nonce, name, make):
+        """A transaction or an update, which is made of what both begin with and the chaincode's name."""
+        creator, nonce = identity_bytes(who), word_bytes(nonce)
+        test(creator in self.keys and len(nonce) <= 255 and len(self.txs) < MOST_TXS)
+        self.open = number, make(self.channel, tx_id(nonce, creator), creator, nonce, name_bytes(name)), []
 
     def say_tx(self, number, rest):
         who, rest = apart(rest)
         nonce, name = apart(rest)
-        creator, nonce = identity_bytes(who), word_bytes(nonce)
-        test(creator in self.keys and len(nonce) <= 255 and len(self.txs) < MOST_TXS)
-        self.open = number, Tx(self.channel, tx_id(nonce, creator), creator, nonce, name_bytes(name), [], []), []
+        self.begin(number, who, nonce, name, lambda *opening: Tx(*opening, [], []))
+
+    def say_update(self, number, rest):
+        who, rest = apart(rest)
+        nonce, rest = apart(rest)
+        name, text = apart(rest)
+        policy = text_bytes(text)
+        self.begin(number, who, nonce, name, lambda *opening: Update(*opening, policy, []))
 
     def say_raw(self, _, rest):
         test(re.fullmatch("(?:[0-9A-Fa-f]{2})*", rest) and len(rest) <= 2 * LONGEST and len(self.txs) < MOST_TXS)
@@ -189,15 +209,14 @@ class Drafting:
 
     def say_policy(self, _, rest):
         key, text = apart(rest)
-        test(1 <= len(text.encode()) <= MOST_LISTED)
-        self.add("policies", (key_bytes(key), text.encode()))
+        self.add("policies", (key_bytes(key), text_bytes(text)))
 
     def say_nopolicy(self, _, rest):
         self.add("policies", (key_bytes(rest), None))
 
 
-def txs_of(channel, keys, script):
-    drafting = Drafting(channel, keys)
+def txs_of(channel, keys, script, version=1):
+    drafting = Drafting(channel, keys, version)
     for number, line in lines_of(script):
         try:
             drafting.say(number, line)
@@ -213,5 +232,5 @@ def drafted(channel, keys, before, script, version=1):
     if before is not None:
         number_before, *hashes, _ = read_block(before)
         number, previous = number_before + 1, header_hash(number_before, *hashes)
-    txs = txs_of(channel, keys, script)
+    txs = txs_of(channel, keys, script, version)
     return spelled_block(number, previous, data_hash(txs), txs, version)

@@ -4,10 +4,12 @@
 `python3 vectors/scripts_at_random.py [PROGRAM [COUNT [SEED]]]` makes at least COUNT scripts (1000) from SEED (1), in
 chains of up to five blocks. Each is drafted by PROGRAM (`./fabcommit`): a good one has to give the block that
 `scripts.py` gives, a faulty one the line that it names, with OUT left as it was. Each block is explained, in the lines of
-`explaining.py`, and each chain then handed to `run`, `get`, `history` and `scan`, whose lines have to be those of
-`committer.py`. Blocks are of both versions; for every chain there are lists too in which old, cut and otherwise spoiled
+`explaining.py`, and each chain then handed to `run`, `get`, `history`, `scan` and `definition`, whose lines have to be those of
+`committer.py`. Blocks are of both versions, those of version 2 with updates that are valid, or aren't for each of the causes;
+half of the channels have an admin policy. For every chain there are lists too in which old, cut and otherwise spoiled
 blocks stand between the good ones, and these are run by 1, 2 and 5 workers and asked by `get`. It ends with figures: how many
-scripts, calls, flags, refusals, and faults of each kind there were, and fails where a kind is missing or anything differs.
+scripts, calls, flags, refusals, outcomes of updates, and faults of each kind there were. It goes on until each of them came, and
+fails where anything differs.
 """
 
 import pathlib
@@ -36,6 +38,7 @@ CHANNEL = {
     "any": "OR('Org1.member','Org2.member')",
     "two.of-3_": "OutOf(2,'Org1.peer','Org2.peer','Org1.admin')",
 }
+ADMIN = "OR('Org1.admin',AND('Org1.peer','Org2.admin'))"
 SIGNERS = [f"{org}:{role}:{label}" for org in ORGS for role, label in (("peer", "p0"), ("peer", "p%251"), ("client", "c"), ("admin", "%"))]
 STRANGER = "Org3:peer:p0"
 # Words and the same bytes spelled otherwise; the last is the longest key.
@@ -69,6 +72,8 @@ def range_lines(pick, world, name):
         rows = rows[: pick.randrange(3)]
     if pick.random() < 0.2:
         pick.shuffle(rows)
+    if rows and pick.random() < 0.4:
+        rows.pop(pick.randrange(len(rows)))
     for key, version in rows:
         yield "result {} {} {}".format(word(key), *version)
 
@@ -90,9 +95,14 @@ def entry_lines(pick, world, name):
         yield f"nopolicy {key}"
 
 
+def next_nonce(pick, nonces):
+    """One of its own, or at times one that came before."""
+    nonces.append(pick.choice(nonces) if nonces and pick.random() < 0.08 else f"n{len(nonces)}%00")
+    return nonces[-1]
+
+
 def tx_lines(pick, world, nonces):
-    nonce = pick.choice(nonces) if nonces and pick.random() < 0.08 else f"n{len(nonces)}%00"
-    nonces.append(nonce)
+    nonce = next_nonce(pick, nonces)
     named = pick.choice(["cc"] * 5 + [*CHANNEL, "undefined"])
     yield f"tx {pick.choice(SIGNERS)} {nonce} {named}"
     spaces = pick.sample([*CHANNEL, "undefined"], pick.choice([0, 1, 1, 2])) if pick.random() < 0.5 else [named]
@@ -106,6 +116,26 @@ def tx_lines(pick, world, nonces):
         yield f"endorse {signer}"
 
 
+def update_lines(pick, nonces):
+    name = pick.choice([*CHANNEL] * 3 + ["undefined"])
+    yield f"update {pick.choice(SIGNERS)} {next_nonce(pick, nonces)} {name}  {pick.choice(POLICIES)}"
+    admins = [signer for signer in SIGNERS if signer.startswith("Org1:admin")]
+    for signer in admins if pick.random() < 0.6 else pick.sample(SIGNERS, pick.randrange(4)):
+        yield f"endorse {signer}"
+
+
+def second_lines(pick, world, nonces):
+    """Those of a block of version 2: an update alone, or among others, or none."""
+    roll = pick.random()
+    if roll < 0.4:
+        yield from update_lines(pick, nonces)
+        return
+    if roll < 0.5:
+        yield from update_lines(pick, nonces)
+        yield from pick.choice([[], ["raw 00"], update_lines(pick, nonces)])
+    yield from good_lines(pick, world, nonces)
+
+
 def good_lines(pick, world, nonces):
     for _ in range(pick.randrange(7)):
         if pick.random() < 0.06:
@@ -115,7 +145,7 @@ def good_lines(pick, world, nonces):
             yield pick.choice(["", "# a comment", "   # an indented one", "    "])
 
 
-OPEN, SPACE = "tx Org1:peer:p0 n cc", "ns cc"
+OPEN, SPACE, UPDATE = "tx Org1:peer:p0 n cc", "ns cc", "update Org1:peer:p0 n cc x"
 # What is wrong, the lines before it where nothing else is open for it, and the faulty line.
 FAULTS = {
     "no such word": ([], "walk on"),
@@ -133,6 +163,14 @@ FAULTS = {
     "raw of an odd number": ([], "raw abc"),
     "raw that isn't hexadecimal": ([], "raw xy"),
     "raw too long": ([], "raw " + "00" * (LONGEST + 1)),
+    "update without text": ([], "update Org1:peer:p0 n cc"),
+    "update with a bad name": ([], "update Org1:peer:p0 n c/c x"),
+    "update of a stranger": ([], f"update {STRANGER} n cc x"),
+    "update with a text too long": ([], f"update Org1:peer:p0 n cc {'p' * 65536}"),
+    "ns behind update": ([UPDATE], "ns cc"),
+    "write behind update": ([OPEN, SPACE, UPDATE], "write k v"),
+    "endorse of an update by a stranger": ([UPDATE], f"endorse {STRANGER}"),
+    "update in version 1": ([OPEN], "update Org1:peer:p0 n cc x"),
     "ns before tx": (None, "ns cc"),
     "ns behind raw": (["raw"], "ns cc"),
     "ns without name": ([OPEN], "ns"),
@@ -171,6 +209,10 @@ FAULTS = {
     "carriage return at the end": ([OPEN], "ns cc\r"),
     "not UTF-8": ([], b"# \xff"),
 }
+# Those of scripts of version 2; the others are of version 1.
+SECOND = {kind for kind in FAULTS if "update" in kind} - {"update in version 1"}
+FLAGS = {0, 2, 6, 9, 10, 11, 12, 22, 25}
+UPDATES = {"valid", "not-alone", "no-admin-policy", "undefined", "policy", "admin"}
 # The `tx` line of a transaction that is too long is at fault, once it ends.
 TOO_LONG = {
     "too long, and the last": [],
@@ -231,17 +273,36 @@ def mixed_list(pick, blocks):
             yield pick.choice(blocks[: place + 1])
 
 
+def outcomes_of_updates(world):
+    """Of the last block: `valid`, or what flag 6 is for."""
+    octets, _, flags = world.blocks[-1]
+    for tx, flag, why in zip(read_block(octets)[3], flags, world.reasons[-1]):
+        if flag == 6:
+            yield why.split()[0]
+        elif flag == 0 and tx.startswith(b"\0"):
+            yield "valid"
+
+
 class Trial:
     def __init__(self, program, folder, pick):
         self.program, self.folder, self.pick = program, folder, pick
         self.calls, self.scripts, self.lists = 0, 0, 0
-        self.faults, self.flags, self.refusals = Counter(), Counter(), Counter()
-        channel = "channel ch\n" + "".join(f"chaincode {name} {policy}\n" for name, policy in CHANNEL.items())
+        self.faults, self.flags, self.refusals, self.updates = Counter(), Counter(), Counter(), Counter()
         book = "".join(f"{who} {pick.randbytes(pick.choice([1, 32, 64])).hex()}\n" for who in SIGNERS)
         self.keys = keys_of(book.encode())
         self.definitions = {name.encode(): read_policy(policy.encode()) for name, policy in CHANNEL.items()}
-        self.write("channel", channel.encode())
         self.write("keys", book.encode())
+        self.take_channel(None)
+
+    def take_channel(self, admin):
+        """The channel with this admin policy, if there is one."""
+        lines = ["channel ch", *(f"chaincode {name} {policy}" for name, policy in CHANNEL.items())]
+        lines += [f"admin {admin}"] if admin else []
+        self.admin = admin and read_policy(admin.encode())
+        self.write("channel", "".join(line + "\n" for line in lines).encode())
+
+    def blank(self):
+        return World(b"ch", self.definitions, partial(accepts, self.keys), self.admin)
 
     def write(self, name, octets):
         (self.folder / name).write_bytes(octets)
@@ -282,7 +343,7 @@ class Trial:
         return ending.join(texts) + last
 
     def fault(self, kind, number, blocks, lines):
-        assert self.draft(number, blocks, self.text(lines)) is None, kind
+        assert self.draft(number, blocks, self.text(lines), 2 if kind in SECOND else 1) is None, kind
         self.faults[kind] += 1
 
     def ask(self, world, files):
@@ -292,6 +353,7 @@ class Trial:
         asked = world, name.encode(), word_bytes(key)
         self.want(0, answers.get(*asked), "", "get", "--ns", name, "--key", key, *files)
         self.want(0, answers.history(*asked), "", "history", *files, "--ns", name, f"--key={key}")
+        self.want(0, answers.definition(*asked[:2]), "", "definition", "--ns", name, *files)
         start, end = pick.choice(BOUNDS + ["k" * 1025, "k" * 1024 + "%00"]), pick.choice(BOUNDS + ["k" * 1025])
         limit = pick.choice([1, 2, 3, 100])
         lines = answers.scan(*asked[:2], word_bytes(start), word_bytes(end), limit)
@@ -300,18 +362,21 @@ class Trial:
 
     def chain(self):
         pick, blocks, nonces = self.pick, [], []
-        world = World(b"ch", self.definitions, partial(accepts, self.keys))
+        self.take_channel(pick.choice([None, ADMIN]))
+        world = self.blank()
         for number in range(pick.randrange(1, 6)):
             kind = min(FAULTS, key=lambda kind: (self.faults[kind], pick.random()))
             if pick.random() < 0.5:
                 self.fault(kind, number, blocks, faulty_lines(pick, kind))
             version = max(world.version(), pick.choice([1, 1, 1, 2]))
-            block = self.draft(number, blocks, self.text(list(good_lines(pick, world, nonces))), version)
+            lines = good_lines if version == 1 else second_lines
+            block = self.draft(number, blocks, self.text(list(lines(pick, world, nonces))), version)
             blocks.append(block)
             lines = "".join(line + "\n" for line in explained(world, block))
             self.want(0, lines, "", "explain", *[f"block{number}" for number in range(len(blocks))])
             world.submit(block)
             self.flags.update(world.blocks[-1][2])
+            self.updates.update(outcomes_of_updates(world))
         files = [f"block{number}" for number in range(len(blocks))]
         lines = "".join(answers.accepted(world, number) for number in range(len(files)))
         self.want(0, lines, "", "run", *files)
@@ -322,7 +387,7 @@ class Trial:
     def mixed(self, blocks):
         """The chain's blocks with spoiled ones between them, by workers and by one thread."""
         self.lists += 1
-        world, lines, files = World(b"ch", self.definitions, partial(accepts, self.keys)), "", []
+        world, lines, files = self.blank(), "", []
         for octets in mixed_list(self.pick, blocks):
             files.append(f"mixed{len(files)}")
             self.write(files[-1], octets)
@@ -338,6 +403,10 @@ class Trial:
         name, key = self.pick.choice([*CHANNEL]), self.pick.choice(KEYS)
         self.want(status, answers.get(world, name.encode(), word_bytes(key)), "", "get", "--ns", name, "--key", key, *files)
 
+    def lacks(self):
+        """The faults, flags and outcomes of updates that haven't come yet."""
+        return (set(FAULTS) - set(self.faults)) | (FLAGS - set(self.flags)) | (UPDATES - set(self.updates))
+
     def limits(self):
         """The longest transaction, and those that are one byte too long."""
         assert self.draft(0, [], self.text(lines_of_length(self.keys, LONGEST))) is not None
@@ -351,14 +420,13 @@ def main():
     with tempfile.TemporaryDirectory() as folder:
         trial = Trial(program, pathlib.Path(folder), random.Random(seed))
         trial.limits()
-        while trial.scripts < count or not set(FAULTS) <= set(trial.faults):
+        while trial.scripts < count or trial.lacks():
             trial.chain()
-    missing = {0, 2, 9, 10, 11, 12, 22, 25} - set(trial.flags)
-    assert not missing, missing
     missing = {*answers.FAULTS} - {"TooManyTxs", "TxTooLong"} - set(trial.refusals)
     assert not missing, missing
     print(f"{trial.scripts} scripts, of which {trial.faults.total()} faulty of {len(trial.faults)} kinds, {trial.calls} calls")
     print("flags:", ", ".join(f"{flag} {times} times" for flag, times in sorted(trial.flags.items())))
+    print("updates:", ", ".join(f"{name} {times} times" for name, times in sorted(trial.updates.items())))
     print(f"{trial.lists} lists, refusals:", ", ".join(f"{name} {times} times" for name, times in sorted(trial.refusals.items())))
 
 

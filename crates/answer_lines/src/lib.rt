@@ -15,4 +15,4 @@ pub use laws::printed_values_are_read_back;
 pub use line_fault::LineFault;
 pub use reason_lines::write_reason;
 pub use refusal::Refusal;
-pub use row_lines::{write_entry, write_height, write_row};
+pub use row_lines::{write_definition, write_entry, write_height, write_row};

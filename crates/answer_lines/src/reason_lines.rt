@@ -2,7 +2,7 @@
 use crate::line_fault::LineFault;
 use reasons::{
     EndorsementFault, FormFault, IdUse, KeyList, PhantomKey, PolicyOwner, PolicyTextFault,
-    QueriedRange, Reason, StaleRead,
+    QueriedRange, Reason, StaleRead, UpdateFault,
 };
 use rules::Flag;
 use std::alloc::{AllocError, Global};
@@ -17,6 +17,7 @@ fn name_of(flag: Flag) -> &'static str {
         Flag::Valid => "VALID",
         Flag::BadPayload => "BAD_PAYLOAD",
         Flag::BadCreatorSignature => "BAD_CREATOR_SIGNATURE",
+        Flag::InvalidConfigTransaction => "INVALID_CONFIG_TRANSACTION",
         Flag::BadProposalTxId => "BAD_PROPOSAL_TXID",
         Flag::DuplicateTxId => "DUPLICATE_TXID",
         Flag::EndorsementPolicyFailure => "ENDORSEMENT_POLICY_FAILURE",
@@ -222,6 +223,27 @@ fn write_endorsement<W: Write>(
     }
 }
 
+fn write_undefined<W: Write>(out: &mut W, chaincode: &[u8]) -> io::Result<()> {
+    let chaincode = Word(chaincode);
+    write!(out, " undefined {chaincode}")
+}
+
+fn write_update<W: Write>(out: &mut W, fault: &UpdateFault, policy: &str) -> io::Result<()> {
+    match fault {
+        UpdateFault::NotAlone => write!(out, " not-alone"),
+        UpdateFault::NoAdminPolicy => write!(out, " no-admin-policy"),
+        UpdateFault::NoDefinition { chaincode } => write_undefined(out, chaincode.as_slice()),
+        UpdateFault::NoPolicy(fault) => {
+            let fault = text_fault_name(*fault);
+            write!(out, " policy {fault}")
+        }
+        UpdateFault::AdminUnsatisfied { policy: _, signers } => {
+            write!(out, " admin {policy}")?;
+            write_signers(out, signers.as_slice())
+        }
+    }
+}
+
 // What stands behind the flag's name, of a place of the block of this number.
 fn write_words<W: Write>(
     out: &mut W,
@@ -231,6 +253,7 @@ fn write_words<W: Write>(
 ) -> io::Result<()> {
     match reason {
         Reason::NoFault | Reason::NoTransaction | Reason::BadSignature => Ok(()),
+        Reason::InvalidUpdate(fault) => write_update(out, fault, policy),
         Reason::OtherId { wanted } => {
             let wanted = Word(wanted);
             write!(out, " wanted {wanted}")
@@ -244,10 +267,7 @@ fn write_words<W: Write>(
             write!(out, " channel {channel}")
         }
         Reason::NotInForm(fault) => write_form(out, fault),
-        Reason::Undefined { chaincode } => {
-            let chaincode = Word(chaincode.as_slice());
-            write!(out, " undefined {chaincode}")
-        }
+        Reason::Undefined { chaincode } => write_undefined(out, chaincode.as_slice()),
     }
 }
 
@@ -255,9 +275,8 @@ fn write_words<W: Write>(
 fn policy_of(alloc: Global, reason: &Reason) -> Result<String, AllocError> {
     match reason {
         Reason::NotEndorsed(EndorsementFault::Unsatisfied { policy, .. })
-        | Reason::NotEndorsed(EndorsementFault::ChaincodeUnsatisfied { policy, .. }) => {
-            policy.text(alloc)
-        }
+        | Reason::NotEndorsed(EndorsementFault::ChaincodeUnsatisfied { policy, .. })
+        | Reason::InvalidUpdate(UpdateFault::AdminUnsatisfied { policy, .. }) => policy.text(alloc),
         _ => Ok(String::new(alloc)),
     }
 }

@@ -1,6 +1,7 @@
 //! The lines in which the ledger's contents are told.
 use crate::line_fault::LineFault;
 use crate::value_word::ValueWord;
+use policy::Policy;
 use rules::{HistoryEntry, Row};
 use std::alloc::Global;
 use std::io;
@@ -28,6 +29,23 @@ pub fn write_row<W: Write>(
             writeln!(out, "row {key} {block} {tx} {value} {policy}")?;
         }
         None => writeln!(out, "row {key} {block} {tx} {value} -")?,
+    }
+    Ok(())
+}
+
+/// Writes `definition TEXT`, the canonical text of a chaincode's policy, or `absent` where there is none. The memory is that
+/// text, which is made before any of the line is written.
+pub fn write_definition<W: Write>(
+    alloc: Global,
+    out: &mut W,
+    policy: Option<&Policy>,
+) -> Result<(), LineFault> {
+    match policy {
+        Some(policy) => {
+            let text = policy.text(alloc)?;
+            writeln!(out, "definition {text}")?;
+        }
+        None => writeln!(out, "absent")?,
     }
     Ok(())
 }

@@ -17,6 +17,6 @@ pub use change::change_to;
 pub use entries::{copy_value, entries_of, new_entry};
 pub use labelled::Labelled;
 pub use linking::{DecodedBlock, HashedBlock, LinkedBlock, PlacedBlock};
-pub use origin::{decoded_tx, origin_fault};
+pub use origin::{Origin, decoded_item, origin_fault, origin_of};
 pub use rows::{policy_kept, share_policy, share_row, with_policy};
 pub use uses::uses_of;

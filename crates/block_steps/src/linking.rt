@@ -158,6 +158,12 @@ impl<'b> DecodedBlock<'b> {
         Ok(DecodedBlock { bytes, block })
     }
 
+    pub fn version(&self) -> BlockVersion
+        ensures { result ≡ self.now.version }
+    {
+        self.block.version
+    }
+
     pub fn txs(&self) -> &[Slice<'b>]
         ensures { result.now ≡ self.now.txs }
     {
@@ -261,7 +267,7 @@ impl<'b> LinkedBlock<'b> {
     pub fn version(&self) -> BlockVersion
         ensures { result ≡ self.now.version }
     {
-        self.decoded.block.version
+        self.decoded.version()
     }
 
     pub fn txs(&self) -> &[Slice<'b>]

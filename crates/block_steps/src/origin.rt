@@ -1,63 +1,86 @@
-//! Where a transaction comes from.
+//! Where an item comes from.
 ghost use Rattle.std.specs.Prelude.{◌≡◌, IfOk};
-ghost use Rattle.std.specs.Str.{bytes_eq};
-ghost use Rattle.transaction.specs.Decoded.{tx_of};
-ghost use Rattle.transaction.specs.Grammar.{identity_bytes, signed_bytes};
-ghost use Rattle.header_hash.specs.Hashes.{tx_id_of};
+ghost use Rattle.transaction.specs.Items.{item_of};
 ghost use Rattle.rules.specs.Candidate as candidate;
+ghost use Rattle.rules.specs.Candidate.{origin_of};
 
-use channel::Channel;
+use channel::Configuration;
 use header_hash::tx_id;
 use policy_eval::Verify;
 use rules::EarlyFlag;
 use std::alloc::{AllocError, Global};
-use transaction::{SpelledTx, TxFault, decode_tx};
+use transaction::{BlockVersion, Identity, Item, SpelledItem, TxFault, TxId, decode_item};
+use values::{NameRef, Slice};
 
-/// The transaction that the bytes spell, or none.
-pub fn decoded_tx(alloc: Global, bytes: &[u8]) -> Result<Option<SpelledTx<'_>>, AllocError>
-    ensures { IfOk result (λ tx. tx ≡ tx_of bytes.now) }
+/// The item that the bytes spell in a block of this version, or none.
+pub fn decoded_item(
+    alloc: Global,
+    version: BlockVersion,
+    bytes: &[u8],
+) -> Result<Option<SpelledItem<'_>>, AllocError>
+    ensures { IfOk result (λ item. item ≡ item_of version bytes.now) }
 {
-    match decode_tx(alloc, bytes) {
-        Ok(tx) => Ok(Some(tx)),
+    match decode_item(alloc, version, bytes) {
+        Ok(item) => Ok(Some(item)),
         Err(TxFault::Form) => Ok(None),
         Err(TxFault::Memory) => Err(AllocError),
     }
 }
 
-/// Whether the verifier accepts its creator's signature over all bytes before it.
-fn is_signed<V: Verify>(verifier: &V, tx: &SpelledTx<'_>) -> bool
-    ensures { result ≡ V.accepts verifier.now tx.now.creator (signed_bytes tx.now) tx.now.signature }
-{
-    verifier.verify(
-        &tx.tx().creator,
-        tx.creator_message(),
-        tx.tx().signature.as_slice(),
-    )
+/// What an item says of where it comes from, the creator's message aside.
+#[derive(Clone, Copy)]
+pub struct Origin<'s, 'a> {
+    pub channel: &'s NameRef<'a>,
+    pub id: &'s TxId,
+    pub creator: &'s Identity<'a>,
+    pub nonce: &'s Slice<'a>,
+    pub signature: &'s Slice<'a>,
 }
 
-/// Whether its id is that of its nonce and creator.
-fn has_own_id(tx: &SpelledTx<'_>) -> bool
-    ensures { result ≡ bytes_eq tx.now.id (tx_id_of tx.now.nonce (identity_bytes tx.now.creator)) }
+/// Constant time.
+pub fn origin_of<'s, 'a>(item: &'s Item<'a>) -> Origin<'s, 'a>
+    ensures channel { result.channel.now ≡ (origin_of item.now).channel }
+    ensures id { result.id.now ≡ (origin_of item.now).id }
+    ensures creator { result.creator.now ≡ (origin_of item.now).creator }
+    ensures nonce { result.nonce.now ≡ (origin_of item.now).nonce }
+    ensures signature { result.signature.now ≡ (origin_of item.now).signature }
 {
-    tx.tx().id == tx_id(tx.tx().nonce.as_slice(), tx.creator_bytes())
+    match item {
+        Item::Tx(tx) => Origin {
+            channel: &tx.channel,
+            id: &tx.id,
+            creator: &tx.creator,
+            nonce: &tx.nonce,
+            signature: &tx.signature,
+        },
+        Item::Update(update) => Origin {
+            channel: &update.channel,
+            id: &update.id,
+            creator: &update.creator,
+            nonce: &update.nonce,
+            signature: &update.signature,
+        },
+    }
 }
 
-/// The first fault in where it comes from: its channel, its creator's signature, its id. The verifier is called where
-/// the channel is this one, the id is hashed where it accepts.
+/// The first fault in where it comes from: its channel, its creator's signature over all bytes before it, its id. The verifier is
+/// called where the channel is this one, the id is hashed where it accepts.
 pub fn origin_fault<V: Verify>(
-    channel: &Channel,
+    channel: &Configuration,
     verifier: &V,
-    tx: &SpelledTx<'_>,
+    item: &SpelledItem<'_>,
 ) -> Option<EarlyFlag>
-    ensures { result ≡ candidate.origin_fault channel.now (V.accepts verifier.now) tx.now }
+    ensures { result ≡ candidate.origin_fault channel.now (V.accepts verifier.now) item.now }
 {
-    if !tx.tx().channel.is_same(&channel.name().lend()) {
+    let origin = origin_of(item.item());
+    if !origin.channel.is_same(&channel.name().lend()) {
         return Some(EarlyFlag::TargetChainNotFound);
     }
-    if !is_signed(verifier, tx) {
+    let message = item.creator_message();
+    if !verifier.verify(origin.creator, message, origin.signature.as_slice()) {
         return Some(EarlyFlag::BadCreatorSignature);
     }
-    if !has_own_id(tx) {
+    if *origin.id != tx_id(origin.nonce.as_slice(), item.creator_bytes()) {
         return Some(EarlyFlag::BadProposalTxId);
     }
     None

@@ -87,7 +87,8 @@ pub struct Said {
     pub version: Decision<Option<Version>>,
 }
 
-fn said_over(
+/// What is said of one transaction of a job.
+pub fn said_over(
     alloc: Global,
     job: &Job<'_>,
     known: &KnownCase,

@@ -1,15 +1,18 @@
 //! From a case to the job that the checks are asked about.
-use crate::cases::{BLOCK, DEFINITIONS, JobCase, KEYS, LETTERS, NAMESPACES, RowCase, Rule, TxCase};
-use crate::spelling::{spelled, text_of};
+use crate::cases::{
+    BLOCK, DEFINITIONS, JobCase, KEYS, LETTERS, NAMESPACES, RowCase, Rule, TxCase, UpdateCase,
+};
+use crate::spelling::{spelled, spelled_update, text_of};
 use block::MAX_TXS;
+use candidates::OpenUpdate;
 use failing::Failed;
 use key_chains::{Candidate, Job};
 use policy::{Definitions, Policy};
-use policy_eval::{Verify, signers};
+use policy_eval::{Verify, signers, update_signers};
 use rules::{EarlyFlag, Row};
 use state_db::{Batch, StateDb};
 use std::alloc::{AllocError, Global};
-use transaction::{Identity, decode_tx};
+use transaction::{BlockVersion, Identity, Item, decode_item, decode_tx};
 use values::{Bytes, Key, Name, Part, Shared, is_key, is_name};
 
 // Accepts every signature.
@@ -178,6 +181,15 @@ pub struct Ground {
     state: StateDb,
 }
 
+/// What the job of an update lends from.
+#[derive(Drop)]
+pub struct UpdateGround {
+    bytes: Bytes,
+    definitions: Definitions,
+    state: StateDb,
+    admin: Option<Policy>,
+}
+
 impl Ground {
     pub fn of(alloc: Global, case: &JobCase) -> Result<Ground, Failed> {
         Ok(Ground {
@@ -192,6 +204,55 @@ impl Ground {
         if candidates.as_slice().len() > MAX_TXS {
             return Err(Failed::Missing("a job"));
         }
-        Ok(Job::build(alloc, BLOCK, &self.state, &self.definitions, candidates)?)
+        Ok(Job::build(
+            alloc,
+            BLOCK,
+            &self.state,
+            &self.definitions,
+            None,
+            candidates,
+        )?)
+    }
+}
+
+fn open_update<'a>(alloc: Global, bytes: &'a [u8]) -> Result<OpenUpdate<'a>, Failed> {
+    match decode_item(alloc, BlockVersion::V2, bytes)?.into_item() {
+        Item::Tx(_) => Err(Failed::Missing("an update")),
+        Item::Update(update) => {
+            let signers = update_signers(alloc, &update, &Trusting)?;
+            let policy = Policy::parse_bytes(alloc, update.policy.as_slice())?;
+            Ok(OpenUpdate::new(update, signers, policy))
+        }
+    }
+}
+
+fn admin_of(alloc: Global, update: &UpdateCase) -> Result<Option<Policy>, Failed> {
+    match update.admin {
+        None => Ok(None),
+        Some(rule) => Ok(Some(policy_of(alloc, rule)?)),
+    }
+}
+
+impl UpdateGround {
+    pub fn of(alloc: Global, update: &UpdateCase) -> Result<UpdateGround, Failed> {
+        Ok(UpdateGround {
+            bytes: spelled_update(alloc, update)?,
+            definitions: definitions(alloc)?,
+            state: StateDb::new(alloc),
+            admin: admin_of(alloc, update)?,
+        })
+    }
+
+    pub fn job(&self, alloc: Global) -> Result<Job<'_>, Failed> {
+        let update = open_update(alloc, self.bytes.as_slice())?;
+        let candidates = vec![in alloc; Candidate::Updates(update)]?;
+        Ok(Job::build(
+            alloc,
+            BLOCK,
+            &self.state,
+            &self.definitions,
+            self.admin.as_ref(),
+            candidates,
+        )?)
     }
 }

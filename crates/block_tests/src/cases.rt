@@ -138,6 +138,15 @@ pub struct TxCase {
     pub sets: [SetCase; NAMESPACES],
 }
 
+/// An update of the first chaincode, alone in its block.
+#[derive(Clone, Copy)]
+pub struct UpdateCase {
+    /// The channel's admin policy.
+    pub admin: Option<Rule>,
+    pub policy: Rule,
+    pub signed: Signed,
+}
+
 /// What a key has before the block.
 #[derive(Clone, Copy)]
 pub struct RowCase {

@@ -4,6 +4,7 @@ use crate::building::Ground;
 use crate::cases::{FLAGGED, JobCase, KEYS, KeyUse, NOTHING, NewValue, RowCase, TxCase, UNUSED};
 use effects::{Effects, effects_of};
 use failing::Failed;
+use key_chains::Job;
 use rules::Change;
 use serial_checks::flags;
 use std::alloc::Global;
@@ -41,12 +42,17 @@ fn deletes() -> JobCase {
     case
 }
 
+/// The effects of a job, which keeps copies of what it writes.
+pub fn effects_of_job(alloc: Global, job: &Job<'_>) -> Result<Effects, Failed> {
+    let flags = flags(alloc, job)?;
+    let bytes = Shared::new(alloc, Bytes::from_vec(Vec::new(alloc)))?;
+    Ok(effects_of(alloc, job, flags.as_slice(), &bytes, &[])?)
+}
+
 fn effects(alloc: Global, case: &JobCase) -> Result<Effects, Failed> {
     let ground = Ground::of(alloc, case)?;
     let job = ground.job(alloc, case)?;
-    let flags = flags(alloc, &job)?;
-    let bytes = Shared::new(alloc, Bytes::from_vec(Vec::new(alloc)))?;
-    Ok(effects_of(alloc, &job, flags.as_slice(), &bytes, &[])?)
+    effects_of_job(alloc, &job)
 }
 
 fn is_change(change: &Change, key: &[u8], is_put: bool) -> bool {

@@ -12,7 +12,7 @@ use rules::{Flag, ReadVerdict};
 use std::alloc::Global;
 use transaction::Version;
 
-const UNKNOWN: KnownCase = KnownCase {
+pub const UNKNOWN: KnownCase = KnownCase {
     endorsed: [None; TXS],
     flags: [None; TXS],
 };

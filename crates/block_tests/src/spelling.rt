@@ -1,11 +1,13 @@
 //! The bytes of a case's transactions.
 
-use crate::cases::{KEYS, LETTERS, NAMESPACES, NewValue, Query, Rule, SetCase, Signed, TxCase};
+use crate::cases::{
+    KEYS, LETTERS, NAMESPACES, NewValue, Query, Rule, SetCase, Signed, TxCase, UpdateCase,
+};
 use std::alloc::{AllocError, Global};
 use transaction::Version;
 use values::Bytes;
 
-// Channel, id, creator, nonce and named chaincode.
+// Channel, id, creator, nonce and chaincode.
 const BEGINNING: &[u8] = b"\x02ch\
     0123456789012345678901234567890123456789012345678901234567890123\
     \x04Org1\x01\x02c0\x01n\x02cc";
@@ -66,14 +68,18 @@ fn put_write(bytes: &mut Vec<u8>, letter: u8, value: NewValue) -> Result<(), All
     }
 }
 
+fn put_text(bytes: &mut Vec<u8>, rule: Rule) -> Result<(), AllocError> {
+    put_count(bytes, text_of(rule).len())?;
+    bytes.extend_from_slice(text_of(rule))
+}
+
 fn put_policy(bytes: &mut Vec<u8>, letter: u8, policy: Option<Rule>) -> Result<(), AllocError> {
     put_key(bytes, letter)?;
     let Some(rule) = policy else {
         return bytes.extend_from_slice(b"\0");
     };
     bytes.extend_from_slice(b"\x01")?;
-    put_count(bytes, text_of(rule).len())?;
-    bytes.extend_from_slice(text_of(rule))
+    put_text(bytes, rule)
 }
 
 fn put_reads(bytes: &mut Vec<u8>, set: &SetCase) -> Result<(), AllocError> {
@@ -161,5 +167,14 @@ pub fn spelled(alloc: Global, tx: &TxCase) -> Result<Bytes, AllocError> {
     put_set(&mut bytes, b"dd", &tx.sets[1])?;
     put_set(&mut bytes, b"ee", &tx.sets[2])?;
     put_signatures(&mut bytes, tx.signed)?;
+    Ok(Bytes::from_vec(bytes))
+}
+
+/// The update's bytes.
+pub fn spelled_update(alloc: Global, update: &UpdateCase) -> Result<Bytes, AllocError> {
+    let mut bytes = Vec::from_slice(alloc, b"\0")?;
+    bytes.extend_from_slice(BEGINNING)?;
+    put_text(&mut bytes, update.policy)?;
+    put_signatures(&mut bytes, update.signed)?;
     Ok(Bytes::from_vec(bytes))
 }

@@ -1,18 +1,21 @@
 use crate::in_form::InForm;
 use crate::open_tx::OpenTx;
+use crate::open_update::OpenUpdate;
 use policy::Definitions;
 use policy_eval::Signers;
 use rules::{EarlyFlag, Flag, ReadVerdict};
 use std::alloc::{AllocError, Global};
 use transaction::Tx;
 
-/// What a transaction is before the rules on the state are asked.
+/// What a transaction or an update is before the rules on the state are asked.
 #[derive(Drop)]
 pub enum Candidate<'a> {
     /// Its flag is decided.
     Flagged(EarlyFlag),
     /// The endorsement and read rules decide.
     Opened(OpenTx<'a>),
+    /// The admin policy decides.
+    Updates(OpenUpdate<'a>),
 }
 
 impl<'a> Candidate<'a> {
@@ -45,8 +48,9 @@ impl<'a> Candidate<'a> {
     {
         match self {
             Candidate::Flagged(flag) => flag.flag(),
-            Candidate::Opened(_) if is_endorsed => reads.flag(),
+            Candidate::Opened(_) | Candidate::Updates(_) if is_endorsed => reads.flag(),
             Candidate::Opened(_) => Flag::EndorsementPolicyFailure,
+            Candidate::Updates(_) => Flag::InvalidConfigTransaction,
         }
     }
 }

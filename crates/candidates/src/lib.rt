@@ -1,5 +1,5 @@
-//! Candidates: what each transaction of a block is before the rules on the state are asked. Flagged, or open with its
-//! signers and with the keys that it writes gathered in order.
+//! Candidates: what each transaction or update of a block is before the rules on the state are asked. Flagged, or open with
+//! its signers: a transaction with the keys that it writes gathered in order, an update with the policy that its text spells.
 #![tactic(auto)]
 
 mod candidate;
@@ -11,6 +11,7 @@ mod in_order;
 mod labels;
 mod laws;
 mod open_tx;
+mod open_update;
 mod written_key;
 mod written_value;
 
@@ -20,6 +21,7 @@ pub use in_order::keys_in_order;
 pub use labels::is_among;
 pub use laws::keys_have_one_order;
 pub use open_tx::OpenTx;
+pub use open_update::OpenUpdate;
 pub use state_keys::StateKey;
 pub use written_key::WrittenKey;
 pub use written_value::{Spots, WrittenValue};

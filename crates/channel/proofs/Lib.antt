@@ -1,4 +1,3 @@
 pub mod Bound
-pub mod LineForms
 pub mod Refusals
 mod Worked

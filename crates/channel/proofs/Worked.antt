@@ -1,9 +1,9 @@
 -- Rows worked by hand, which compute.
-use Rattle.std.proofs.Common.{◌≡◌, [], ◌∷◌, ◌++◌, Ok, Err, refl}
+use Rattle.std.proofs.Common.{◌≡◌, [], ◌∷◌, ◌++◌, Ok, Err, Some, None, refl}
 use Rattle.std.specs.Prelude.{codes}
 use Rattle.std.specs.FinMap.{empty, insert, get-empty, get-insert, len-empty}
 use Rattle.std.proofs.lemmas.Cmp.{nat_list_cmp_total}
-use Rattle.policy.specs.declared.tree.PolicyRole.TheVariants.{Peer}
+use Rattle.policy.specs.declared.tree.PolicyRole.TheVariants.{Admin, Peer}
 use Rattle.policy.specs.Tree.{Tree, principal, gate, none, more}
 use Rattle.policy.specs.Fault.{syntax_fault, role_fault}
 use Rattle.values.specs.Order.{bytes_cmp}
@@ -14,7 +14,11 @@ use Rattle.channel.specs.Text.{configuration_of}
 
 -- a comment, spaces at both ends and between the parts, and within the policy
 one_chaincode : configuration_of (codes "# c" ++ 10 ∷ codes " chaincode  cc  OR( 'A.peer' ) " ++ 10 ∷ codes "channel ch")
-    ≡ Ok (record { name = codes "ch"; definitions = insert empty (codes "cc") (gate 1 (more (principal (codes "A") Peer) none)) })
+    ≡ Ok (record {
+      name = codes "ch";
+      definitions = insert empty (codes "cc") (gate 1 (more (principal (codes "A") Peer) none));
+      admin = None;
+    })
 unfolding policy_at expression_by gate_at gate_by members_by head_at opening_at separator_at front_at quoted_at principal_in word_at word_in number_at
 one_chaincode = rw (get-empty {X = Tree} bytes_cmp (codes "cc"), len-empty bytes_cmp Tree) refl
 
@@ -54,3 +58,45 @@ lone_return = refl
 
 tab : configuration_of (9 ∷ codes "channel a") ≡ Err (no_form 1)
 tab = refl
+
+-- the admin policy behind all other lines, and a chaincode that is named as its line is
+admin_last : configuration_of (codes "channel ch" ++ 10 ∷ codes "chaincode admin 'B.peer'" ++ 10 ∷ codes "admin OR('Org1.admin')")
+    ≡ Ok (record {
+      name = codes "ch";
+      definitions = insert empty (codes "admin") (principal (codes "B") Peer);
+      admin = Some (gate 1 (more (principal (codes "Org1") Admin) none));
+    })
+unfolding policy_at expression_by gate_at gate_by members_by head_at opening_at separator_at
+    front_at quoted_at principal_in word_at word_in number_at
+admin_last = rw (get-empty {X = Tree} bytes_cmp (codes "admin"), len-empty bytes_cmp Tree) refl
+
+-- and in front of them
+admin_first : configuration_of (codes "admin 'A.admin'" ++ 10 ∷ codes "chaincode cc 'B.peer'" ++ 10 ∷ codes "channel ch")
+    ≡ Ok (record {
+      name = codes "ch";
+      definitions = insert empty (codes "cc") (principal (codes "B") Peer);
+      admin = Some (principal (codes "A") Admin);
+    })
+unfolding policy_at expression_by gate_at gate_by members_by head_at opening_at separator_at
+    front_at quoted_at principal_in word_at word_in number_at
+admin_first = rw (get-empty {X = Tree} bytes_cmp (codes "cc"), len-empty bytes_cmp Tree) refl
+
+second_admin : configuration_of (codes "admin 'A.admin'" ++ 10 ∷ codes "admin 'B.admin'" ++ 10 ∷ codes "channel ch")
+    ≡ Err (repeated 2)
+unfolding policy_at expression_by gate_at gate_by members_by head_at opening_at separator_at
+    front_at quoted_at principal_in word_at word_in number_at
+second_admin = refl
+
+-- a repetition goes before a bad policy
+second_admin_and_bad : configuration_of (codes "admin 'A.admin'" ++ 10 ∷ codes "admin AND(") ≡ Err (repeated 2)
+unfolding policy_at expression_by gate_at gate_by members_by head_at opening_at separator_at
+    front_at quoted_at principal_in word_at word_in number_at
+second_admin_and_bad = refl
+
+bad_admin : configuration_of (codes "channel ch" ++ 10 ∷ codes "admin AND(") ≡ Err (no_policy 2 syntax_fault)
+unfolding policy_at expression_by gate_at gate_by members_by head_at opening_at separator_at
+    front_at quoted_at principal_in word_at word_in number_at
+bad_admin = refl
+
+nothing_for_an_admin : configuration_of (codes "channel ch" ++ 10 ∷ codes "admin ") ≡ Err (no_form 2)
+nothing_for_an_admin = refl

@@ -1,12 +1,15 @@
 -- What a channel text configures.
-use Rattle.std.specs.Prelude.{ℕ, ◌≤◌, List}
+use Rattle.std.specs.Prelude.{ℕ, ◌≤◌, List, Option}
 use Rattle.std.specs.FinMap.{len}
+use Rattle.policy.specs.Tree.{Tree}
 use Rattle.policy.specs.Policies.{Policies}
 
 -- the channel's name, and the policies of its chaincodes
 pub record Configuration : Type 0 where
   pub name : List ℕ
   pub definitions : Policies
+  -- whose signatures an update of a chaincode's policy needs; where there is none, no policy is ever updated
+  pub admin : Option Tree
 
 -- the most chaincodes of a channel
 abbrev pub max_chaincodes : ℕ

@@ -7,9 +7,9 @@ use Rattle.channel.specs.declared.fault.ChannelFault.TheVariants.{Line, Repeated
 
 -- a fault of the line of this number, or of the whole text
 pub data Fault : Type 0 where
-  -- the line has neither form
+  -- the line has none of the forms
   no_form : ℕ → Fault
-  -- a second channel line, or a chaincode that is defined already
+  -- a second channel or admin line, or a chaincode that is defined already
   repeated : ℕ → Fault
   -- the text of the policy spells none
   no_policy : ℕ → policy.Fault → Fault

@@ -1,6 +1,5 @@
 //! The lines of a channel text, one after the other.
-ghost use Rattle.std.specs.Prelude.{◌≡◌, IsTrue, Ok, IfOk, IfErr, OnOk};
-ghost use Rattle.values.specs.Name.{is_name};
+ghost use Rattle.std.specs.Prelude.{◌≡◌, Ok, IfOk, IfErr};
 ghost use Rattle.text_lines.specs.Lines.{statements};
 ghost use Rattle.channel.specs.Fault.{Refuses};
 ghost use Rattle.channel.specs.Text as spec;
@@ -11,16 +10,19 @@ use policy::{Definitions, Policy};
 use std::alloc::Global;
 use std::marker::Model;
 use text_lines::{Statements, first_part};
-use values::{Name, is_name};
+use values::{Name, NameRef, is_name};
 
 /// The most chaincodes that a channel has.
 pub(crate) const MAX_CHAINCODES: usize = 256;
 
 // What one line says.
 enum Saying<'a> {
-    NamesChannel(&'a [u8]),
+    NamesChannel(NameRef<'a>),
     Defines {
-        chaincode: &'a [u8],
+        chaincode: NameRef<'a>,
+        policy_text: &'a [u8],
+    },
+    SetsAdmin {
         policy_text: &'a [u8],
     },
     NothingKnown,
@@ -30,7 +32,7 @@ fn says_channel(name: &[u8]) -> Saying<'_>
     ensures { seen result ≡ spec.says_channel name.now }
 {
     if is_name(name) {
-        Saying::NamesChannel(name)
+        Saying::NamesChannel(NameRef::new(name))
     } else {
         Saying::NothingKnown
     }
@@ -41,9 +43,19 @@ fn says_chaincode<'a>(chaincode: &'a [u8], policy_text: &'a [u8]) -> Saying<'a>
 {
     if is_name(chaincode) && !policy_text.is_empty() {
         Saying::Defines {
-            chaincode,
+            chaincode: NameRef::new(chaincode),
             policy_text,
         }
+    } else {
+        Saying::NothingKnown
+    }
+}
+
+fn says_admin(policy_text: &[u8]) -> Saying<'_>
+    ensures { seen result ≡ spec.says_admin policy_text.now }
+{
+    if !policy_text.is_empty() {
+        Saying::SetsAdmin { policy_text }
     } else {
         Saying::NothingKnown
     }
@@ -58,6 +70,8 @@ fn says(line: &[u8]) -> Saying<'_>
     } else if word == b"chaincode".as_slice() {
         let (chaincode, policy_text) = first_part(rest);
         says_chaincode(chaincode, policy_text)
+    } else if word == b"admin".as_slice() {
+        says_admin(rest)
     } else {
         Saying::NothingKnown
     }
@@ -70,27 +84,32 @@ fn policy_of_line(alloc: Global, line: u64, text: &[u8]) -> Result<Policy, Chann
     Policy::parse_bytes(alloc, text).map_err(|fault| ChannelFault::of_policy(line, fault))
 }
 
-// What the lines so far say.
+// What the lines so far say, with the definitions once more. A line takes it by value: where memory runs out between the two
+// maps they differ, and then nothing is left of it.
 #[derive(Drop)]
 pub(crate) struct SoFar {
     pub(crate) name: Option<Name>,
     pub(crate) definitions: Definitions,
+    pub(crate) copied: Definitions,
+    pub(crate) admin: Option<Policy>,
 }
 
 impl Model for SoFar {
+    ghost use Rattle.std.specs.Prelude.{◌≡◌};
     ghost use Rattle.std.specs.Coded.{codes};
+    ghost use Rattle.policy.specs.Tree.{tree_code};
     ghost use Rattle.policy.specs.Policies.{policies_code};
     ghost use Rattle.channel.specs.Text as spec;
 
     ghost Value = { spec.SoFar };
 
-    ghost coded = { Prim.hlevel (codes, policies_code) };
+    ghost coded = { Prim.hlevel (codes, tree_code, policies_code) };
 
     ghost use Rattle.channel.specs.Configuration.{AreFew};
 
-    ghost view = { λ s. record { name = s.name; definitions = s.definitions } };
+    ghost view = { λ s. record { name = s.name; definitions = s.definitions; admin = s.admin } };
 
-    ghost invariant = { λ s. AreFew s.definitions };
+    ghost invariant = { λ s. AreFew s.definitions × (s.copied ≡ s.definitions) };
 }
 
 impl SoFar {
@@ -100,55 +119,79 @@ impl SoFar {
         SoFar {
             name: None,
             definitions: Definitions::new(alloc),
+            copied: Definitions::new(alloc),
+            admin: None,
         }
     }
 
-    fn name_channel(&mut self, alloc: Global, line: u64, name: &[u8]) -> Result<(), ChannelFault>
-        requires { IsTrue (is_name name.now) }
-        ensures ok { OnOk result (spec.said_by line self.old (spec.names_channel name.now) ≡ Ok self.new) }
-        ensures err { IfErr result (λ fault. Refuses fault (spec.said_by line self.old (spec.names_channel name.now))) }
+    fn name_channel(
+        mut self,
+        alloc: Global,
+        line: u64,
+        name: &NameRef<'_>,
+    ) -> Result<SoFar, ChannelFault>
+        ensures ok { IfOk result (λ so_far. spec.said_by line self (spec.names_channel name.now) ≡ Ok so_far) }
+        ensures err { IfErr result (λ fault. Refuses fault (spec.said_by line self (spec.names_channel name.now))) }
     {
         if self.name.is_some() {
             return Err(ChannelFault::Repeated(line));
         }
-        self.name = Some(Name::from_slice(alloc, name)?);
-        Ok(())
+        self.name = Some(name.copy(alloc)?);
+        Ok(self)
     }
 
     fn define(
-        &mut self,
+        mut self,
         alloc: Global,
         line: u64,
-        chaincode: &[u8],
+        chaincode: &NameRef<'_>,
         policy_text: &[u8],
-    ) -> Result<(), ChannelFault>
-        requires { IsTrue (is_name chaincode.now) }
-        ensures ok { OnOk result (spec.said_by line self.old (spec.defines chaincode.now policy_text.now) ≡ Ok self.new) }
-        ensures err { IfErr result (λ fault. Refuses fault (spec.said_by line self.old (spec.defines chaincode.now policy_text.now))) }
+    ) -> Result<SoFar, ChannelFault>
+        ensures ok { IfOk result (λ so_far. spec.said_by line self (spec.defines chaincode.now policy_text.now) ≡ Ok so_far) }
+        ensures err { IfErr result (λ fault. Refuses fault (spec.said_by line self (spec.defines chaincode.now policy_text.now))) }
     {
-        let chaincode = Name::from_slice(alloc, chaincode)?;
-        if self.definitions.of(&chaincode.lend()).is_some() {
+        if self.definitions.of(chaincode).is_some() {
             return Err(ChannelFault::Repeated(line));
         }
         let policy = policy_of_line(alloc, line, policy_text)?;
         if self.definitions.len() >= MAX_CHAINCODES {
             return Err(ChannelFault::TooMany(line));
         }
+        let chaincode = chaincode.copy(alloc)?;
+        let copied = policy.copy(alloc)?;
         self.definitions.set(&chaincode, policy)?;
-        Ok(())
+        self.copied.set(&chaincode, copied)?;
+        Ok(self)
+    }
+
+    fn set_admin(
+        mut self,
+        alloc: Global,
+        line: u64,
+        policy_text: &[u8],
+    ) -> Result<SoFar, ChannelFault>
+        ensures ok { IfOk result (λ so_far. spec.said_by line self (spec.sets_admin policy_text.now) ≡ Ok so_far) }
+        ensures err { IfErr result (λ fault. Refuses fault (spec.said_by line self (spec.sets_admin policy_text.now))) }
+    {
+        if self.admin.is_some() {
+            return Err(ChannelFault::Repeated(line));
+        }
+        self.admin = Some(policy_of_line(alloc, line, policy_text)?);
+        Ok(self)
     }
 
     // What is said with one more line.
-    fn say(&mut self, alloc: Global, line: u64, bytes: &[u8]) -> Result<(), ChannelFault>
-        ensures ok { OnOk result (spec.said_by line self.old (spec.says bytes.now) ≡ Ok self.new) }
-        ensures err { IfErr result (λ fault. Refuses fault (spec.said_by line self.old (spec.says bytes.now))) }
+    fn say(self, alloc: Global, line: u64, bytes: &[u8]) -> Result<SoFar, ChannelFault>
+        ensures ok { IfOk result (λ so_far. spec.said_by line self (spec.says bytes.now) ≡ Ok so_far) }
+        ensures err { IfErr result (λ fault. Refuses fault (spec.said_by line self (spec.says bytes.now))) }
     {
         match says(bytes) {
-            Saying::NamesChannel(name) => self.name_channel(alloc, line, name),
+            Saying::NamesChannel(name) => self.name_channel(alloc, line, &name),
             Saying::Defines {
                 chaincode,
                 policy_text,
-            } => self.define(alloc, line, chaincode, policy_text),
+            } => self.define(alloc, line, &chaincode, policy_text),
+            Saying::SetsAdmin { policy_text } => self.set_admin(alloc, line, policy_text),
             Saying::NothingKnown => Err(ChannelFault::Line(line)),
         }
     }
@@ -160,7 +203,7 @@ pub(crate) fn read_lines(alloc: Global, text: &str) -> Result<SoFar, ChannelFaul
 {
     let mut so_far = SoFar::new(alloc);
     for statement in Statements::new(text) {
-        so_far.say(alloc, statement.line, statement.bytes)?;
+        so_far = so_far.say(alloc, statement.line, statement.bytes)?;
     }
     Ok(so_far)
 }

@@ -14,11 +14,11 @@ use thiserror::Error;
 /// on the way. Lines count from 1.
 #[derive(Clone, Copy, Debug, PartialEq, Eq, Error)]
 pub enum ChannelFault {
-    /// The line says something, and is neither `channel NAME` nor `chaincode NAME POLICY`.
-    #[error("line {0}: neither `channel NAME` nor `chaincode NAME POLICY`")]
+    /// The line says something, and is none of `channel NAME`, `chaincode NAME POLICY` and `admin POLICY`.
+    #[error("line {0}: none of `channel NAME`, `chaincode NAME POLICY` and `admin POLICY`")]
     Line(u64),
-    /// An earlier line named the channel, or defined the same chaincode.
-    #[error("line {0}: repeats an earlier line's channel or chaincode")]
+    /// An earlier line named the channel, defined the same chaincode, or set the admin policy.
+    #[error("line {0}: repeats an earlier line's channel, chaincode or admin")]
     Repeated(u64),
     /// POLICY is no policy. Its places count bytes from where POLICY begins.
     #[error("line {0}: {1}")]

@@ -1,11 +1,13 @@
-//! Channel texts: the channel's name, and the policies of its chaincodes.
+//! Channel texts: the channel's name, the policies of its chaincodes, and whose signatures an update of one of them needs.
 #![tactic(auto)]
 
+mod channel;
 mod channel_text;
 mod configuration;
 mod fault;
 mod laws;
 
-pub use configuration::Channel;
+pub use channel::Channel;
+pub use configuration::Configuration;
 pub use fault::ChannelFault;
 pub use laws::limits_are_the_definitions;

@@ -43,12 +43,15 @@ fields_sync ℓ = recorded_sync _ _ ((inside.the_type ℓ).to) ((inside.the_type
     (
       (search (crossing, definitions_sync) depth 20 fits 10000),
       (
-        (search (crossing, candidate_sync) depth 20 fits 10000),
+        (search (crossing, policy_sync) depth 20 fits 10000),
         (
-          (search crossing depth 20 fits 10000),
+          (search (crossing, candidate_sync) depth 20 fits 10000),
           (
-            (search (crossing, policy_send, policy_sync) depth 40 fits 100000),
-            tt,
+            (search crossing depth 20 fits 10000),
+            (
+              (search (crossing, policy_send, policy_sync) depth 40 fits 100000),
+              tt,
+            ),
           ),
         ),
       ),

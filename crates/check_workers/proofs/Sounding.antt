@@ -9,7 +9,7 @@ use Rattle.std.proofs.lemmas.List.FromFn.{length-map-range_with_len, get_or-map-
 use Rattle.rules.specs.declared.flag.Flag.{Flag}
 use Rattle.rules.specs.declared.early_flag.EarlyFlag.TheVariants.{BadPayload}
 use Rattle.rules.specs.Flags.{flag_of}
-use Rattle.rules.specs.Candidate.{Candidate, flagged, opened}
+use Rattle.rules.specs.Candidate.{Candidate, flagged, opened, updates}
 use Rattle.rules.specs.Job.{Job, candidate_at, reads, flag_by, endorsement_by}
 use Rattle.rules.specs.Fold.{running, endorsed, flag}
 use Rattle.rules.specs.Machine.{known, first_endorsement, first_flag, first_board}
@@ -56,8 +56,9 @@ endorsement_is : (j : Job) (i : ℕ) (k : Option Bool) (v : Bool) → ((w : Bool
 endorsement_is j i k v shown e = by (candidate_at j i) refl e
   where
     by : (c : Candidate) → candidate_at j i ≡ c → option_or (first_endorsement c) k ≡ Some v → v ≡ endorsed j i
-    by (flagged f) is_c is = sym (same_item false v is) ∙ ap (endorsement_by j.definitions j.state (running j i).touched) (sym is_c)
+    by (flagged f) is_c is = sym (same_item false v is) ∙ ap (endorsement_by j.admin j.definitions j.state (running j i).touched) (sym is_c)
     by (opened tx signers) is_c is = sym (shown v is)
+    by (updates u signers) is_c is = sym (shown v is)
 
 flag_is : (j : Job) (i : ℕ) (k : Option Flag) (f : Flag) → ((g : Flag) → k ≡ Some g → flag j i ≡ g) → option_or (first_flag (candidate_at j i)) k ≡ Some f → f ≡ flag j i
 flag_is j i k f shown e = by (candidate_at j i) refl e
@@ -65,6 +66,7 @@ flag_is j i k f shown e = by (candidate_at j i) refl e
     by : (c : Candidate) → candidate_at j i ≡ c → option_or (first_flag c) k ≡ Some f → f ≡ flag j i
     by (flagged g) is_c is = sym (same_item (flag_of g) f is) ∙ ap (λ (c : Candidate). flag_by c (endorsed j i) (reads j i (running j i).state)) (sym is_c)
     by (opened tx signers) is_c is = sym (shown f is)
+    by (updates u signers) is_c is = sym (shown f is)
 
 pub words_are_sound : (j : Job) (words : List ℕ) → Within words (verdict_word j) → IsSound j (board_in j words)
 words_are_sound j words within = record {

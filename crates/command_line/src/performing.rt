@@ -1,7 +1,8 @@
 use crate::run::run_blocks;
 use command_words::Asked;
 use ledger_commands::{
-    Fault, Files, draft_block, print_history, print_reasons, print_row, print_rows,
+    Fault, Files, draft_block, print_definition, print_history, print_reasons, print_row,
+    print_rows,
 };
 use std::io::Write;
 use std::sync::Wait;
@@ -22,6 +23,7 @@ pub(crate) fn perform<'a, R: AllocGlobal + Threads + Wait + Sync, F: Files, W: W
         Asked::Get(words) => print_row(alloc, files, words, out),
         Asked::Scan(words) => print_rows(alloc, files, words, out),
         Asked::History(words) => print_history(alloc, files, words, out),
+        Asked::Definition(words) => print_definition(alloc, files, words, out),
         Asked::Explain(words) => print_reasons(alloc, files, words, out),
     }
 }

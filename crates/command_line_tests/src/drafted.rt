@@ -1,5 +1,7 @@
 // Scripts, from their texts to what their blocks leave behind.
-use crate::drafted::vectors::{answers, first_block, first_script, second_block, second_script};
+use crate::drafted::vectors::{
+    answers, first_block, first_script, second_block, second_script, third_block, third_script,
+};
 use crate::fixture::{CHANNEL, File, MemoryFiles, OneOut, expect, expect_rows};
 use crate::signatures::keys;
 use std::alloc::{AllocError, Global};
@@ -61,7 +63,7 @@ fn scripts_become_blocks(rt: HostRuntime) {
     expect_block(&rt, &files, &WORDS, second_block());
 }
 
-const IN_VERSION_2: [&str; 10] = [
+const IN_VERSION_2: [&str; 12] = [
     "fabcommit",
     "draft",
     "--format",
@@ -72,17 +74,33 @@ const IN_VERSION_2: [&str; 10] = [
     "c",
     "--keys",
     "k",
+    "--after",
+    "b1",
 ];
 
 #[test]
 fn scripts_become_blocks_of_version_2(rt: HostRuntime) -> Result<(), AllocError> {
     let files = [("c", CHANNEL), ("k", keys()), ("s", first_script())];
     let block = of_version_2(rt.alloc(), first_block())?;
-    expect_block(&rt, &files, &IN_VERSION_2, &block);
+    expect_block(&rt, &files, &IN_VERSION_2[..10], &block);
+    let files = [
+        ("c", CHANNEL),
+        ("k", keys()),
+        ("s", third_script()),
+        ("b1", second_block()),
+    ];
+    expect_block(&rt, &files, &IN_VERSION_2, third_block());
     Ok(())
 }
 
-// The blocks of both scripts, in version 1 and in version 2.
+#[test]
+fn an_update_is_of_version_2(rt: HostRuntime) {
+    let files = [("c", CHANNEL), ("k", keys()), ("s", third_script())];
+    let err = "s line 1\n";
+    expect(&rt, &MemoryFiles(&files), &WORDS[..8], 3, "", err);
+}
+
+// The blocks of all scripts, and of the first two in version 2.
 fn expect_answers<'a>(
     rt: &(impl Abort + AllocGlobal + Threads + Wait + Sync),
     first: &'a [u8],
@@ -93,6 +111,7 @@ fn expect_answers<'a>(
         ("k", keys()),
         ("b0", first_block()),
         ("b1", second_block()),
+        ("b2", third_block()),
         ("c0", first),
         ("c1", second),
     ];

@@ -1,5 +1,7 @@
 // Why transactions have their flags, from the scripts that they are drafted of.
-use crate::explained::vectors::{block0, block1, block2, every_flag, lines};
+use crate::explained::vectors::{
+    block0, block1, block2, block3, block4, block5, every_flag, lines,
+};
 use crate::fixture::{CHANNEL, End, File, MemoryFiles, Row, ended, expect_rows, words_of};
 use crate::signatures::keys;
 use command_line::{FileFault, Files};
@@ -327,19 +329,51 @@ fn reasons_of_the_origin(rt: HostRuntime) -> Result<(), Failed> {
 }
 
 // The sample's blocks. The last of them shows every flag, and was made outside of the crates.
-#[test]
-fn a_reason_of_each_flag(rt: HostRuntime) -> Result<(), AllocError> {
-    let files = [
+pub(crate) fn sample() -> [File<'static>; 9] {
+    [
         ("c", CHANNEL),
         ("k", keys()),
         ("b0", block0()),
         ("b1", block1()),
         ("b2", block2()),
-        ("b3", every_flag()),
-    ];
+        ("b3", block3()),
+        ("b4", block4()),
+        ("b5", block5()),
+        ("b6", every_flag()),
+    ]
+}
+
+#[test]
+fn a_reason_of_each_flag(rt: HostRuntime) -> Result<(), AllocError> {
     let rows = [
-        ("explain b0 b1 b2 b3", 0, lines(), ""),
-        ("explain b0 b1 b3", 1, "refused 3 C2 want 2 got 3\n", ""),
+        ("explain b0 b1 b2 b3 b4 b5 b6", 0, lines(), ""),
+        ("explain b0 b1 b6", 1, "refused 3 C2 want 2 got 6\n", ""),
     ];
-    expect_rows(&rt, &MemoryFiles(&files), &rows)
+    expect_rows(&rt, &MemoryFiles(&sample()), &rows)
+}
+
+// The policy of cc asks for a peer, until block 4 updates it.
+#[test]
+fn a_definition_changes(rt: HostRuntime) -> Result<(), AllocError> {
+    let refused = "\n0 10 ENDORSEMENT_POLICY_FAILURE chaincode cc car4 \
+        OR('Org1.peer','Org2.peer') Org1:admin:a0\n";
+    let first = "\ndefinition OR('Org1.peer','Org2.peer')\n";
+    let second = "\ndefinition OR('Org1.peer','Org2.peer','Org1.admin')\n";
+    expect_last_line(&rt, "explain b0 b1 b2 b3", refused)?;
+    expect_last_line(&rt, "definition --ns cc b0 b1 b2 b3", first)?;
+    expect_last_line(&rt, "definition --ns cc b0 b1 b2 b3 b4", second)?;
+    expect_last_line(&rt, "definition --ns cc b0 b1 b2 b3 b4 b5", second)?;
+    expect_last_line(&rt, "explain b0 b1 b2 b3 b4 b5", "\n0 0 VALID\n")
+}
+
+// Over the sample, what these words say ends with this line.
+fn expect_last_line(
+    rt: &(impl Abort + AllocGlobal + Threads + Wait + Sync),
+    words: &str,
+    line: &str,
+) -> Result<(), AllocError> {
+    let ended = answered(rt, &MemoryFiles(&sample()), words)?;
+    assert!(rt; ended.status == 0 && ended.err.is_empty());
+    assert!(rt; ended.out.ends_with(line.as_bytes()));
+    Ok(())
 }

@@ -10,7 +10,8 @@ use std::sync::Wait;
 use std::thread::Threads;
 use values::Bytes;
 
-pub(crate) const CHANNEL: &[u8] = b"channel ch\nchaincode cc OR('Org1.peer','Org2.peer')\n";
+pub(crate) const CHANNEL: &[u8] =
+    b"channel ch\nchaincode cc OR('Org1.peer','Org2.peer')\nadmin 'Org1.admin'\n";
 
 pub(crate) const KEYS: &[u8] = b"Org1:peer:p0 0b0b0b0b0b0b0b0b\n";
 

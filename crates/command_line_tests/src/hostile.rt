@@ -14,7 +14,7 @@ use values::Bytes;
 const BLOCK_0: &str = "block 0 9cae6f5c10756febc407bba95fc23853774c1f65f10354895bfdab6443d66ed3\n";
 
 // Of the files the first two can be read, `s` is a script, `b0` a block and `last` the one of the greatest number.
-static ROWS: [Row; 41] = [
+static ROWS: [Row; 46] = [
     // Words are looked at before any file.
     ("get --ns cc --key % no", 2, "", "bad word\n"),
     ("get --ns cc --key %4 no", 2, "", "bad word\n"),
@@ -24,6 +24,8 @@ static ROWS: [Row; 41] = [
     ("history --ns cc --key % no", 2, "", "bad word\n"),
     ("history --ns cc --key a%zz no", 2, "", "bad word\n"),
     ("history --ns :cc --key k no", 2, "", "bad word\n"),
+    ("definition --ns c/c no", 2, "", "bad word\n"),
+    ("definition --ns= no", 2, "", "bad word\n"),
     ("scan --ns c/c no", 2, "", "bad word\n"),
     ("scan --ns cc --start= no", 2, "", "bad word\n"),
     ("scan --ns cc --start a% no", 2, "", "bad word\n"),
@@ -33,6 +35,7 @@ static ROWS: [Row; 41] = [
     ("get --ns cc --key k no s", 3, "", "cannot read no\n"),
     ("scan --ns cc b0 no", 3, "", "cannot read no\n"),
     ("history --ns cc --key k no", 3, "", "cannot read no\n"),
+    ("definition --ns cc b0 no", 3, "", "cannot read no\n"),
     ("explain no", 3, "", "cannot read no\n"),
     ("explain b0 no s", 3, "", "cannot read no\n"),
     ("explain --tx 9 b0 no", 3, "", "cannot read no\n"),
@@ -50,6 +53,7 @@ static ROWS: [Row; 41] = [
     ("get --ns cc --key k s", 1, "height 0\nabsent\n", ""),
     ("scan --ns cc s b0", 1, "height 1\n", ""),
     ("history --ns cc --key k s c k", 1, "height 0\n", ""),
+    ("definition --ns zz s k", 1, "height 0\nabsent\n", ""),
     ("explain s b0", 1, BLOCK_0, ""),
     ("explain b0", 0, BLOCK_0, ""),
     // But of the last block, at whose place no transaction stands.
@@ -59,6 +63,12 @@ static ROWS: [Row; 41] = [
     ("explain --tx 0 b0", 2, "", "no transaction 0\n"),
     ("explain --tx 4095 s b0", 2, "", "no transaction 4095\n"),
     ("history --ns cc --key k", 0, "height 0\n", ""),
+    (
+        "definition --ns cc",
+        0,
+        "height 0\ndefinition OR('Org1.peer','Org2.peer')\n",
+        "",
+    ),
     ("scan --ns cc --limit 65535", 0, "height 0\n", ""),
     ("scan --ns cc --limit 0001", 0, "height 0\n", ""),
 ];

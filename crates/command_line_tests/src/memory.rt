@@ -1,9 +1,9 @@
 //! Each subcommand where memory is refused: it ends behind whole lines of what it says otherwise, and when it is called
 //! again it says all.
 
-use crate::drafted::vectors::{answers, first_block, first_script, second_block};
-use crate::explained::answered;
-use crate::explained::vectors::{block0, block1, block2, every_flag, lines};
+use crate::drafted::vectors::{answers, first_block, first_script, second_block, third_block};
+use crate::explained::vectors::lines;
+use crate::explained::{answered, sample};
 use crate::fixture::{CHANNEL, End, File, MemoryFiles, OneOut, Row};
 use crate::signatures::keys;
 use failing::{Failed, Outcome, begins};
@@ -54,6 +54,7 @@ fn outcome_of_answer(
         ("k", keys()),
         ("b0", first_block()),
         ("b1", second_block()),
+        ("b2", third_block()),
     ];
     for row in answers() {
         if row.0 == words {
@@ -87,18 +88,17 @@ pub(crate) fn outcome_of_history(
     outcome_of_answer(rt, "history --ns cc --key a%20%25 b0 b1")
 }
 
+pub(crate) fn outcome_of_definition(
+    rt: &(impl AllocGlobal + Threads + Wait + Sync),
+) -> Result<Outcome, Failed> {
+    outcome_of_answer(rt, "definition --ns cc b0 b1 b2")
+}
+
 pub(crate) fn outcome_of_explain(
     rt: &(impl AllocGlobal + Threads + Wait + Sync),
 ) -> Result<Outcome, Failed> {
-    let files = [
-        ("c", CHANNEL),
-        ("k", keys()),
-        ("b0", block0()),
-        ("b1", block1()),
-        ("b2", block2()),
-        ("b3", every_flag()),
-    ];
-    outcome_of_row(rt, &files, &("explain b0 b1 b2 b3", 0, lines(), ""))
+    let row = ("explain b0 b1 b2 b3 b4 b5 b6", 0, lines(), "");
+    outcome_of_row(rt, &sample(), &row)
 }
 
 // Whether the block is written once, or where memory ran out not at all and then when it is drafted again.
@@ -134,6 +134,7 @@ fn each_subcommand(rt: HostRuntime) -> Result<(), Failed> {
     assert!(rt; outcome_of_get(&rt)? == Outcome::Done);
     assert!(rt; outcome_of_scan(&rt)? == Outcome::Done);
     assert!(rt; outcome_of_history(&rt)? == Outcome::Done);
+    assert!(rt; outcome_of_definition(&rt)? == Outcome::Done);
     assert!(rt; outcome_of_explain(&rt)? == Outcome::Done);
     Ok(())
 }

@@ -28,13 +28,16 @@ const SCAN: &str =
 const HISTORY: &str =
     "Usage: fabcommit history --channel <FILE> --keys <FILE> --ns <NAME> --key <WORD> [BLOCK]...\n";
 
+const DEFINITION: &str =
+    "Usage: fabcommit definition --channel <FILE> --keys <FILE> --ns <NAME> [BLOCK]...\n";
+
 const EXPLAIN: &str =
     "Usage: fabcommit explain [OPTIONS] --channel <FILE> --keys <FILE> <BLOCK>...\n";
 
 // Words behind the program's name, and two texts that what is said of them has.
 type Row = (&'static [&'static str], &'static str, &'static str);
 
-const MISTAKES: [Row; 26] = [
+const MISTAKES: [Row; 28] = [
     (
         &[],
         "'fabcommit' requires a subcommand but one was not provided",
@@ -115,6 +118,16 @@ const MISTAKES: [Row; 26] = [
         &["history", "--channel", "c", "--keys", "k", "--key", "k"],
         "\n  --ns <NAME>\n",
         "fabcommit history",
+    ),
+    (
+        &["definition", "--channel", "c", "--keys", "k", "b"],
+        "\n  --ns <NAME>\n",
+        "fabcommit definition",
+    ),
+    (
+        &["definition", "--key", "k"],
+        "unexpected argument '--key' found",
+        "fabcommit definition",
     ),
     (
         &["scan", "--limit", "0"],
@@ -201,7 +214,7 @@ const MISTAKES: [Row; 26] = [
     ),
 ];
 
-const HELP: [Row; 10] = [
+const HELP: [Row; 12] = [
     (&["--help"], "\nCommands:\n  draft ", COMMAND),
     (&["help"], "\nExample, from a script to what", COMMAND),
     (&["draft", "-h"], "\nExample:\n  fabcommit draft ", DRAFT),
@@ -212,6 +225,12 @@ const HELP: [Row; 10] = [
         "\nExample:\n  fabcommit history ",
         HISTORY,
     ),
+    (
+        &["definition", "-h"],
+        "\nExample:\n  fabcommit definition ",
+        DEFINITION,
+    ),
+    (&["help", "draft"], "update ", DRAFT),
     (
         &["explain", "-h"],
         "\nExample:\n  fabcommit explain ",

@@ -1,3 +1,4 @@
+use crate::definition::{DEFINITION, DefinitionQuery};
 use crate::draft::{DRAFT, Draft};
 use crate::explain::{EXPLAIN, Explain};
 use crate::get::GET;
@@ -35,13 +36,14 @@ pub enum Asked<'a> {
     Get(KeyedQuery<'a>),
     Scan(Scan<'a>),
     History(KeyedQuery<'a>),
+    Definition(DefinitionQuery<'a>),
     Explain(Explain<'a>),
 }
 
 // A function of its own, so that few exits own a command.
 fn with_subcommands<'a>(alloc: Global, command: Command<'a>) -> Result<Command<'a>, AllocError> {
     let mut command = command;
-    for subcommand in [&DRAFT, &RUN, &GET, &SCAN, &HISTORY, &EXPLAIN] {
+    for subcommand in [&DRAFT, &RUN, &GET, &SCAN, &HISTORY, &DEFINITION, &EXPLAIN] {
         command = command.subcommand(subcommand.command(alloc)?)?;
     }
     Ok(command)
@@ -107,6 +109,7 @@ impl<'a> Asked<'a> {
             "get" => KeyedQuery::from_matches(alloc, matches)?.map(Asked::Get),
             "scan" => Scan::from_matches(alloc, matches)?.map(Asked::Scan),
             "history" => KeyedQuery::from_matches(alloc, matches)?.map(Asked::History),
+            "definition" => DefinitionQuery::from_matches(alloc, matches)?.map(Asked::Definition),
             "explain" => Explain::from_matches(alloc, matches)?.map(Asked::Explain),
             _ => None,
         })

@@ -7,7 +7,7 @@ use transaction::BlockVersion;
 
 pub(crate) static DRAFT: Subcommand = Subcommand {
     name: "draft",
-    about: "Makes a block of the transactions that a script says, with ids, signatures and hashes",
+    about: "Makes a block of the transactions and updates that a script says, with ids, signatures and hashes",
     example: "\
 Example:
   fabcommit draft --channel channel.txt --keys keys.txt --after block0.blk script.txt block1.blk
@@ -17,6 +17,10 @@ Example:
     ns cc
     write car1 red
     endorse Org1:peer:p0
+
+  With --format 2 a script may also update the policy of a chaincode, in a block of its own:
+    update Org1:admin:a0 nonce2 cc OR('Org1.peer','Org2.peer')
+    endorse Org1:admin:a0
 
   Prints nothing. Where the script has a fault, OUT stays as it was.",
     arguments: &[CHANNEL, KEYS, AFTER, FORMAT, SCRIPT, OUT],
@@ -43,7 +47,7 @@ const FORMAT: Argument = Argument {
 const SCRIPT: Argument = Argument {
     name: "script",
     value_name: "SCRIPT",
-    help: "What the transactions are to say, line by line",
+    help: "What the transactions and updates are to say, line by line",
     form: Form::Positional,
 };
 

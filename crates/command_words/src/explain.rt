@@ -18,6 +18,12 @@ Example:
 
 A version is BLOCK TX, or absent; keys and bounds are words, % being an empty bound. The reasons:
   0 VALID                     2 BAD_PAYLOAD, 4 BAD_CREATOR_SIGNATURE: no more than that
+  6 INVALID_CONFIG_TRANSACTION
+                              not-alone, as its block has more than this update
+                              no-admin-policy, as the channel has none
+                              undefined NAME, the chaincode whose policy it gives
+                              policy too-large|syntax|role|threshold|too-deep, the fault of its text
+                              admin POLICY SIGNER .., the channel's admin policy
   8 BAD_PROPOSAL_TXID         wanted ID
   9 DUPLICATE_TXID            used BLOCK TX, where first
   10 ENDORSEMENT_POLICY_FAILURE

@@ -4,6 +4,7 @@
 
 mod arguments;
 mod command;
+mod definition;
 mod draft;
 mod explain;
 mod get;
@@ -18,6 +19,7 @@ mod word_fault;
 mod words;
 
 pub use command::{Asked, not_text};
+pub use definition::DefinitionQuery;
 pub use draft::Draft;
 pub use explain::Explain;
 pub use keyed::{KeyedQuery, Place};

@@ -1,6 +1,6 @@
 -- Blocks that wait: taken in together, and taken out one by one.
-use Rattle.std.proofs.Common.{◌≡◌, ◌++◌, ◌∷◌, ℕ, List, Result, map, take, drop, length, [], ap, sym, subst, ◌∙◌}
-use Rattle.std.proofs.lemmas.List.{take-map, drop-map, length-map, map-append}
+use Rattle.std.proofs.Common.{◌≡◌, ◌++◌, ◌∷◌, ℕ, List, Result, map, take, drop, length, [], Ok, Err, refl, ap, sym, subst, ◌∙◌}
+use Rattle.std.proofs.lemmas.List.{take-map, drop-map, length-map}
 use Rattle.std.proofs.Math.Seq.{take-append_seam, drop-append_seam}
 use Rattle.channel.specs.Configuration.{Configuration}
 use Rattle.block.specs.declared.block.Block.{Block}
@@ -10,10 +10,10 @@ use Rattle.intake.specs.Place.{taken_of, shown}
 use Rattle.intake_workers.specs.declared.handed.Handed.{Handed}
 use Rattle.intake_workers.specs.declared.hashed.Hashed.{Hashed}
 use Rattle.intake_workers.specs.Made.{block_in}
-use Rattle.intake_workers.specs.Pieces.{txs_in, txs_of_all}
+use Rattle.intake_workers.specs.Pieces.{txs_in, items_in, items_of_all}
 use Rattle.policy_eval.specs.Accepts.{Accepts}
 use Rattle.rules.specs.declared.answer.Refused.{Refused}
-use Rattle.transaction.specs.Decoded.{tx_of}
+use Rattle.transaction.specs.Items.{item_of}
 use Rattle.commit.specs.Prepared.{AreHanded, Waits}
 
 abbrev first_or : {X : Type 0} → X → List X → X
@@ -37,6 +37,10 @@ ends seen f ts zs rest is =
     ∙ (ap (drop (length zs)) is
     ∙ (drop-map f (length zs) (zs ++ rest) ∙ ap (map f) (drop-append_seam zs rest)))
 
+as_many : (r : Result Block Refused) → length (items_in r) ≡ length (txs_in r)
+as_many (Ok b) = length-map b.txs (item_of b.version)
+as_many (Err refused) = refl
+
 module _ (channel : Configuration) (accepts : Accepts) where
   pub none_waits : (blocks : List (List ℕ)) (taken : List Taken) → Waits channel accepts blocks [] taken
   none_waits [] taken = tt
@@ -45,24 +49,23 @@ module _ (channel : Configuration) (accepts : Accepts) where
   pub all_wait : (blocks : List (List ℕ)) (handed : List Handed) (waiting : List (Result Hashed Refused)) (taken : List Taken)
       → AreHanded blocks handed
       → map block_in waiting ≡ map (λ (h : Handed). h.block) handed
-      → map shown taken ≡ map (taken_of channel accepts) (map tx_of (txs_of_all handed))
+      → map shown taken ≡ map (taken_of channel accepts) (items_of_all handed)
       → Waits channel accepts blocks waiting taken
   all_wait [] handed waiting taken are same is = tt
   all_wait (bytes ∷ blocks) handed [] taken are same is = tt
   all_wait (bytes ∷ blocks) [] (r ∷ waiting) taken are same is = absurd are
   all_wait (bytes ∷ blocks) (h ∷ handed) (r ∷ waiting) taken are same is =
       let first : h.block ≡ block_in r = sym (ap (first_or (block_in r)) same) in
-      let txs = txs_in h.block in
-      let both : map shown taken ≡ map (taken_of channel accepts) (map tx_of txs ++ map tx_of (txs_of_all handed)) = is ∙ ap (map (taken_of channel accepts)) (map-append tx_of txs (txs_of_all handed)) in
-      let count : length (map tx_of txs) ≡ length txs = length-map txs tx_of in
+      let items = items_in h.block in
+      let count : length items ≡ length (txs_in h.block) = as_many h.block in
       let Here : Result Block Refused → Type 0 = λ b. IsDecoded bytes b
-      × (map shown (take (length (txs_in b)) taken) ≡ map (taken_of channel accepts) (map tx_of (txs_in b)))
+      × (map shown (take (length (txs_in b)) taken) ≡ map (taken_of channel accepts) (items_in b))
       × Waits channel accepts blocks waiting (drop (length (txs_in b)) taken) in
       subst Here first (
         are.0,
-        subst (λ (n : ℕ). map shown (take n taken) ≡ map (taken_of channel accepts) (map tx_of txs)) count (begins shown (taken_of channel accepts) taken (map tx_of txs) (map tx_of (txs_of_all handed)) both),
+        subst (λ (n : ℕ). map shown (take n taken) ≡ map (taken_of channel accepts) items) count (begins shown (taken_of channel accepts) taken items (items_of_all handed) is),
         subst (λ (n : ℕ). Waits channel accepts blocks waiting (drop n taken)) count
-            (all_wait blocks handed waiting (drop (length (map tx_of txs)) taken) are.1 (ap behind_first same) (ends shown (taken_of channel accepts) taken (map tx_of txs) (map tx_of (txs_of_all handed)) both)),
+            (all_wait blocks handed waiting (drop (length items) taken) are.1 (ap behind_first same) (ends shown (taken_of channel accepts) taken items (items_of_all handed) is)),
       )
 
 -- what waits first

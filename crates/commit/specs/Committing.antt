@@ -27,7 +27,7 @@ pub record Committing : Type 0 where
 
 -- the world that it has published
 abbrev pub world_of : Committing → World
-world_of c = applied_all empty_world c.list
+world_of c = applied_all (empty_world c.channel.definitions) c.list
 
 abbrev pub accepted_in : Receipt → Accepted
 accepted_in r = record { number = r.number; header_hash = r.header_hash; flags = r.flags }

@@ -10,7 +10,7 @@ use Rattle.intake.specs.Place.{taken_of, shown}
 use Rattle.intake_workers.specs.declared.handed.Handed.{Handed}
 use Rattle.intake_workers.specs.declared.hashed.Hashed.{Hashed}
 use Rattle.intake_workers.specs.Made.{block_in}
-use Rattle.intake_workers.specs.Pieces.{txs_in, all_taken}
+use Rattle.intake_workers.specs.Pieces.{txs_in, items_in, all_taken}
 use Rattle.ledger.specs.NextDelta.{IsNextDelta}
 use Rattle.ledger.specs.Taken.{IsTaken}
 use Rattle.policy_eval.specs.Accepts.{Accepts}
@@ -18,7 +18,6 @@ use Rattle.rules.specs.declared.answer.Refused.{Refused}
 use Rattle.rules.specs.declared.delta.Delta.{Delta}
 use Rattle.rules.specs.Linked.{IsLinked, IsRefused, IsUnlinked}
 use Rattle.rules.specs.World.{World}
-use Rattle.transaction.specs.Decoded.{tx_of}
 use Rattle.commit.specs.declared.prepared.Ahead.{Ahead}
 use Rattle.commit.specs.declared.prepared.Prepared.{Prepared}
 
@@ -52,14 +51,14 @@ AreHanded (bytes ∷ blocks) (h ∷ handed) = IsDecoded bytes h.block × AreHand
 AreHanded [] (h ∷ handed) = ⊥
 AreHanded (bytes ∷ blocks) [] = ⊥
 
--- For each string of bytes there wait what it spells, hashed, and its transactions, taken in. Where memory was refused, nothing
+-- For each string of bytes there wait what it spells, hashed, and its items, taken in. Where memory was refused, nothing
 -- waits for it and for those behind it.
 abbrev pub Waits : Configuration → Accepts → List (List ℕ) → List (Result Hashed Refused) → List Taken → Type 0
 Waits channel accepts [] waiting taken = Unit {0}
 Waits channel accepts (bytes ∷ blocks) [] taken = Unit {0}
 Waits channel accepts (bytes ∷ blocks) (r ∷ waiting) taken =
     IsDecoded bytes (block_in r)
-    × (map shown (take (length (txs_in (block_in r))) taken) ≡ map (taken_of channel accepts) (map tx_of (txs_in (block_in r))))
+    × (map shown (take (length (txs_in (block_in r))) taken) ≡ map (taken_of channel accepts) (items_in (block_in r)))
     × Waits channel accepts blocks waiting (drop (length (txs_in (block_in r))) taken)
 
 abbrev pub IsAhead : Configuration → Accepts → List (List ℕ) → Ahead → Type 0

@@ -1,11 +1,18 @@
 -- A committer, by what it has published, and runs that go on. No public contract cites this.
-use Rattle.std.specs.Prelude.{ℕ, List, ◌++◌, Result}
+use Rattle.std.specs.Prelude.{◌≡◌, ℕ, List, ◌++◌, Result}
 use Rattle.channel.specs.Configuration.{Configuration}
 use Rattle.policy_eval.specs.Accepts.{Accepts}
+use Rattle.rules.specs.Names.{HasNamesOf}
+use Rattle.rules.specs.World.{empty_world}
 use Rattle.query.specs.declared.receipt.Receipt.{Receipt}
-use Rattle.query.specs.Published.{Publishing}
+use Rattle.query.specs.Published.{Publishing, published_world}
 use Rattle.commit.specs.declared.not_committed.NotCommitted.{NotCommitted}
 use Rattle.commit.specs.Committing.{Committing, Submits, Runs}
+
+-- it was opened with the definitions of this channel, and the same chaincodes have a policy now
+pub record BelongsTo (channel : Configuration) (p : Publishing) : Type 0 where
+  pub base : p.base ≡ empty_world channel.definitions
+  pub names : HasNamesOf channel (published_world p)
 
 -- the committer of a channel, by what it publishes to the handles of its book
 abbrev pub committing : Configuration → Publishing → Committing

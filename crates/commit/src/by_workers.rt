@@ -3,6 +3,7 @@ ghost use Rattle.std.specs.Prelude.{◌≡◌, ◌≤◌, ◌∷◌, [], ℕ, Li
 ghost use Rattle.block.specs.Grammar.{Spells};
 ghost use Rattle.block.specs.Limits.{max_txs};
 ghost use Rattle.rules.specs.declared.answer.Refused.TheVariants.{Memory};
+ghost use Rattle.rules.specs.Names.{HasNamesOf};
 ghost use Rattle.rules.specs.Linked.{IsRefused};
 ghost use Rattle.ledger.specs.NextDelta.{IsDeltaOfJob};
 ghost use Rattle.commit.specs.Prepared.{AreHanded, IsNextDeltaOr, IsNextOfHashed, IsPrepared, IsTakenIn};
@@ -108,7 +109,8 @@ pub(crate) fn next_delta<R: Threads + Wait + Sync, V: Verify, G: Gate + Sync>(
     bytes: &[u8],
     prepared: Prepared<'_>,
 ) -> Result<(Delta, u32), Refused>
-    requires { IsPrepared means.now.channel.now (V.accepts means.now.verifier.now) bytes.now prepared }
+    requires prepared { IsPrepared means.now.channel.now (V.accepts means.now.verifier.now) bytes.now prepared }
+    requires names { HasNamesOf means.now.channel.now world.now }
     ensures { IsNextDeltaOr means.now.channel.now (V.accepts means.now.verifier.now) world.now bytes.now result }
 {
     // what was taken in comes of these, which stand here for the clauses

@@ -11,7 +11,7 @@ use crate::opening::OpenFault;
 use crate::published::Published;
 use crate::running::run_all;
 use crate::workers::Workers;
-use channel::Channel;
+use channel::{Channel, Configuration};
 use gates::Gate;
 use policy_eval::Verify;
 use query::{QueryHandle, Receipt};
@@ -27,7 +27,7 @@ use values::Bytes;
 /// It isn't dropped, since its end waits for the handles that are just asking: [`Committer::close`] ends it.
 pub struct Committer {
     alloc: Global,
-    channel: Channel,
+    channel: Configuration,
     workers: Workers,
     published: Published,
 }
@@ -36,15 +36,18 @@ impl Model for Committer {
     ghost use Rattle.std.specs.Coded.{codes};
     ghost use Rattle.logbook.specs.Pages.{book_coded};
     ghost use Rattle.policy.specs.Policies.{policies_code};
+    ghost use Rattle.policy.specs.Tree.{tree_code};
     ghost use Rattle.query.specs.Code.{list_code};
     ghost use Rattle.commit.specs.Committing.{Committing};
-    ghost use Rattle.commit.specs.Running.{committing};
+    ghost use Rattle.commit.specs.Running.{BelongsTo, committing};
 
     ghost Value = { Committing };
 
-    ghost coded = { Prim.hlevel (codes, policies_code, book_coded, list_code) };
+    ghost coded = { Prim.hlevel (codes, tree_code, policies_code, book_coded, list_code) };
 
     ghost view = { λ c. committing c.channel c.published };
+
+    ghost invariant = { λ c. BelongsTo c.channel c.published };
 }
 
 impl Committer {
@@ -58,14 +61,15 @@ impl Committer {
     ) -> Result<(Committer, Vec<QueryHandle>), OpenFault>
         ensures committer { IfOk result (λ r. (r.0.channel ≡ channel) × (r.0.list ≡ []) × (r.0.stopped ≡ false)) }
         ensures count { IfOk result (λ r. length r.1.items ≡ readers) }
-        ensures handles { IfOk result (λ r. All (λ h. h ≡ record { book = r.0.book; base = empty_world; list = [] }) r.1.items) }
+        ensures handles { IfOk result (λ r. All (λ h. h ≡ record { book = r.0.book; base = empty_world channel.definitions; list = [] }) r.1.items) }
         ensures workers { (result ≡ Err OpenFault.Workers) ↔ ((workers ≡ 0) ⊎ (max_workers < workers)) }
         ensures readers { (result ≡ Err OpenFault.Readers) ↔ ((1 ≤ workers) × (workers ≤ max_workers) × (max_readers < readers)) }
     {
         let Some(workers) = Workers::new(workers) else {
             return Err(OpenFault::Workers);
         };
-        let (published, handles) = Published::open(alloc, rt, readers)?;
+        let (channel, definitions) = channel.into_parts();
+        let (published, handles) = Published::open(alloc, rt, definitions, readers)?;
         let committer = Committer {
             alloc,
             channel,

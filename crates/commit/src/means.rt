@@ -1,5 +1,5 @@
 use crate::workers::Workers;
-use channel::Channel;
+use channel::Configuration;
 use std::alloc::Global;
 
 /// By what blocks are taken in and committed: the runtime and memory, whose rules hold, who works, who verifies signatures, and
@@ -8,7 +8,7 @@ use std::alloc::Global;
 pub(crate) struct Means<'m, R, V, G> {
     pub(crate) rt: &'m R,
     pub(crate) alloc: Global,
-    pub(crate) channel: &'m Channel,
+    pub(crate) channel: &'m Configuration,
     pub(crate) workers: Workers,
     pub(crate) verifier: &'m V,
     pub(crate) gate: &'m G,

@@ -17,7 +17,7 @@ use std::thread::Threads;
 use std::vec;
 use values::Bytes;
 
-/// A block, hashed, and what can be said of its transactions without the world.
+/// A block, hashed, and what can be said of its items without the world.
 #[derive(Drop)]
 pub(crate) struct Prepared<'b> {
     pub(crate) hashed: Hashed<'b>,

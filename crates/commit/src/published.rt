@@ -6,7 +6,7 @@ ghost use Rattle.query.specs.Published.{published_world};
 ghost use Rattle.query.specs.declared.opening.OpenFault.TheVariants as open_fault;
 ghost use Rattle.rules.specs.World.{empty_world};
 ghost use Rattle.commit.specs.Prepared.{IsTakenIn, MayWait};
-ghost use Rattle.commit.specs.Running.{SubmitsTo};
+ghost use Rattle.commit.specs.Running.{BelongsTo, SubmitsTo};
 
 use crate::by_workers::{next_delta, take_in_next};
 use crate::means::Means;
@@ -14,8 +14,9 @@ use crate::not_committed::NotCommitted;
 use crate::prepared::Prepared;
 use crate::workers::Workers;
 use gates::Gate;
+use policy::Definitions;
 use policy_eval::Verify;
-use query::{Publisher, QueryHandle, Receipt};
+use query::{MAX_READERS, Publisher, QueryHandle, Receipt};
 use rules::Refused;
 use std::alloc::Global;
 use std::marker::Model;
@@ -32,38 +33,36 @@ pub(crate) struct Published {
 impl Model for Published {
     ghost use Rattle.query.specs.Published.{Publishing};
     ghost use Rattle.query.specs.Code.{publishing_code};
-    ghost use Rattle.std.specs.Prelude.{◌≡◌};
-    ghost use Rattle.rules.specs.World.{empty_world};
 
     ghost Value = { Publishing };
 
     ghost coded = { publishing_code };
 
     ghost view = { λ p. p.publisher };
-
-    // nothing stood before what was published
-    ghost invariant = { λ p. p.publisher.base ≡ empty_world };
 }
 
 impl Published {
-    /// Nothing yet, and so many handles.
+    /// Nothing yet of a channel with these definitions, and so many handles.
     pub(crate) fn open<R: Wait>(
         alloc: Global,
         rt: &R,
+        definitions: Definitions,
         readers: usize,
     ) -> Result<(Published, Vec<QueryHandle>), query::OpenFault>
-        ensures published { IfOk result (λ r. (r.0.list ≡ []) × (r.0.failed ≡ false)) }
+        ensures published { IfOk result (λ r. (r.0.base ≡ empty_world definitions) × (r.0.list ≡ []) × (r.0.failed ≡ false)) }
         ensures count { IfOk result (λ r. length r.1.items ≡ readers) }
-        ensures handles { IfOk result (λ r. All (λ h. h ≡ record { book = r.0.book; base = empty_world; list = [] }) r.1.items) }
+        ensures handles { IfOk result (λ r. All (λ h. h ≡ record { book = r.0.book; base = empty_world definitions; list = [] }) r.1.items) }
         ensures readers { (result ≡ Err open_fault.Readers) ↔ (max_readers < readers) }
     {
-        let (publisher, handles) = query::open(
-            alloc,
-            rt,
-            World::new(alloc),
-            World::new(alloc),
-            readers,
-        )?;
+        if MAX_READERS < readers {
+            return Err(query::OpenFault::Readers);
+        }
+        let Ok(copied) = definitions.copy(alloc) else {
+            return Err(query::OpenFault::Memory);
+        };
+        let first = World::new(alloc, copied);
+        let second = World::new(alloc, definitions);
+        let (publisher, handles) = query::open(alloc, rt, first, second, readers)?;
         let published = Published {
             publisher,
             gathered: 0,
@@ -119,8 +118,10 @@ impl Published {
         bytes: &[u8],
         prepared: Result<Prepared<'_>, Refused>,
     ) -> Result<Receipt, NotCommitted>
-        requires { IsTakenIn means.now.channel.now (V.accepts means.now.verifier.now) (published_world self.old) bytes.now prepared }
-        ensures { SubmitsTo means.now.channel.now (V.accepts means.now.verifier.now) self.old bytes.now result self.new }
+        requires taken { IsTakenIn means.now.channel.now (V.accepts means.now.verifier.now) (published_world self.old) bytes.now prepared }
+        requires belongs { BelongsTo means.now.channel.now self.old }
+        ensures submits { SubmitsTo means.now.channel.now (V.accepts means.now.verifier.now) self.old bytes.now result self.new }
+        ensures belongs { BelongsTo means.now.channel.now self.new }
     {
         if self.publisher.failed() {
             return Err(NotCommitted::Stopped);

@@ -4,7 +4,7 @@ ghost use Rattle.std.specs.Thread.{IsSync};
 ghost use Rattle.std.specs.Vec.{vec_len, vec_capacity};
 ghost use Rattle.rules.specs.World.{World};
 ghost use Rattle.commit.specs.Prepared.{IsAhead, MayWait};
-ghost use Rattle.commit.specs.Running.{RunsOn, RunsTo, SubmitsTo};
+ghost use Rattle.commit.specs.Running.{BelongsTo, RunsOn, RunsTo, SubmitsTo};
 
 use crate::means::Means;
 use crate::not_committed::NotCommitted;
@@ -58,8 +58,10 @@ fn commit_next<'b, R: Threads + Wait + Sync, V: Verify + Sync, G: Gate + Sync>(
     bytes: &'b [u8],
     ahead: Option<Result<Prepared<'b>, Refused>>,
 ) -> Answer
-    requires { (w : World) → MayWait means.now.channel.now (V.accepts means.now.verifier.now) w bytes.now ahead }
-    ensures { SubmitsTo means.now.channel.now (V.accepts means.now.verifier.now) published.old bytes.now result published.new }
+    requires waits { (w : World) → MayWait means.now.channel.now (V.accepts means.now.verifier.now) w bytes.now ahead }
+    requires belongs { BelongsTo means.now.channel.now published.old }
+    ensures submits { SubmitsTo means.now.channel.now (V.accepts means.now.verifier.now) published.old bytes.now result published.new }
+    ensures belongs { BelongsTo means.now.channel.now published.new }
 {
     let prepared = published.prepared(means, bytes, ahead);
     let checkers = match &prepared {
@@ -80,10 +82,12 @@ fn commit_all<'b, R: Threads + Wait + Sync, V: Verify + Sync, G: Gate + Sync>(
 )
     requires ahead { IsAhead means.now.channel.now (V.accepts means.now.verifier.now) blocks.now ahead.old }
     requires room { vec_len answers.old + length blocks.now ≤ vec_capacity answers.old }
+    requires belongs { BelongsTo means.now.channel.now published.old }
     ensures runs { RunsOn means.now.channel.now (V.accepts means.now.verifier.now)
         blocks.now published.old answers.old.items published.new answers.new.items }
     ensures count { vec_len answers.new ≡ vec_len answers.old + length blocks.now }
     ensures room { vec_capacity answers.old ≤ vec_capacity answers.new }
+    ensures belongs { BelongsTo means.now.channel.now published.new }
 {
     for bytes in blocks {
         let next = ahead.next(means.alloc);
@@ -102,21 +106,25 @@ fn commit_beside_intake<'b, R: Threads + Wait + Sync, V: Verify + Sync, G: Gate 
 ) -> Ahead<'b>
     requires ahead { IsAhead means.now.channel.now (V.accepts means.now.verifier.now) blocks.now ahead }
     requires room { vec_len answers.old + length blocks.now ≤ vec_capacity answers.old }
+    requires belongs { BelongsTo means.now.channel.now published.old }
     ensures runs { RunsOn means.now.channel.now (V.accepts means.now.verifier.now)
         blocks.now published.old answers.old.items published.new answers.new.items }
     ensures count { vec_len answers.new ≡ vec_len answers.old + length blocks.now }
     ensures room { vec_capacity answers.old ≤ vec_capacity answers.new }
+    ensures belongs { BelongsTo means.now.channel.now published.new }
     ensures ahead { IsAhead means.now.channel.now (V.accepts means.now.verifier.now) behind.now result }
 {
     let mut ahead = ahead;
     let mut commit = ||
         requires { IsSync R.row × IsSync G.row
             × IsAhead means.now.channel.now (V.accepts means.now.verifier.now) blocks.now ahead
-            × (vec_len answers.now + length blocks.now ≤ vec_capacity answers.now) }
+            × (vec_len answers.now + length blocks.now ≤ vec_capacity answers.now)
+            × BelongsTo means.now.channel.now published.now }
         ensures runs { RunsOn means.entry.now.channel.now (V.accepts means.entry.now.verifier.now)
             blocks.entry.now published.entry.now answers.entry.now.items published.exit.now answers.exit.now.items }
         ensures count { vec_len answers.exit.now ≡ vec_len answers.entry.now + length blocks.entry.now }
         ensures room { vec_capacity answers.entry.now ≤ vec_capacity answers.exit.now }
+        ensures belongs { BelongsTo means.entry.now.channel.now published.exit.now }
     { commit_all(means, true, published, blocks, &mut ahead, answers) };
     let (next, ()) = take_in_ahead(means, behind, &mut commit);
     next
@@ -131,7 +139,9 @@ pub(crate) fn run_all<R: Threads + Wait + Sync, V: Verify + Sync, G: Gate + Sync
 ) -> Vec<Answer>
     requires empty { answers.items ≡ [] }
     requires room { length blocks.now ≤ vec_capacity answers }
-    ensures { RunsTo means.now.channel.now (V.accepts means.now.verifier.now) published.old blocks.now result.items published.new }
+    requires belongs { BelongsTo means.now.channel.now published.old }
+    ensures runs { RunsTo means.now.channel.now (V.accepts means.now.verifier.now) published.old blocks.now result.items published.new }
+    ensures belongs { BelongsTo means.now.channel.now published.new }
 {
     let mut answers = answers;
     let mut most_bytes = FIRST_BYTES;

@@ -5,10 +5,11 @@ use Rattle.std.proofs.lemmas.Bool.Decides.{eqb_tells}
 use Rattle.std.proofs.lemmas.List.{get_or-set_same, get_or-set_other, get_or-map, get_or_default, length-set, length-map, same_lists}
 use Rattle.rules.specs.declared.early_flag.EarlyFlag.{EarlyFlag}
 use Rattle.rules.specs.declared.early_flag.EarlyFlag.TheVariants.{BadPayload}
-use Rattle.rules.specs.Candidate.{Candidate, flagged, opened}
+use Rattle.rules.specs.Candidate.{Candidate, flagged}
 use Rattle.rules.specs.Job.{Job, candidate_at}
 use Rattle.rules.specs.Machine.{first_endorsement, first_flag, first_board}
 use Rattle.key_chains.specs.declared.plain_board.Cells.{Cells}
+use Rattle.key_chains.specs.Job.{IsOpen}
 use Rattle.key_chains.specs.Cells.{no_cells, cells_at}
 use Rattle.dependency.specs.Rows.{board_of, first_cells}
 
@@ -49,11 +50,15 @@ begun-flagged j i flag old mid new begun lt is set same =
     (ap (λ (cells : List Cells). cells_at cells i) (same ∙ set) ∙ get_or-set_same old i (first_cells (flagged flag)) no_cells (let count = begun.count in omega arith) ∙ ap first_cells (sym is))
     (λ k apart. ap (λ (cells : List Cells). cells_at cells k) (same ∙ set) ∙ get_or-set_other old i k (first_cells (flagged flag)) no_cells apart)
 
-pub begun-open : (j : Job) (i : ℕ) (old new : List Cells) (tx : _) (signers : _) → Begun j i old → candidate_at j i ≡ opened tx signers → new ≡ old → Begun j (i + 1) new
-begun-open j i old new tx signers begun is same =
+open_is_unknown : (j : Job) (i : ℕ) → IsOpen j i → first_cells (candidate_at j i) ≡ no_cells
+open_is_unknown j i (inl tx) = ap first_cells tx.2
+open_is_unknown j i (inr update) = ap first_cells update.2
+
+pub begun-open : (j : Job) (i : ℕ) (old new : List Cells) → Begun j i old → IsOpen j i → new ≡ old → Begun j (i + 1) new
+begun-open j i old new begun is same =
     begun-more j i old new begun
     (ap (λ (cells : List Cells). length cells) same)
-    (ap (λ (cells : List Cells). cells_at cells i) same ∙ begun.left i (omega arith) ∙ ap first_cells (sym is))
+    (ap (λ (cells : List Cells). cells_at cells i) same ∙ begun.left i (omega arith) ∙ sym (open_is_unknown j i is))
     (λ k apart. ap (λ (cells : List Cells). cells_at cells k) same)
 
 pub begun-all : (j : Job) (n : ℕ) (cells : List Cells) → Begun j n cells → length j.candidates ≤ n → cells ≡ map first_cells j.candidates

@@ -31,7 +31,7 @@ fn first_board(alloc: Global, job: &Job<'_>) -> Result<PlainBoard, AllocError>
 /// What these checks of a job's candidates find, in this order. The flagged candidates' cells are known at first.
 ///
 /// An endorsement check makes its cell known with a sure verdict alone, and does so where all that it depends on is known. So
-/// does a read check, once the endorsement's is known; where that is no, the flag is `EndorsementPolicyFailure`. A check that
+/// does a read check, once the endorsement's is known; where that is no, the flag is that of a refused one. A check that
 /// comes too early or twice, or whose number is out of range, changes nothing. Whatever the checks and their order, each
 /// known cell is the verdict of the candidates taken one by one. Costs what each check costs.
 pub fn run_events(alloc: Global, job: &Job<'_>, events: &[Event]) -> Result<EventBoard, AllocError>

@@ -1,12 +1,14 @@
 //! The bytes of blocks that scripts draft.
 
+mod updates;
 mod vectors;
 
 use crate::fixture::drafted;
-use block::{Header, Previous};
+use block::{BlockVersion, Header, Previous};
 use failing::Failed;
 use key_book::KeyBook;
 use std::alloc::Global;
+use updates::updates;
 use vectors::{drafts, keys};
 
 /// A script with the number of the header that it stands behind, and its first faulty line or else the bytes of its
@@ -31,18 +33,23 @@ fn header(number: u64) -> Header {
     }
 }
 
-fn is_drafted(alloc: Global, keys: &KeyBook, case: &DraftCase) -> Result<bool, Failed> {
-    match drafted(alloc, keys, case.after.map(header), case.script)? {
+fn is_drafted(
+    alloc: Global,
+    keys: &KeyBook,
+    version: BlockVersion,
+    case: &DraftCase,
+) -> Result<bool, Failed> {
+    match drafted(alloc, keys, version, case.after.map(header), case.script)? {
         Ok(block) => Ok(case.line.is_none() && block.as_slice() == case.block),
         Err(line) => Ok(case.line == Some(line)),
     }
 }
 
-// How many cases are drafted so, up to the first that isn't.
-fn drafted_so(alloc: Global, cases: &[DraftCase]) -> Result<usize, Failed> {
+// How many cases are drafted so in this version, up to the first that isn't.
+fn drafted_so(alloc: Global, version: BlockVersion, cases: &[DraftCase]) -> Result<usize, Failed> {
     let keys = KeyBook::read(alloc, keys())?;
     for (count, case) in cases.iter().enumerate() {
-        if !is_drafted(alloc, &keys, case)? {
+        if !is_drafted(alloc, &keys, version, case)? {
             return Ok(count);
         }
     }
@@ -51,6 +58,12 @@ fn drafted_so(alloc: Global, cases: &[DraftCase]) -> Result<usize, Failed> {
 
 #[test]
 fn blocks_of_scripts(rt: HostRuntime) -> Result<(), Failed> {
-    assert!(rt; drafted_so(rt.alloc(), drafts())? == drafts().len());
+    assert!(rt; drafted_so(rt.alloc(), BlockVersion::V1, drafts())? == drafts().len());
+    Ok(())
+}
+
+#[test]
+fn blocks_with_updates(rt: HostRuntime) -> Result<(), Failed> {
+    assert!(rt; drafted_so(rt.alloc(), BlockVersion::V2, updates())? == updates().len());
     Ok(())
 }

@@ -1,15 +1,16 @@
 //! Scripts of each form of line and of each fault, with the first faulty line.
 
 use crate::fixture::{book, faulty_line};
+use block::BlockVersion;
 use failing::Failed;
 use key_book::KeyBook;
 use std::alloc::Global;
 
-// How many of the scripts have this first faulty line, up to the first that hasn't.
+// How many of the scripts have this first faulty line in version 1, up to the first that hasn't.
 fn faulty_so(alloc: Global, scripts: &[(&str, u64)]) -> Result<usize, Failed> {
     let keys = book(alloc)?;
     for (count, (script, line)) in scripts.iter().enumerate() {
-        if faulty_line(alloc, &keys, script)? != Some(*line) {
+        if faulty_line(alloc, &keys, BlockVersion::V1, script)? != Some(*line) {
             return Ok(count);
         }
     }
@@ -23,7 +24,7 @@ fn faulty_line_behind(
     line: &str,
 ) -> Result<Option<u64>, Failed> {
     let script = format!(in alloc; "{front}{line}\nendorse Org1:peer:p0\nno line\n")?;
-    faulty_line(alloc, keys, script.as_str())
+    faulty_line(alloc, keys, BlockVersion::V1, script.as_str())
 }
 
 // The first of the lines behind which another one is the first faulty line; none is such a line.

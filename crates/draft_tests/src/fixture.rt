@@ -9,7 +9,8 @@ use values::{Bytes, Name, is_name};
 
 const KEYS: &str = "Org1:client:c0 11\nOrg1:peer:p0 22\n";
 
-fn channel(alloc: Global) -> Result<Name, Failed> {
+/// The channel's name.
+pub fn channel(alloc: Global) -> Result<Name, Failed> {
     let name = b"ch";
     if !is_name(name) {
         return Err(Failed::Missing("a name"));
@@ -22,10 +23,11 @@ pub fn book(alloc: Global) -> Result<KeyBook, KeyBookFault> {
     KeyBook::read(alloc, KEYS)
 }
 
-/// The bytes of a script's block behind a header, or its first faulty line.
+/// The bytes of a script's block of this version behind a header, or its first faulty line.
 pub fn drafted(
     alloc: Global,
     keys: &KeyBook,
+    version: BlockVersion,
     after: Option<Header>,
     script: &str,
 ) -> Result<Result<Bytes, u64>, Failed> {
@@ -35,14 +37,19 @@ pub fn drafted(
         }
     }
     let channel = channel(alloc)?;
-    match draft(alloc, &channel, keys, BlockVersion::V1, after, script) {
+    match draft(alloc, &channel, keys, version, after, script) {
         Ok(block) => Ok(Ok(block)),
         Err(DraftFault::Line(line)) => Ok(Err(line)),
         Err(DraftFault::Memory) => Err(Failed::from(DraftFault::Memory)),
     }
 }
 
-/// The first faulty line, none where the script makes block 0.
-pub fn faulty_line(alloc: Global, keys: &KeyBook, script: &str) -> Result<Option<u64>, Failed> {
-    Ok(drafted(alloc, keys, None, script)?.err())
+/// The first faulty line, none where the script makes block 0 in this version.
+pub fn faulty_line(
+    alloc: Global,
+    keys: &KeyBook,
+    version: BlockVersion,
+    script: &str,
+) -> Result<Option<u64>, Failed> {
+    Ok(drafted(alloc, keys, version, None, script)?.err())
 }

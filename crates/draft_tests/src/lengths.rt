@@ -1,6 +1,7 @@
 //! Parts and lists of scripts at their limits, and one beyond.
 
 use crate::fixture::{book, faulty_line};
+use block::BlockVersion;
 use failing::Failed;
 use key_book::KeyBook;
 use std::alloc::{AllocError, Global};
@@ -24,16 +25,21 @@ fn text_of(alloc: Global, case: &LengthCase) -> Result<String, AllocError> {
     Ok(text)
 }
 
-fn is_so(alloc: Global, keys: &KeyBook, case: &LengthCase) -> Result<bool, Failed> {
+fn is_so(
+    alloc: Global,
+    keys: &KeyBook,
+    version: BlockVersion,
+    case: &LengthCase,
+) -> Result<bool, Failed> {
     let text = text_of(alloc, case)?;
-    Ok(faulty_line(alloc, keys, text.as_str())? == case.line)
+    Ok(faulty_line(alloc, keys, version, text.as_str())? == case.line)
 }
 
-// How many of the cases are so, up to the first that isn't.
-fn so(alloc: Global, cases: &[LengthCase]) -> Result<usize, Failed> {
+// How many of the cases are so in this version, up to the first that isn't.
+fn so(alloc: Global, version: BlockVersion, cases: &[LengthCase]) -> Result<usize, Failed> {
     let keys = book(alloc)?;
     for (count, case) in cases.iter().enumerate() {
-        if !is_so(alloc, &keys, case)? {
+        if !is_so(alloc, &keys, version, case)? {
             return Ok(count);
         }
     }
@@ -359,7 +365,7 @@ static LIMITS: [LengthCase; 44] = [
 #[test]
 fn limits_of_parts_and_lists(rt: HostRuntime) -> Result<(), Failed> {
     let cases = limits();
-    assert!(rt; so(rt.alloc(), cases)? == cases.len());
+    assert!(rt; so(rt.alloc(), BlockVersion::V1, cases)? == cases.len());
     Ok(())
 }
 
@@ -431,6 +437,91 @@ static VALUES: [LengthCase; 8] = [
 #[test]
 fn transactions_that_are_too_long(rt: HostRuntime) -> Result<(), Failed> {
     let cases = values();
-    assert!(rt; so(rt.alloc(), cases)? == cases.len());
+    assert!(rt; so(rt.alloc(), BlockVersion::V1, cases)? == cases.len());
+    Ok(())
+}
+
+fn limits_of_updates() -> &'static [LengthCase] {
+    &UPDATES
+}
+
+// By part: name, nonce, text; then endorsers, and places of the block.
+static UPDATES: [LengthCase; 10] = [
+    LengthCase {
+        front: "update Org1:client:c0 n ",
+        part: "c",
+        count: 64,
+        back: " x\n",
+        line: None,
+    },
+    LengthCase {
+        front: "update Org1:client:c0 n ",
+        part: "c",
+        count: 65,
+        back: " x\n",
+        line: Some(1),
+    },
+    LengthCase {
+        front: "update Org1:client:c0 ",
+        part: "n",
+        count: 255,
+        back: " cc x\n",
+        line: None,
+    },
+    LengthCase {
+        front: "update Org1:client:c0 ",
+        part: "n",
+        count: 256,
+        back: " cc x\n",
+        line: Some(1),
+    },
+    LengthCase {
+        front: "update Org1:client:c0 n cc ",
+        part: "x",
+        count: 65_535,
+        back: "\n",
+        line: None,
+    },
+    LengthCase {
+        front: "update Org1:client:c0 n cc ",
+        part: "x",
+        count: 65_536,
+        back: "\n",
+        line: Some(1),
+    },
+    LengthCase {
+        front: "update Org1:client:c0 n cc x\n",
+        part: "endorse Org1:peer:p0\n",
+        count: 64,
+        back: "",
+        line: None,
+    },
+    LengthCase {
+        front: "update Org1:client:c0 n cc x\n",
+        part: "endorse Org1:peer:p0\n",
+        count: 65,
+        back: "",
+        line: Some(66),
+    },
+    LengthCase {
+        front: "",
+        part: "raw\n",
+        count: 4_095,
+        back: "update Org1:client:c0 n cc x\n",
+        line: None,
+    },
+    LengthCase {
+        front: "",
+        part: "raw\n",
+        count: 4_096,
+        back: "update Org1:client:c0 n cc x\n",
+        line: Some(4097),
+    },
+];
+
+#[test]
+fn limits_of_updates_parts(rt: HostRuntime) -> Result<(), Failed> {
+    let cases = limits_of_updates();
+    assert!(rt; so(rt.alloc(), BlockVersion::V2, cases)? == cases.len());
     Ok(())
 }

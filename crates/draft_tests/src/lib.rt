@@ -11,4 +11,8 @@ mod fixture;
 #[cfg(test)]
 mod lengths;
 #[cfg(test)]
+mod memory;
+#[cfg(test)]
 mod reading;
+#[cfg(test)]
+mod updates;

@@ -1,9 +1,10 @@
 //! What is read of a script, up to its first faulty line.
 
 use crate::fixture::book;
+use block::BlockVersion;
 use failing::Failed;
 use key_book::KeyBook;
-use scripts::{Draft, Item, OwnedNsSet, Script, read};
+use scripts::{Content, Draft, Item, OwnedNsSet, Script, read};
 use std::alloc::{AllocError, Global};
 use transaction::{Identity, Role};
 
@@ -11,7 +12,7 @@ use transaction::{Identity, Role};
 type ReadCase = (&'static str, usize, Option<u64>);
 
 fn is_read_so(alloc: Global, keys: &KeyBook, case: &ReadCase) -> Result<bool, AllocError> {
-    let script = read(alloc, case.0, keys)?;
+    let script = read(alloc, BlockVersion::V1, case.0, keys)?;
     Ok(script.items.len() == case.1 && script.fault == case.2)
 }
 
@@ -99,10 +100,17 @@ fn sizes(alloc: Global, set: &OwnedNsSet) -> Result<(usize, usize), AllocError> 
     Ok((lent.reads.len(), lent.writes.len()))
 }
 
-fn are_sets(alloc: Global, draft: &Draft) -> Result<bool, AllocError> {
-    match draft.namespaces() {
+fn are_sets(alloc: Global, sets: &[OwnedNsSet]) -> Result<bool, AllocError> {
+    match sets {
         [first, second] => { Ok(sizes(alloc, first)? == (1, 0) && sizes(alloc, second)? == (0, 1)) }
         _ => Ok(false),
+    }
+}
+
+fn has_sets(alloc: Global, draft: &Draft) -> Result<bool, AllocError> {
+    match draft.content() {
+        Content::Tx(namespaces) => are_sets(alloc, namespaces.as_slice()),
+        Content::Update(_) => Ok(false),
     }
 }
 
@@ -110,7 +118,7 @@ fn is_second(alloc: Global, item: &Item) -> Result<bool, AllocError> {
     match item {
         Item::Raw(_) => Ok(false),
         Item::Drafted(draft) => {
-            Ok(is_client(draft) && is_peer(draft) && are_sets(alloc, draft)?)
+            Ok(is_client(draft) && is_peer(draft) && has_sets(alloc, draft)?)
         }
     }
 }
@@ -122,14 +130,16 @@ fn are_both(alloc: Global, script: &Script) -> Result<bool, AllocError> {
     }
 }
 
-fn are_read(alloc: Global, text: &str) -> Result<bool, Failed> {
+fn are_read(alloc: Global, version: BlockVersion, text: &str) -> Result<bool, Failed> {
     let keys = book(alloc)?;
-    let script = read(alloc, text, &keys)?;
+    let script = read(alloc, version, text, &keys)?;
     Ok(are_both(alloc, &script)?)
 }
 
+// A script without updates says the same in both versions.
 #[test]
 fn parts_of_items(rt: HostRuntime) -> Result<(), Failed> {
-    assert!(rt; are_read(rt.alloc(), TWO)?);
+    assert!(rt; are_read(rt.alloc(), BlockVersion::V1, TWO)?);
+    assert!(rt; are_read(rt.alloc(), BlockVersion::V2, TWO)?);
     Ok(())
 }

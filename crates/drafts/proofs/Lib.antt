@@ -1,5 +1,5 @@
 pub mod BlockLimits
+pub mod ItemLimits
 pub mod Items
 pub mod Signatures
-pub mod TxLimits
 mod Worked

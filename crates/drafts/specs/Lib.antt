@@ -1,5 +1,5 @@
 pub mod Authentic
 pub mod DraftBlock
-pub mod DraftTx
+pub mod DraftItem
 pub mod Drafted
 pub mod Encoding

@@ -2,16 +2,17 @@
 ghost use Rattle.std.specs.Prelude.{◌≡◌, ◌+◌, ◌<◌, ◌^◌, ◌⊎◌, Ok, Err, IfOk, IfErr, IfSome};
 ghost use Rattle.std.specs.List.{AllByRecursion};
 ghost use Rattle.values.specs.Memory.{GivesUnless};
-ghost use Rattle.transaction.specs.Grammar.{SpellsTx};
+ghost use Rattle.transaction.specs.Items.{SpellsItem};
+ghost use Rattle.transaction.specs.declared.block_version.BlockVersion.TheVariants.{V2};
 ghost use Rattle.scripts.specs.Within.{IsDraft, IsItem};
 ghost use Rattle.drafts.specs.declared.fault.DraftFault.TheVariants.{Memory};
 ghost use Rattle.drafts.specs.DraftBlock as spec;
-ghost use Rattle.drafts.specs.DraftTx.{tx_of};
+ghost use Rattle.drafts.specs.DraftItem.{drafted_item};
 ghost use Rattle.drafts.specs.Drafted.{Makes, MakesAll, IsDrafted};
 
 use crate::block_bytes::block_bytes;
 use crate::fault::DraftFault;
-use crate::tx_bytes::tx_bytes;
+use crate::item::encode_draft;
 use block::{BlockVersion, Header};
 use key_book::KeyBook;
 use scripts::{Draft, Item, read};
@@ -25,11 +26,11 @@ fn draft_bytes(
     keys: &KeyBook,
     draft: &Draft,
 ) -> Result<Bytes, DraftFault>
-    requires { IsDraft keys.now draft.now }
+    requires { IsDraft V2 keys.now draft.now }
     ensures bytes { GivesUnless Memory result (spec.draft_bytes keys.now channel.now draft.now) }
-    ensures spelled { IfOk result (λ bytes. SpellsTx bytes (tx_of keys.now channel.now draft.now)) }
+    ensures spelled { IfOk result (λ bytes. SpellsItem V2 bytes (drafted_item keys.now channel.now draft.now)) }
 {
-    match tx_bytes(alloc, channel, keys, draft) {
+    match encode_draft(alloc, channel, keys, draft) {
         Ok(bytes) => Ok(bytes),
         Err(EncodeFault::TooLarge) => Err(DraftFault::Line(draft.line())),
         Err(EncodeFault::Memory) => Err(DraftFault::Memory),
@@ -42,9 +43,9 @@ fn item_bytes(
     keys: &KeyBook,
     item: &Item,
 ) -> Result<Bytes, DraftFault>
-    requires { IsItem keys.now item.now }
+    requires { IsItem V2 keys.now item.now }
     ensures bytes { GivesUnless Memory result (spec.item_bytes keys.now channel.now item.now) }
-    ensures makes { IfOk result (λ bytes. Makes keys.now channel.now item.now bytes) }
+    ensures makes { IfOk result (λ bytes. Makes V2 keys.now channel.now item.now bytes) }
 {
     match item {
         Item::Raw(bytes) => Ok(bytes.copy(alloc)?),
@@ -58,8 +59,8 @@ fn items_bytes(
     keys: &KeyBook,
     items: &[Item],
 ) -> Result<Vec<Bytes>, DraftFault>
-    requires { AllByRecursion (IsItem keys.now) items.now }
-    ensures makes { IfOk result (λ txs. MakesAll keys.now channel.now items.now txs.items) }
+    requires { AllByRecursion (IsItem V2 keys.now) items.now }
+    ensures makes { IfOk result (λ txs. MakesAll V2 keys.now channel.now items.now txs.items) }
     ensures ok { IfOk result (λ txs. spec.items_bytes keys.now channel.now items.now ≡ Ok txs.items) }
     ensures err { IfErr result (λ fault. (fault ≡ Memory) ⊎ (spec.items_bytes keys.now channel.now items.now ≡ Err fault)) }
 {
@@ -71,12 +72,12 @@ fn items_bytes(
 }
 
 /// The bytes of the block of this version that a script drafts on a channel: behind the header of the block before, or block 0 where
-/// there is none. A drafted transaction gets its id, and the signatures of its endorsers and its creator by the book's
-/// keys; a raw one is taken as it is. [`scripts::read`] says how a script is read.
+/// there is none. A drafted transaction or update gets its id, and the signatures of its endorsers and its creator by the
+/// book's keys; a raw one is taken as it is. [`scripts::read`] says how a script is read.
 ///
 /// The fault is `Line` with the first faulty line, unless memory runs out before. A transaction that is too long, whole
 /// or in a part, is a fault of its `tx` line, and known once it has ended: a faulty line further on comes after it, one
-/// within it before it.
+/// within it before it; an update likewise. A block of version 1 has no updates: their lines are faulty there.
 ///
 /// Linear in the text and the block, and for each endorser in the body that it signs; the memory is linear in the text
 /// and the block.
@@ -91,10 +92,10 @@ pub fn draft(
     requires { IfSome previous (λ h. h.number + 1 < 2 ^ 64) }
     // Exactly these bytes, or the first faulty line.
     ensures drafted { GivesUnless Memory result (spec.drafted keys.now channel.now version previous text.now) }
-    // They spell the block that has the script's transactions and stands behind the header.
+    // They spell the block that has the script's transactions and updates and stands behind the header.
     ensures block { IfOk result (λ bytes. IsDrafted keys.now channel.now version previous text.now bytes) }
 {
-    let script = read(alloc, text, keys)?;
+    let script = read(alloc, version, text, keys)?;
     let txs = items_bytes(alloc, channel, keys, script.items.as_slice())?;
     match script.fault {
         Some(line) => Err(DraftFault::Line(line)),

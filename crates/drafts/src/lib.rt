@@ -4,9 +4,10 @@
 mod block_bytes;
 mod drafting;
 mod fault;
+mod item;
+mod item_encoding;
 mod laws;
 mod signing;
-mod tx_bytes;
 
 pub use drafting::draft;
 pub use fault::DraftFault;

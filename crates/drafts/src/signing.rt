@@ -2,7 +2,7 @@
 ghost use Rattle.std.specs.Prelude.{◌≡◌, ◌++◌, map, IfOk, OnOk};
 ghost use Rattle.std.specs.List.{AllByRecursion};
 ghost use Rattle.transaction.specs.Grammar.{identity_bytes, IsIdentity};
-ghost use Rattle.drafts.specs.DraftTx.{signed_by, endorsement_by};
+ghost use Rattle.drafts.specs.DraftItem.{signed_by, endorsement_by};
 
 use key_book::KeyBook;
 use std::alloc::{AllocError, Global};
@@ -97,7 +97,7 @@ fn endorse<'a>(
     })
 }
 
-// The endorsements of a transaction with this body.
+// The endorsements of a transaction or an update with this body.
 pub(crate) fn endorse_all<'a>(
     alloc: Global,
     keys: &KeyBook,

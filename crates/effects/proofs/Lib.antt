@@ -1,3 +1,4 @@
+mod Definitions
 mod EntryOrder
 mod FinalChanges
 mod FlagLists

@@ -1,11 +1,12 @@
 -- The rows that a state has once the next candidate is taken, and the history that its entries make.
-use Rattle.std.proofs.Common.{◌≡◌, ℕ, suc, ◌+◌, Bool, true, false, cond, List, [], ◌++◌, Option, refl, sym, ap, ◌∙◌, arith}
+use Rattle.std.proofs.Common.{◌≡◌, ℕ, suc, ◌+◌, Bool, true, false, cond, List, [], ◌++◌, Option, refl, sym, ap, ◌∙◌, inl, inr, arith}
 use Rattle.std.specs.Prelude.{if◌then◌else◌}
 use Rattle.std.specs.FinMap.{get}
 use Rattle.std.proofs.lemmas.List.{append-nil}
 use Rattle.transaction.specs.declared.transaction.Tx.{Tx}
 use Rattle.transaction.specs.declared.transaction.Version.{Version}
 use Rattle.rules.specs.declared.delta.NewEntry.{NewEntry}
+use Rattle.rules.specs.declared.history.HistoryEntry.{HistoryEntry}
 use Rattle.rules.specs.Delta.{entries_in}
 use Rattle.rules.specs.History.{History, entries_of, with_entries}
 use Rattle.rules.proofs.HistoryEntries.{with_entries-append}
@@ -22,7 +23,7 @@ use Rattle.rules.proofs.PerKey.{get-state_by}
 use Rattle.candidates.specs.declared.open_tx.OpenTx.{OpenTx}
 use Rattle.candidates.specs.declared.written_key.WrittenKey.{WrittenKey}
 use Rattle.candidates.specs.Written.{AreWritesOf}
-use Rattle.key_chains.specs.Job.{IsOpened, IsFlagged}
+use Rattle.key_chains.specs.Job.{IsOpened, IsNoOpenTx}
 use Rattle.effects.specs.Entries.{entries_written, MakeHistory}
 use Rattle.effects.specs.Rows.{ShowRows}
 use Rattle.effects.specs.WrittenRow.{with_writes}
@@ -46,9 +47,12 @@ module _ (j : Job) (i : ℕ) where
   pub shows-invalid : (rows : List (Option (Option Row))) → is_valid (flag j i) ≡ false → ShowRows j rows (running j i).state → ShowRows j rows (running j (i + 1)).state
   shows-invalid rows e h n k at = h n k at ∙ ap (λ (s : State). get s k) (state-invalid e)
 
-  pub shows-flagged : (rows : List (Option (Option Row))) → is_valid (flag j i) ≡ true → IsFlagged j i → ShowRows j rows (running j i).state → ShowRows j rows (running j (i + 1)).state
-  shows-flagged rows e is h n k at =
-      h n k at ∙ ap (λ (s : State). get s k) (sym (with_changes-none (running j i).state) ∙ ap (λ (c : Candidate). state_by (version_of j i) c (running j i).state) (sym is.1) ∙ state-valid e)
+  nothing_changed : (s : State) → IsNoOpenTx j i → state_after j i s ≡ s
+  nothing_changed s (inl flagged) = ap (λ (c : Candidate). state_by (version_of j i) c s) flagged.1 ∙ with_changes-none s
+  nothing_changed s (inr update) = ap (λ (c : Candidate). state_by (version_of j i) c s) update.2 ∙ with_changes-none s
+
+  pub shows-nothing : (rows : List (Option (Option Row))) → is_valid (flag j i) ≡ true → IsNoOpenTx j i → ShowRows j rows (running j i).state → ShowRows j rows (running j (i + 1)).state
+  shows-nothing rows e is h n k at = h n k at ∙ ap (λ (s : State). get s k) (sym (nothing_changed (running j i).state is) ∙ state-valid e)
 
   written_effect : KeepKeys → (tx : Tx) (ws : List WrittenKey) → AreWritesOf tx ws → (s : State) (k : StateKey) → get (with_writes (version_of j i) s ws) k ≡ effect_at (version_of j i) tx k (get s k)
   written_effect keep tx ws are s k =
@@ -77,8 +81,12 @@ module _ (j : Job) (i : ℕ) where
   pub entries-invalid : is_valid (flag j i) ≡ false → entries_to j i ≡ entries_to j (i + 1)
   entries-invalid e = sym (append-nil (entries_to j i)) ∙ entries-next false e
 
-  pub entries-flagged : is_valid (flag j i) ≡ true → IsFlagged j i → entries_to j i ≡ entries_to j (i + 1)
-  entries-flagged e is = sym (append-nil (entries_to j i)) ∙ ap (λ (c : Candidate). entries_to j i ++ entries_by (version_of j i) c) (sym is.1) ∙ entries-next true e
+  no_entries : IsNoOpenTx j i → entries_by (version_of j i) (candidate_at j i) ≡ []
+  no_entries (inl flagged) = ap (entries_by (version_of j i)) flagged.1
+  no_entries (inr update) = ap (entries_by (version_of j i)) update.2
+
+  pub entries-nothing : is_valid (flag j i) ≡ true → IsNoOpenTx j i → entries_to j i ≡ entries_to j (i + 1)
+  entries-nothing e is = sym (append-nil (entries_to j i)) ∙ ap (λ (es : List (StateKey × HistoryEntry)). entries_to j i ++ es) (sym (no_entries is)) ∙ entries-next true e
 
   pub entries-opened : (o : OpenTx) → is_valid (flag j i) ≡ true → IsOpened j i o → entries_to j i ++ entries_by (version_of j i) (opened o.tx o.signers) ≡ entries_to j (i + 1)
   entries-opened o e is = ap (λ (c : Candidate). entries_to j i ++ entries_by (version_of j i) c) (sym is) ∙ entries-next true e
@@ -86,8 +94,8 @@ module _ (j : Job) (i : ℕ) where
   pub makes-invalid : (es : List NewEntry) → is_valid (flag j i) ≡ false → MakeHistory j es i → MakeHistory j es (i + 1)
   makes-invalid es e makes h = makes h ∙ ap (with_entries h) (entries-invalid e)
 
-  pub makes-flagged : (es : List NewEntry) → is_valid (flag j i) ≡ true → IsFlagged j i → MakeHistory j es i → MakeHistory j es (i + 1)
-  makes-flagged es e is makes h = makes h ∙ ap (with_entries h) (entries-flagged e is)
+  pub makes-nothing : (es : List NewEntry) → is_valid (flag j i) ≡ true → IsNoOpenTx j i → MakeHistory j es i → MakeHistory j es (i + 1)
+  makes-nothing es e is makes h = makes h ∙ ap (with_entries h) (entries-nothing e is)
 
   pub makes-opened : (before after : List NewEntry) (o : OpenTx) → KeepKeys → Rise → is_valid (flag j i) ≡ true → IsOpened j i o
       → entries_in after ≡ entries_in before ++ entries_written (version_of j i) o.tx.id o.written.items → MakeHistory j before i → MakeHistory j after (i + 1)

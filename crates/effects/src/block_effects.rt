@@ -1,18 +1,19 @@
-//! What the valid transactions of a block make of the state and of the history.
+//! What the valid candidates of a block make of the state, of the history and of the definitions.
 ghost use Rattle.std.specs.Prelude.{◌≡◌, length, IfOk};
 ghost use Rattle.rules.specs.State.{with_changes};
 ghost use Rattle.rules.specs.History as history;
 ghost use Rattle.rules.specs.History.{with_entries};
-ghost use Rattle.rules.specs.Delta.{AreRealChanges, changes_in, entries_in};
+ghost use Rattle.rules.specs.Delta.{AreRealChanges, changes_in, entries_in, definitions_in};
 ghost use Rattle.rules.specs.Fold as fold;
-ghost use Rattle.rules.specs.Fold.{final_state, entries_to};
+ghost use Rattle.rules.specs.Fold.{final_state, entries_to, definitions_to};
 
 use crate::changes::changes_to_rows;
+use crate::defining::definitions_of;
 use crate::keeping::Keeping;
 use crate::writing::write_block;
 use candidates::keys_have_one_order;
 use key_chains::Job;
-use rules::{Change, Flag, NewEntry};
+use rules::{Change, Flag, NewDefinition, NewEntry};
 use std::alloc::{AllocError, Global};
 use values::{Bytes, Shared};
 
@@ -25,12 +26,14 @@ pub struct Effects {
     /// One for each value write or delete of a valid transaction: transaction by transaction, and in each in the keys'
     /// order.
     pub entries: Vec<Shared<NewEntry>>,
+    /// One for each valid update, in their order.
+    pub definitions: Vec<NewDefinition>,
 }
 
 /// The effects of a block whose flags these are.
 ///
 /// Rows and entries keep keys and values as parts of these bytes, where the transactions begin at these places: what is found
-/// there isn't copied.
+/// there isn't copied. Definitions are copied from their updates.
 pub fn effects_of(
     alloc: Global,
     job: &Job<'_>,
@@ -42,6 +45,7 @@ pub fn effects_of(
     ensures state { IfOk result (λ e. with_changes job.now.state (changes_in e.changes.items) ≡ final_state job.now) }
     ensures changes { IfOk result (λ e. AreRealChanges job.now.state (changes_in e.changes.items)) }
     ensures history { IfOk result (λ e. (h : history.History) → with_entries h (entries_in e.entries.items) ≡ with_entries h (entries_to job.now (length job.now.candidates))) }
+    ensures definitions { IfOk result (λ e. definitions_in e.definitions.items ≡ definitions_to job.now (length job.now.candidates)) }
 {
     keys_have_one_order();
     let keys = job.keys();
@@ -50,5 +54,6 @@ pub fn effects_of(
     Ok(Effects {
         changes: changes_to_rows(alloc, &keeping, keys, written.rows)?,
         entries: written.entries,
+        definitions: definitions_of(alloc, job, flags)?,
     })
 }

@@ -1,8 +1,10 @@
-//! What the valid transactions of a block change: the rows of the keys that they write, and the histories.
+//! What the valid candidates of a block change: the rows of the keys that transactions write, and the histories; and the
+//! definitions that updates give.
 #![tactic(auto)]
 
 mod block_effects;
 mod changes;
+mod defining;
 mod keeping;
 mod writing;
 mod written_row;

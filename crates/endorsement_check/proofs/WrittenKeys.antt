@@ -131,7 +131,7 @@ module _ (j : Job) (i : ℕ) (o : OpenTx) where
   endorsed_by_keys : (t : List StateKey) → map (λ w. w.key) o.written.items ≡ keys_in_order (written_keys o.tx) → IsOpened j i o
       → endorsement j i t ≡ (all_may t (written_by (candidate_at j i)) && named (map (λ w. w.key) o.written.items))
   endorsed_by_keys t keys opened =
-      ap (endorsement_by j.definitions j.state t) opened
+      ap (endorsement_by j.admin j.definitions j.state t) opened
       ∙ (λ x. sym (all_in_order (may_write j.definitions j.state t o.signers) (written_keys o.tx)) x && (sym (any_in_order (λ k. bytes_eq o.tx.chaincode k.0) (written_keys o.tx)) x || meets o.signers (get j.definitions o.tx.chaincode)))
       ∙ (λ x. all_may t (ap written_by (sym opened) x) && named (sym keys x))
 

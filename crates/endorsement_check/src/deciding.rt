@@ -13,6 +13,7 @@ ghost use Rattle.key_chains.specs.Decided.{MatchDecision};
 
 use crate::policies::meets;
 use crate::writes::{has_writes, may_write_all};
+use candidates::Candidate;
 use key_chains::{Board, Decision, Job, OpenTx};
 
 /// Whether the policy of the named chaincode is satisfied, where no written key has its namespace.
@@ -44,7 +45,7 @@ fn open_passes<B: Board>(
     may_write_all(job, i, &open_tx.signers, open_tx.written.as_slice(), board)
 }
 
-/// Whether candidate i passes the endorsement rule; a flagged one doesn't.
+/// Whether candidate i passes the endorsement rule; a flagged one doesn't, and of an update the admin policy is asked.
 ///
 /// `Sure` only with the answer that holds whatever the unknown endorsements before i will be. `Blocked(h)`: h is before
 /// i, writes the policy of a key that i writes, and whether h passes is unknown; the answer may be the same either way.
@@ -62,8 +63,9 @@ pub fn decide<B: Board>(job: &Job<'_>, i: u32, board: &mut B) -> Decision<bool>
         (λ h. EndorsementDepends job.now i h × ((B.known board.new).endorsed h ≡ None)) }
     ensures decided { ((h : ℕ) → h < i → IsSome ((B.known board.old).endorsed h)) → MatchDecision result (λ _. Unit {0}) (λ _. ⊥) }
 {
-    match job.open_tx(i) {
-        None => Decision::Sure(false),
-        Some(open_tx) => open_passes(job, i, open_tx, board),
+    match job.candidate(i) {
+        Candidate::Flagged(_) => Decision::Sure(false),
+        Candidate::Updates(update) => Decision::Sure(meets(&update.signers, job.admin())),
+        Candidate::Opened(open_tx) => open_passes(job, i, open_tx, board),
     }
 }

@@ -1,6 +1,6 @@
 -- The reason that says no more than the flag, and flags of reasons.
 use Rattle.std.proofs.Common.{◌≡◌, ℕ, true, List, Option, Some, refl, sym, ap, ◌∙◌}
-use Rattle.transaction.specs.declared.transaction.Tx.{Tx}
+use Rattle.transaction.specs.declared.item.Item.{Item}
 use Rattle.policy_eval.specs.Accepts.{Accepts}
 use Rattle.channel.specs.Configuration.{Configuration}
 use Rattle.rules.specs.declared.flag.Flag.{Flag}
@@ -16,9 +16,9 @@ use Rattle.reasons.specs.Reason.{flag_of, IsReason}
 use Rattle.transaction_reasons.proofs.Inverted.{of_flag}
 
 -- the flag that the job has is the reason's
-pub flag_is : (channel : Configuration) (accepts : Accepts) (w : World) (txs : List (Option Tx)) (i : ℕ) (r : Reason) (j : Job) (f : Flag) → j ≡ job_of channel accepts w txs → f ≡ flag j i
-    → IsReason channel accepts w txs i r → flag_of r ≡ f
-flag_is channel accepts w txs i r j f same is reason = sym (is ∙ ap (λ (k : Job). flag k i) same ∙ reason.flag_is)
+pub flag_is : (channel : Configuration) (accepts : Accepts) (w : World) (items : List (Option Item)) (i : ℕ) (r : Reason) (j : Job) (f : Flag) → j ≡ job_of channel accepts w items → f ≡ flag j i
+    → IsReason channel accepts w items i r → flag_of r ≡ f
+flag_is channel accepts w items i r j f same is reason = sym (is ∙ ap (λ (k : Job). flag k i) same ∙ reason.flag_is)
 
 valid_is : (f : Flag) → is_valid f ≡ true → f ≡ Valid
 valid_is Valid e = refl

@@ -5,4 +5,5 @@ mod Places
 mod Setting
 mod ShownVersions
 mod StateTelling
+mod UpdateTelling
 mod Touching

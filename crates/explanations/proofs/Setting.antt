@@ -10,7 +10,7 @@ use Rattle.rules.specs.declared.row.Row.{Row}
 use Rattle.rules.specs.Flags.{is_valid}
 use Rattle.rules.specs.State.{StateKey}
 use Rattle.rules.specs.Effect.{write_of, policy_write_of, row_after}
-use Rattle.rules.specs.Candidate.{Candidate, flagged, opened}
+use Rattle.rules.specs.Candidate.{Candidate, flagged, opened, updates}
 use Rattle.rules.specs.Job.{Job, candidate_at, version_of, state_after}
 use Rattle.rules.specs.Fold.{running, flag}
 use Rattle.rules.proofs.Booleans.{or-true}
@@ -59,6 +59,7 @@ module _ (valid : ℕ → Bool) (n : ℕ) (v : Version) (rest : List Operation) 
   by_valid : valid n ≡ true → (c : Candidate) (k : StateKey) (row : Option Row) → last_setter valid (is_some row) rest ≡ last
       → last_setter valid (is_some (row_by v c k row)) (on_top (kind_by c k)) ≡ cond (sets_row c k row) (Some n) last
   by_valid ok (flagged f) k row before = before
+  by_valid ok (updates u signers) k row before = before
   by_valid ok (opened tx signers) k row before = by_writes ok (write_of tx k) (policy_write_of tx k) row before
 
   by_invalid : valid n ≡ false → (kind : Option Kind) (there : Bool) → last_setter valid there rest ≡ last → last_setter valid there (on_top kind) ≡ last

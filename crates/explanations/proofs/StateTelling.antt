@@ -1,19 +1,18 @@
 -- What the rules on the state tell is the reason that there is.
-use Rattle.std.proofs.Common.{◌≡◌, ℕ, true, List, [], Option, Some, None, map, refl, sym, ap, subst, ◌∙◌}
+use Rattle.std.proofs.Common.{◌≡◌, ℕ, List, Option, Some, None, map, refl, sym, ap, subst, ◌∙◌}
 use Rattle.std.specs.Prelude.{IsTrue, IfSome, option_map}
 use Rattle.transaction.specs.declared.identity.Identity.{Identity}
 use Rattle.transaction.specs.declared.transaction.Tx.{Tx}
+use Rattle.transaction.specs.declared.item.Item.{Item}
+use Rattle.transaction.specs.declared.item.Item.TheVariants as item
 use Rattle.policy_eval.specs.Accepts.{Accepts}
 use Rattle.policy_eval.specs.Signers.{signers_of}
 use Rattle.channel.specs.Configuration.{Configuration}
-use Rattle.rules.specs.declared.flag.Flag.{Flag}
 use Rattle.rules.specs.declared.flag.Flag.TheVariants.{EndorsementPolicyFailure, MvccReadConflict, PhantomReadConflict}
-use Rattle.rules.specs.declared.early_flag.EarlyFlag.{EarlyFlag}
-use Rattle.rules.specs.Flags as flags
 use Rattle.rules.specs.ReadWriteSets.{is_in_form}
-use Rattle.rules.specs.Candidate.{Candidate, flagged, opened}
-use Rattle.rules.specs.Job.{Job, candidate_at, flag_by, reads}
-use Rattle.rules.specs.Fold.{running, endorsed, flag}
+use Rattle.rules.specs.Candidate.{opened}
+use Rattle.rules.specs.Job.{Job, candidate_at}
+use Rattle.rules.specs.Fold.{running}
 use Rattle.rules.specs.Commit.{job_of}
 use Rattle.rules.specs.World.{World}
 use Rattle.rules.proofs.OpenCandidates.{sets_in_form}
@@ -26,40 +25,40 @@ use Rattle.reasons.specs.declared.phantom_key.PhantomKey.{PhantomKey}
 use Rattle.reasons.specs.Endorsement.{IsEndorsementFault}
 use Rattle.reasons.specs.Reads.{IsStaleRead}
 use Rattle.reasons.specs.Ranges.{IsPhantomKey}
-use Rattle.reasons.specs.Reason.{flag_of, tx_at, OfTx, Explains, IsReason}
+use Rattle.reasons.specs.Reason.{flag_of, item_at, OfTx, Explains, IsReason}
 use Rattle.explanations.specs.Found.{stale_in, IsFoundInSets}
-use Rattle.explanations.specs.Told.{is_told_by_state, IsTheReason}
+use Rattle.explanations.specs.Told.{IsTheReason}
 use Rattle.explanations.proofs.Conflicts.{stale_read_is_first, found_phantom}
 use Rattle.transaction_reasons.proofs.Inverted.{of_flag}
-use Rattle.explanations.proofs.Places.{opened_at, early_is_not_told}
+use Rattle.explanations.proofs.Places.{opened_at}
 
 -- a place has one reason
-abbrev IsOne : Type 0
-IsOne = (channel : Configuration) (accepts : Accepts) (w : World) (txs : List (Option Tx)) (i : ℕ) (a b : Reason) → IsReason channel accepts w txs i a → IsReason channel accepts w txs i b → a ≡ b
+abbrev pub IsOne : Type 0
+IsOne = (channel : Configuration) (accepts : Accepts) (w : World) (items : List (Option Item)) (i : ℕ) (a b : Reason) → IsReason channel accepts w items i a → IsReason channel accepts w items i b → a ≡ b
 
-some_is : {X : Type 0} (x y : X) → Some x ≡ Some y → x ≡ y
-some_is x y e = cc
+same_tx : (a b : Tx) → Some (item.Tx a) ≡ Some (item.Tx b) → a ≡ b
+same_tx a b e = cc
 
-module _ (channel : Configuration) (accepts : Accepts) (w : World) (txs : List (Option Tx)) (i : ℕ) (r : Reason) (reason : IsReason channel accepts w txs i r) where
+module _ (channel : Configuration) (accepts : Accepts) (w : World) (items : List (Option Item)) (i : ℕ) (r : Reason) (reason : IsReason channel accepts w items i r) where
   abbrev j : Job
-  j = job_of channel accepts w txs
+  j = job_of channel accepts w items
 
-  why_of : (s : Reason) → r ≡ s → Explains channel accepts w txs i s
-  why_of s e = subst (λ (x : Reason). Explains channel accepts w txs i x) e reason.why
+  why_of : (s : Reason) → r ≡ s → Explains channel accepts w items i s
+  why_of s e = subst (λ (x : Reason). Explains channel accepts w items i x) e reason.why
 
   -- another reason of the same flag is this one
-  same_reason : IsOne → (s : Reason) → flag_of r ≡ flag_of s → Explains channel accepts w txs i s → Some s ≡ Some r
-  same_reason one s f why = ap (λ (x : Reason). Some x) (one channel accepts w txs i s r (record { place = reason.place; flag_is = reason.flag_is ∙ f; why = why }) reason)
+  pub same_reason : IsOne → (s : Reason) → flag_of r ≡ flag_of s → Explains channel accepts w items i s → Some s ≡ Some r
+  same_reason one s f why = ap (λ (x : Reason). Some x) (one channel accepts w items i s r (record { place = reason.place; flag_is = reason.flag_is ∙ f; why = why }) reason)
 
   module _ (tx : Tx) (signers : List Identity) (opens : candidate_at j i ≡ opened tx signers) where
-    is_tx : tx_at txs i ≡ Some tx
-    is_tx = (opened_at channel accepts w.first_uses [] txs i tx signers opens).0
+    is_tx : item_at items i ≡ Some (item.Tx tx)
+    is_tx = (opened_at channel accepts w items i tx signers opens).0
 
     are_signers : signers ≡ signers_of accepts tx
-    are_signers = (opened_at channel accepts w.first_uses [] txs i tx signers opens).1
+    are_signers = (opened_at channel accepts w items i tx signers opens).1
 
-    said : (P : Tx → Type 0) → OfTx txs i P → P tx
-    said P of = subst P (some_is of.0 tx (sym of.1 ∙ is_tx)) of.2
+    said : (P : Tx → Type 0) → OfTx items i P → P tx
+    said P of = subst P (same_tx of.0 tx (sym of.1 ∙ is_tx)) of.2
 
     endorsement_told : IsOne → flag_of r ≡ EndorsementPolicyFailure → (o : Option EndorsementFault) → IfSome o (λ g. IsEndorsementFault j i tx signers g)
         → (o ≡ None → (g : EndorsementFault) → IsEndorsementFault j i tx signers g → ⊥) → option_map NotEndorsed o ≡ Some r
@@ -83,34 +82,24 @@ module _ (channel : Configuration) (accepts : Accepts) (w : World) (txs : List (
         let it = found_phantom j i tx o k.0 (sets_in_form tx in_form) found phantom in
         ap (option_map PhantomConflict) it.1 ∙ same_reason one (PhantomConflict it.0) f (tx, is_tx, it.2)
 
-  none_told : (f : EarlyFlag) → candidate_at j i ≡ flagged f → (told : Flag) → is_told_by_state told ≡ true → flag_of r ≡ told → ⊥
-  none_told f is told by_state e =
-      let own : flag j i ≡ flags.flag_of f = ap (λ (c : Candidate). flag_by c (endorsed j i) (reads j i (running j i).state)) is in
-      let same : told ≡ flags.flag_of f = sym e ∙ sym reason.flag_is ∙ own in
-      absurd (cc (sym by_state ∙ ap is_told_by_state same ∙ early_is_not_told f))
-
 -- ---- whatever block the job is of
 
 module _ (j : Job) (i : ℕ) where
   pub tells_endorsement : IsOne → (tx : Tx) (signers : List Identity) → candidate_at j i ≡ opened tx signers → (o : Option EndorsementFault) → IfSome o (λ g. IsEndorsementFault j i tx signers g)
       → (o ≡ None → (g : EndorsementFault) → IsEndorsementFault j i tx signers g → ⊥) → IsTheReason j i EndorsementPolicyFailure (option_map NotEndorsed o)
-  tells_endorsement one tx signers opens o is never channel accepts w txs r same f reason =
-      endorsement_told channel accepts w txs i r reason tx signers (subst (λ (k : Job). candidate_at k i ≡ opened tx signers) same opens) one f o
+  tells_endorsement one tx signers opens o is never channel accepts w items r same f reason =
+      endorsement_told channel accepts w items i r reason tx signers (subst (λ (k : Job). candidate_at k i ≡ opened tx signers) same opens) one f o
       (subst (λ (k : Job). IfSome o (λ g. IsEndorsementFault k i tx signers g)) same is)
       (subst (λ (k : Job). o ≡ None → (g : EndorsementFault) → IsEndorsementFault k i tx signers g → ⊥) same never)
 
   pub tells_read : (tx : Tx) (signers : List Identity) → candidate_at j i ≡ opened tx signers → (o : Option StaleRead) → o ≡ first_there (map (stale_in j i) tx.namespaces)
       → IsTheReason j i MvccReadConflict (option_map ReadConflict o)
-  tells_read tx signers opens o is channel accepts w txs r same f reason =
-      read_told channel accepts w txs i r reason tx signers (subst (λ (k : Job). candidate_at k i ≡ opened tx signers) same opens) f o
+  tells_read tx signers opens o is channel accepts w items r same f reason =
+      read_told channel accepts w items i r reason tx signers (subst (λ (k : Job). candidate_at k i ≡ opened tx signers) same opens) f o
       (subst (λ (k : Job). o ≡ first_there (map (stale_in k i) tx.namespaces)) same is)
 
   pub tells_phantom : IsOne → (tx : Tx) (signers : List Identity) → candidate_at j i ≡ opened tx signers → IsTrue (is_in_form tx) → (o : Option PhantomKey) → IsFoundInSets (running j i).state tx.namespaces o
       → IsTheReason j i PhantomReadConflict (option_map PhantomConflict o)
-  tells_phantom one tx signers opens in_form o found channel accepts w txs r same f reason =
-      phantom_told channel accepts w txs i r reason tx signers (subst (λ (k : Job). candidate_at k i ≡ opened tx signers) same opens) one f o in_form
+  tells_phantom one tx signers opens in_form o found channel accepts w items r same f reason =
+      phantom_told channel accepts w items i r reason tx signers (subst (λ (k : Job). candidate_at k i ≡ opened tx signers) same opens) one f o in_form
       (subst (λ (k : Job). IsFoundInSets (running k i).state tx.namespaces o) same found)
-
-  pub tells_nothing : (f : EarlyFlag) → candidate_at j i ≡ flagged f → (told : Flag) → is_told_by_state told ≡ true → IsTheReason j i told None
-  tells_nothing f is told by_state channel accepts w txs r same e reason =
-      absurd (none_told channel accepts w txs i r reason f (subst (λ (k : Job). candidate_at k i ≡ flagged f) same is) told by_state e)

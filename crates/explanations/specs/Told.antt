@@ -1,6 +1,6 @@
 -- Which reasons the state tells, and when what is told is the reason. No public contract cites this.
 use Rattle.std.specs.Prelude.{◌≡◌, ℕ, List, Bool, true, false, Option, Some}
-use Rattle.transaction.specs.declared.transaction.Tx.{Tx}
+use Rattle.transaction.specs.declared.item.Item.{Item}
 use Rattle.policy_eval.specs.Accepts.{Accepts}
 use Rattle.channel.specs.Configuration.{Configuration}
 use Rattle.rules.specs.declared.flag.Flag.{Flag}
@@ -20,5 +20,5 @@ is_told_by_state _ = false
 -- whatever block the job is of, this is the reason of place i, where it has this flag
 abbrev pub IsTheReason : Job → ℕ → Flag → Option Reason → Type 0
 IsTheReason j i flag x =
-    (channel : Configuration) (accepts : Accepts) (w : World) (txs : List (Option Tx)) (r : Reason) → j ≡ job_of channel accepts w txs → flag_of r ≡ flag
-    → IsReason channel accepts w txs i r → x ≡ Some r
+    (channel : Configuration) (accepts : Accepts) (w : World) (items : List (Option Item)) (r : Reason) → j ≡ job_of channel accepts w items → flag_of r ≡ flag
+    → IsReason channel accepts w items i r → x ≡ Some r

@@ -9,6 +9,7 @@ ghost use Rattle.reasons.specs.First.{first_below};
 ghost use Rattle.reasons.specs.Endorsement.{touches, first_barred, IsEndorsementFault};
 ghost use Rattle.key_chains.specs.Shown.{Shows};
 
+use crate::signer_copies::copied;
 use crate::touchers::first_toucher;
 use endorsement_check::{governing, meets, own_policy};
 use key_chains::{Job, PlainBoard, StateKey};
@@ -16,30 +17,9 @@ use policy::Policy;
 use policy_eval::Signers;
 use reasons::{EndorsementFault, PolicyOwner, touched_keys_have_a_toucher};
 use std::alloc::{AllocError, Global};
-use transaction::{Identity, OwnedIdentity, Tx};
+use transaction::Tx;
 use transaction_reasons::written_keys;
-use values::{Items, NameRef};
-
-fn owned(alloc: Global, identity: &Identity<'_>) -> Result<OwnedIdentity, AllocError>
-    ensures { IfOk result (λ copied. copied ≡ identity.now) }
-{
-    Ok(OwnedIdentity::new(
-        identity.org.copy(alloc)?,
-        identity.role,
-        identity.label.copy(alloc)?,
-    ))
-}
-
-fn copied(alloc: Global, signers: &Signers<'_>) -> Result<Items<OwnedIdentity>, AllocError>
-    ensures { IfOk result (λ copied. copied ≡ signers.now) }
-{
-    let signers = signers.as_slice();
-    let mut copied = Vec::with_capacity(alloc, signers.len())?;
-    for signer in signers {
-        copied.push(owned(alloc, signer)?)?;
-    }
-    Ok(Items::from_vec(copied))
-}
+use values::NameRef;
 
 /// A key that signers may not write, and who touched it first.
 #[derive(Drop)]

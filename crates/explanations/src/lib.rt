@@ -1,12 +1,14 @@
-//! The reasons of a block: why each of its transactions has its flag, found where the flags are known.
+//! The reasons of a block: why each of its places has its flag, found where the flags are known.
 #![tactic(auto)]
 
 mod endorsement;
 mod phantoms;
 mod place_reason;
+mod signer_copies;
 mod stale_reads;
 mod state_reasons;
 mod touchers;
+mod update_reasons;
 mod verdicts;
 mod versions;
 mod writers;

@@ -1,7 +1,8 @@
-//! Reasons that ask the state.
+//! Reasons of transactions that the state decides.
 ghost use Rattle.std.specs.Prelude.{◌≡◌, ◌<◌, IsTrue, length, option_map, IfOk};
 ghost use Rattle.reasons.specs.declared.reason.Reason.TheVariants.{NotEndorsed, ReadConflict, PhantomConflict};
 ghost use Rattle.rules.specs.declared.flag.Flag.TheVariants.{EndorsementPolicyFailure, MvccReadConflict, PhantomReadConflict};
+ghost use Rattle.rules.specs.Fold.{flag};
 ghost use Rattle.key_chains.specs.Job.{IsOpened};
 ghost use Rattle.key_chains.specs.Shown.{Shows};
 ghost use Rattle.explanations.specs.Told.{is_told_by_state, IsTheReason};
@@ -9,6 +10,7 @@ ghost use Rattle.explanations.specs.Told.{is_told_by_state, IsTheReason};
 use crate::endorsement::endorsement_fault;
 use crate::phantoms::phantom_conflict;
 use crate::stale_reads::read_conflict;
+use crate::verdicts::flag_of;
 use key_chains::{Job, OpenTx, PlainBoard};
 use reasons::{EndorsementFault, PhantomKey, Reason, StaleRead, each_place_has_one_reason};
 use rules::Flag;
@@ -84,27 +86,47 @@ fn phantom_reason(
     Ok(phantom(key))
 }
 
-/// Why candidate i has its flag, one that the rules on the state gave it.
-pub(crate) fn state_reason(
+/// Why candidate i, an open transaction, has this flag, which isn't that of a valid one.
+fn fault_reason(
     alloc: Global,
     job: &Job<'_>,
     i: u32,
+    open_tx: &OpenTx<'_>,
     flag: Flag,
     board: &mut PlainBoard,
 ) -> Result<Option<Reason>, AllocError>
     requires place { i < length job.now.candidates }
     requires shown { Shows job.now board.old }
+    requires opened { IsOpened job.now i open_tx.now }
     requires told { IsTrue (is_told_by_state flag) }
     ensures value { IfOk result (λ x. IsTheReason job.now i flag x) }
     ensures board { board.new ≡ board.old }
 {
-    let Some(open_tx) = job.open_tx(i) else {
-        return Ok(None);
-    };
     match flag {
         Flag::EndorsementPolicyFailure => endorsement_reason(alloc, job, i, open_tx, board),
         Flag::MvccReadConflict => read_reason(alloc, job, i, open_tx, board),
         Flag::PhantomReadConflict => phantom_reason(alloc, job, i, open_tx, board),
         _ => Ok(None),
     }
+}
+
+/// Why candidate i, an open transaction, has its flag.
+pub(crate) fn state_reason(
+    alloc: Global,
+    job: &Job<'_>,
+    i: u32,
+    open_tx: &OpenTx<'_>,
+    board: &mut PlainBoard,
+) -> Result<Option<Reason>, AllocError>
+    requires place { i < length job.now.candidates }
+    requires shown { Shows job.now board.old }
+    requires opened { IsOpened job.now i open_tx.now }
+    ensures value { IfOk result (λ x. IsTheReason job.now i (flag job.now i) x) }
+    ensures board { board.new ≡ board.old }
+{
+    let flag = flag_of(job, i, board);
+    if flag.is_valid() {
+        return Ok(Some(Reason::NoFault));
+    }
+    fault_reason(alloc, job, i, open_tx, flag, board)
 }

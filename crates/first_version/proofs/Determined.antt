@@ -10,6 +10,7 @@ use Rattle.block.specs.Grammar as grammar
 use Rattle.block.specs.Faults as now_faults
 use Rattle.block.specs.first_version.Grammar.{Block, Spells, magic}
 use Rattle.block.specs.first_version.Faults.{HasFault}
+use Rattle.policy.specs.Policies.{Policies}
 use Rattle.policy_eval.specs.Accepts.{Accepts}
 use Rattle.channel.specs.Configuration as channel
 use Rattle.rules.specs.declared.answer.Accepted as now
@@ -122,26 +123,26 @@ one_step_by laws channel accepts old a b bytes (Err r) (Err r') s t p q =
 abbrev kept_of : CommittedBlock → kept.CommittedBlock
 kept_of b = record { bytes = b.bytes; header_hash = b.header_hash; version = V1; flags = b.flags }
 
-abbrev pub world_of : World → world.World
-world_of w = record { state = w.state; history = w.history; first_uses = w.first_uses; blocks = map kept_of w.blocks }
+abbrev pub world_of : Policies → World → world.World
+world_of definitions w = record { state = w.state; history = w.history; first_uses = w.first_uses; definitions = definitions; blocks = map kept_of w.blocks }
 
 abbrev pub channel_of : Configuration → channel.Configuration
-channel_of c = record { name = c.name; definitions = c.definitions }
+channel_of c = record { name = c.name; definitions = c.definitions; admin = None }
 
 seen_again : (bs : List CommittedBlock) → map seen_block (map kept_of bs) ≡ bs
 seen_again [] = refl
 seen_again (b ∷ bs) = ap (λ (l : List CommittedBlock). b ∷ l) (seen_again bs)
 
-seen_world : (w : World) → seen (world_of w) ≡ w
-seen_world w = λ i. record { state = w.state; history = w.history; first_uses = w.first_uses; blocks = seen_again w.blocks i }
+seen_world : (definitions : Policies) (w : World) → seen (world_of definitions w) ≡ w
+seen_world definitions w = λ i. record { state = w.state; history = w.history; first_uses = w.first_uses; blocks = seen_again w.blocks i }
 
 all_first : (bs : List CommittedBlock) (n : ℕ) → unwrap_or (option_map (λ (b : kept.CommittedBlock). b.version) (slice_get (map kept_of bs) n)) V1 ≡ V1
 all_first [] n = refl
 all_first (b ∷ bs) zero = refl
 all_first (b ∷ bs) (suc n) = all_first bs n
 
-is_first : (w : World) → IsFirst (world_of w)
-is_first w = all_first w.blocks (length (map kept_of w.blocks) - 1)
+is_first : (definitions : Policies) (w : World) → IsFirst (world_of definitions w)
+is_first definitions w = all_first w.blocks (length (map kept_of w.blocks) - 1)
 
 -- ---- bytes of version 2 are none of version 1
 
@@ -186,12 +187,12 @@ still_not_memory (Ok a) other e = absurd cc
 still_not_memory (Err r) other e = other (ap refused_now (refused_is r Memory e))
 
 pub some_step_by : (channel : Configuration) (accepts : Accepts) (old : World) (bytes : List ℕ)
-    → Reading bytes → HasAnswerNow (channel_of channel) accepts (world_of old) bytes
+    → Reading bytes → HasAnswerNow (channel_of channel) accepts (world_of channel.definitions old) bytes
     → (x : Result Accepted Refused) × (new : World) × Step channel accepts old bytes x new × (x ≢ Err Memory)
 some_step_by channel accepts old bytes reading (x, new, s, other) = by (second_or_not bytes reading)
   where
     by : IsNoSecond bytes ⊎ IsSecond bytes → HasAnswer channel accepts old bytes
     by (inl none) =
-        let first = step_as_before (channel_of channel) accepts (world_of old) new bytes x s (is_first old) none in
-        (seen_answer x, seen new, subst (λ (w : World). Step channel accepts w bytes (seen_answer x) (seen new)) (seen_world old) first.0, still_not_memory x other)
+        let first = step_as_before (channel_of channel) accepts (world_of channel.definitions old) new bytes x s (is_first channel.definitions old) none in
+        (seen_answer x, seen new, subst (λ (w : World). Step channel accepts w bytes (seen_answer x) (seen new)) (seen_world channel.definitions old) first.0, still_not_memory x other)
     by (inr (rest, e)) = (Err (Malformed BadMagic), old, ((λ behind f. two_magics bytes behind rest f e), refl), λ e. absurd cc)

@@ -1,5 +1,5 @@
 -- That a step of now is one of the first version.
-use Rattle.std.specs.Prelude.{ℕ, List, Result}
+use Rattle.std.specs.Prelude.{◌≡◌, ℕ, List, Result}
 use Rattle.channel.specs.Configuration.{Configuration}
 use Rattle.policy_eval.specs.Accepts.{Accepts}
 use Rattle.rules.specs.declared.answer.Accepted.{Accepted}
@@ -9,8 +9,9 @@ use Rattle.first_version.specs.Seen.{seen_channel, seen, seen_answer, IsFirst, I
 use Rattle.first_version.specs.Step.{Step}
 
 -- Where the world's version is 1 and the bytes don't begin with the magic of version 2: what was answered and the world behind it
--- are what the first version would have answered and made of the same world, and that world's version is 1 too.
+-- are what the first version would have answered and made of the same world, and that world's version is 1 too and its definitions
+-- are those of before.
 abbrev pub StepsAsBefore : Configuration → Accepts → World → List ℕ → Result Accepted Refused → World → Type 0
 StepsAsBefore channel accepts old bytes answer new =
     IsFirst old → IsNoSecond bytes
-    → Step (seen_channel channel) accepts (seen old) bytes (seen_answer answer) (seen new) × IsFirst new
+    → Step (seen_channel channel old.definitions) accepts (seen old) bytes (seen_answer answer) (seen new) × IsFirst new × (new.definitions ≡ old.definitions)

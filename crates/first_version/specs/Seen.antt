@@ -2,6 +2,7 @@
 use Rattle.std.specs.Prelude.{◌≡◌, ◌≢◌, ℕ, List, ◌++◌, map, Result, Ok, Err}
 use Rattle.transaction.specs.declared.block_version.BlockVersion.TheVariants.{V1, V2}
 use Rattle.block.specs.Grammar.{magic_of}
+use Rattle.policy.specs.Policies.{Policies}
 use Rattle.channel.specs.Configuration as channel
 use Rattle.rules.specs.declared.answer.Accepted as now
 use Rattle.rules.specs.declared.answer.Refused.{Refused}
@@ -11,8 +12,9 @@ use Rattle.first_version.specs.Configuration.{Configuration}
 use Rattle.first_version.specs.Answer.{CommittedBlock, Accepted}
 use Rattle.first_version.specs.World.{World}
 
-abbrev pub seen_channel : channel.Configuration → Configuration
-seen_channel c = record { name = c.name; definitions = c.definitions }
+-- a channel, with the definitions of a world
+abbrev pub seen_channel : channel.Configuration → Policies → Configuration
+seen_channel c definitions = record { name = c.name; definitions = definitions }
 
 abbrev pub seen_block : kept.CommittedBlock → CommittedBlock
 seen_block b = record { bytes = b.bytes; header_hash = b.header_hash; flags = b.flags }

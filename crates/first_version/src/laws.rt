@@ -17,14 +17,15 @@ ghost use Rattle.first_version.specs.Step.{Step};
 ghost use Rattle.first_version.specs.World.{World, empty_world};
 
 /// Laws, and no work: where the world's version is 1 and the bytes don't begin with the magic of version 2, a step is one of the
-/// first version, and leaves the version as it is. And so a chain of such strings, from the empty world, is one of the first
-/// version: the same refusals or flags, values, versions, key policies, history, first uses, blocks and header hashes.
+/// first version over the world's definitions, and leaves version and definitions as they are. And so a chain of such strings,
+/// from the empty world of a channel, is one of the first version: the same refusals or flags, values, versions, key policies, history, first uses, blocks and header hashes.
 pub fn first_version_steps_as_before()
     ensures step { (channel : channel.Configuration) (accepts : Accepts) (old new : world.World) (bytes : List ℕ) (answer : Result now.Accepted Refused)
         → step.Step channel accepts old bytes answer new → StepsAsBefore channel accepts old bytes answer new }
     ensures chain { (channel : channel.Configuration) (new : world.World) (submissions : List chain.Submission) (answers : List (Result now.Accepted Refused))
-        → AllByRecursion (λ s. IsNoSecond s.bytes) submissions → chain.Chain channel world.empty_world submissions answers new
-        → Chain (seen_channel channel) empty_world submissions (map seen_answer answers) (seen new) }
+        → AllByRecursion (λ s. IsNoSecond s.bytes) submissions
+        → chain.Chain channel (world.empty_world channel.definitions) submissions answers new
+        → Chain (seen_channel channel channel.definitions) empty_world submissions (map seen_answer answers) (seen new) }
 {}
 
 /// Laws, and no work: the step of the first version is a function, want of memory aside. A world and a string of bytes have one

@@ -1,9 +1,15 @@
--- A taken transaction where its id is used, or new. No public contract cites this.
+-- A taken item in its block, where its id is used, or new. No public contract cites this.
 use Rattle.std.specs.Prelude.{Bool, if◌then◌else◌}
-use Rattle.rules.specs.declared.early_flag.EarlyFlag.TheVariants.{DuplicateTxId}
+use Rattle.rules.specs.declared.early_flag.EarlyFlag.TheVariants.{DuplicateTxId, InvalidConfigTransaction}
 use Rattle.candidates.specs.declared.candidate.Candidate.{Candidate}
-use Rattle.candidates.specs.declared.candidate.Candidate.TheVariants.{Flagged}
+use Rattle.candidates.specs.declared.candidate.Candidate.TheVariants.{Flagged, Opened, Updates}
 use Rattle.intake.specs.declared.taking.Taken.{Taken}
 
-abbrev pub placed : Taken → Bool → Candidate
-placed t used = if used then Flagged DuplicateTxId else t.candidate
+-- beside other items of its block
+abbrev pub beside : Candidate → Candidate
+beside (Flagged flag) = Flagged flag
+beside (Opened open_tx) = Opened open_tx
+beside (Updates update) = Flagged InvalidConfigTransaction
+
+abbrev pub placed : Bool → Taken → Bool → Candidate
+placed alone t used = if used then Flagged DuplicateTxId else (if alone then t.candidate else beside t.candidate)

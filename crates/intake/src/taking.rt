@@ -1,30 +1,33 @@
-//! What can be said of transactions without the world.
-ghost use Rattle.std.specs.Prelude.{◌≡◌, map, None, IfOk};
-ghost use Rattle.transaction.specs.Decoded.{tx_of};
+//! What can be said of items without the world.
+ghost use Rattle.std.specs.Prelude.{◌≡◌, map, true, None, Some, cond, is_some, IfOk};
 ghost use Rattle.transaction.specs.Grammar.{body_bytes};
-ghost use Rattle.transaction.specs.Spelled.{IsSpelled};
+ghost use Rattle.transaction.specs.Items.{item_of};
+ghost use Rattle.transaction.specs.Spelled.{IsSpelled, IsSpelledUpdate};
 ghost use Rattle.policy_eval.specs.Signers.{signers_of};
-ghost use Rattle.rules.specs.Candidate.{flagged, flagged_or, opened};
+ghost use Rattle.policy_eval.specs.UpdateSigners.{update_signers_of};
+ghost use Rattle.rules.specs.declared.early_flag.EarlyFlag.TheVariants.{InvalidConfigTransaction};
+ghost use Rattle.rules.specs.Candidate.{flagged, flagged_or, opened, updates, may_update};
+ghost use Rattle.policy.specs.Meaning.{policy_of};
 ghost use Rattle.candidates.specs.Seen.{seen};
 ghost use Rattle.candidates.specs.SetsFault.{sets_fault};
 ghost use Rattle.intake.specs.Place.{taken_of, shown};
 
-use block_steps::{decoded_tx, origin_fault};
-use candidates::{Candidate, InForm};
-use channel::Channel;
-use policy::Definitions;
-use policy_eval::{Verify, signers_with_body};
+use block_steps::{decoded_item, origin_fault, origin_of};
+use candidates::{Candidate, InForm, OpenUpdate};
+use channel::Configuration;
+use policy::{Definitions, Policy, PolicyFault};
+use policy_eval::{Verify, signers_with_body, update_signers};
 use rules::EarlyFlag;
 use std::alloc::{AllocError, Global};
-use transaction::{Tx, TxId};
+use transaction::{BlockVersion, Item, Tx, TxId, Update};
 use values::Slice;
 
-/// What is known of a place of a block before the ids that are used.
+/// What is known of a place of a block before the ids that are used, and as if its block had no other item.
 #[derive(Drop)]
 pub struct Taken<'a> {
-    /// The id that its transaction uses: none where there is a fault in where it comes from.
+    /// The id that its item uses: none where there is a fault in where it comes from.
     pub id: Option<TxId>,
-    /// What the transaction is where that id is new.
+    /// What the item is where that id is new.
     pub candidate: Candidate<'a>,
 }
 
@@ -50,6 +53,50 @@ fn candidate_of<'a, V: Verify>(
     }
 }
 
+/// The policy of a text, where it spells one.
+fn policy_in(alloc: Global, text: &[u8]) -> Result<Option<Policy>, AllocError>
+    ensures { IfOk result (λ policy. policy ≡ policy_of text.now) }
+{
+    match Policy::parse_bytes(alloc, text) {
+        Ok(policy) => Ok(Some(policy)),
+        Err(PolicyFault::Memory) => Err(AllocError),
+        Err(_) => Ok(None),
+    }
+}
+
+/// The policy of an update that may be asked for: the channel has an admin policy, the chaincode has a policy, and the text spells one.
+fn policy_if_asked(
+    alloc: Global,
+    channel: &Configuration,
+    update: &Update<'_>,
+) -> Result<Option<Policy>, AllocError>
+    ensures may { IfOk result (λ policy. is_some policy ≡ may_update channel.now true update.now) }
+    ensures spelled { IfOk result (λ policy. is_some policy ≡ true → policy ≡ policy_of update.now.policy) }
+{
+    if channel.admin().is_none() || channel.definitions().of(&update.namespace).is_none() {
+        return Ok(None);
+    }
+    policy_in(alloc, update.policy.as_slice())
+}
+
+/// The candidate of an update whose origin is good and whose id is new, as if its block had no other item. Only where it may be
+/// asked for are its endorsers' signatures verified.
+fn update_candidate<'a, V: Verify>(
+    alloc: Global,
+    channel: &Configuration,
+    verifier: &V,
+    update: Update<'a>,
+) -> Result<Candidate<'a>, AllocError>
+    requires { IsSpelledUpdate update }
+    ensures { IfOk result (λ c. seen c ≡ flagged_or (cond (may_update channel.now true update.entry) None (Some InvalidConfigTransaction)) (updates update.entry (update_signers_of (V.accepts verifier.now) update.entry))) }
+{
+    let Some(policy) = policy_if_asked(alloc, channel, &update)? else {
+        return Ok(Candidate::Flagged(EarlyFlag::InvalidConfigTransaction));
+    };
+    let signers = update_signers(alloc, &update, verifier)?;
+    Ok(Candidate::Updates(OpenUpdate::new(update, signers, policy)))
+}
+
 fn without_id<'a>(flag: EarlyFlag) -> Taken<'a>
     ensures { shown result ≡ (None, flagged flag) }
 {
@@ -59,44 +106,49 @@ fn without_id<'a>(flag: EarlyFlag) -> Taken<'a>
     }
 }
 
-/// Takes in one transaction, as [`take_in`] does all of them.
+/// Takes in one item, as [`take_in`] does all of them.
 pub fn take_in_one<'a, V: Verify>(
     alloc: Global,
-    channel: &Channel,
+    channel: &Configuration,
     verifier: &V,
+    version: BlockVersion,
     bytes: &'a [u8],
 ) -> Result<Taken<'a>, AllocError>
-    ensures { IfOk result (λ t. shown t ≡ taken_of channel.now (V.accepts verifier.now) (tx_of bytes.now)) }
+    ensures { IfOk result (λ t. shown t ≡ taken_of channel.now (V.accepts verifier.now) (item_of version bytes.now)) }
 {
-    let Some(tx) = decoded_tx(alloc, bytes)? else {
+    let Some(spelled) = decoded_item(alloc, version, bytes)? else {
         return Ok(without_id(EarlyFlag::BadPayload));
     };
-    if let Some(flag) = origin_fault(channel, verifier, &tx) {
+    if let Some(flag) = origin_fault(channel, verifier, &spelled) {
         return Ok(without_id(flag));
     }
-    let body = tx.body();
-    Ok(Taken {
-        id: Some(tx.tx().id),
-        candidate: candidate_of(alloc, channel.definitions(), verifier, tx.into_tx(), body)?,
-    })
+    let body = spelled.body();
+    let id = Some(*origin_of(spelled.item()).id);
+    let candidate = match spelled.into_item() {
+        Item::Tx(tx) => candidate_of(alloc, channel.definitions(), verifier, tx, body)?,
+        Item::Update(update) => update_candidate(alloc, channel, verifier, update)?,
+    };
+    Ok(Taken { id, candidate })
 }
 
-/// Takes in the transactions of a block, or of any piece of one, in order.
+/// Takes in the items of a block of this version, or of any piece of one, in order.
 ///
 /// In each one test comes after the other up to the first that fails: its grammar, its channel, its creator's signature,
-/// its id, its read and write sets, the chaincodes that it names. Its endorsers' signatures come last, where all these
-/// hold. Fields are lent from the bytes; memory for lists of them, for the keys that are written, and for signers.
+/// its id; of a transaction then its read and write sets and the chaincodes that it names, of an update the channel's admin policy, its
+/// chaincode and its text. Its endorsers' signatures come last, where all these hold. Fields are lent from the bytes; memory for
+/// lists of them, for the keys that are written, for signers, and for an update's policy.
 pub fn take_in<'a, V: Verify>(
     alloc: Global,
-    channel: &Channel,
+    channel: &Configuration,
     verifier: &V,
+    version: BlockVersion,
     txs: &[Slice<'a>],
 ) -> Result<Vec<Taken<'a>>, AllocError>
-    ensures { IfOk result (λ ts. map shown ts.items ≡ map (taken_of channel.now (V.accepts verifier.now)) (map tx_of txs.now)) }
+    ensures { IfOk result (λ ts. map shown ts.items ≡ map (taken_of channel.now (V.accepts verifier.now)) (map (item_of version) txs.now)) }
 {
     let mut all = Vec::with_capacity(alloc, txs.len())?;
     for bytes in txs {
-        all.push(take_in_one(alloc, channel, verifier, bytes.as_slice())?)?;
+        all.push(take_in_one(alloc, channel, verifier, version, bytes.as_slice())?)?;
     }
     Ok(all)
 }

@@ -7,8 +7,9 @@ use Rattle.values.proofs.lent.NameRef.TheSendSync as name_ref
 use Rattle.values.proofs.lent.KeyRef.TheSendSync as key_ref
 use Rattle.transaction.proofs.identity.Identity.TheSendSync as identity
 use Rattle.transaction.proofs.transaction.Tx.TheSendSync as tx
+use Rattle.transaction.proofs.update.Update.TheSendSync as update
 use Rattle.policy_eval.proofs.signer_list.Signers.TheSendSync as signers
-use Rattle.channel.specs.contracts.configuration.Channel as channel
+use Rattle.channel.specs.contracts.configuration.Configuration as configuration
 use Rattle.rules.proofs.Crossing as rules
 use Rattle.rules.proofs.Crossing.{policy_send, policy_sync, definitions_sync}
 use Rattle.state_keys.proofs.state_key.StateKey.TheSendSync as state_key
@@ -27,14 +28,16 @@ pub ruleset crossing = (
   identity.the_sync,
   tx.the_send,
   tx.the_sync,
+  update.the_send,
+  update.the_sync,
   signers.the_send,
   signers.the_sync,
   state_key.the_send,
   state_key.the_sync,
 )
 
-pub channel_sync : IsSync channel.the_row
-channel_sync = search (crossing, definitions_sync) depth 40 fits 100000
+pub configuration_sync : IsSync configuration.the_row
+configuration_sync = search (crossing, policy_sync, definitions_sync) depth 40 fits 100000
 
 candidate_send : (ℓ : NamedLft) → IsSend (candidate.the_field ℓ).row
 candidate_send ℓ = search (crossing, policy_send, policy_sync) depth 40 fits 100000

@@ -1,9 +1,11 @@
-ghost use Rattle.std.specs.Prelude.{◌≡◌, IfOk};
-ghost use Rattle.intake_workers.specs.Pieces.{bytes_in, txs_in};
+ghost use Rattle.std.specs.Prelude.{◌≡◌, map, IfOk};
+ghost use Rattle.transaction.specs.Items.{item_of};
+ghost use Rattle.intake_workers.specs.Pieces.{bytes_in, items_in, txs_in};
 
 use block_steps::DecodedBlock;
 use rules::Refused;
 use std::alloc::{AllocError, Global};
+use transaction::BlockVersion;
 use values::{Bytes, Shared, Slice};
 
 /// What a string of bytes that is handed in spells, or why it spells no block.
@@ -20,6 +22,16 @@ impl<'a> Handed<'a> {
         match &self.block {
             Ok(block) => block.txs(),
             Err(_) => &[],
+        }
+    }
+
+    /// Of which its items are read; of version 1 where it is no block.
+    pub(crate) fn version(&self) -> BlockVersion
+        ensures { map (item_of result) (txs_in self.now.block) ≡ items_in self.now.block }
+    {
+        match &self.block {
+            Ok(block) => block.version(),
+            Err(_) => BlockVersion::V1,
         }
     }
 

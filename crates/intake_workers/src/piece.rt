@@ -1,13 +1,16 @@
-ghost use Rattle.std.specs.Prelude.{◌≡◌, ◌<◌, ◌≤◌, ◌++◌, length, IfOk, OnOk};
-ghost use Rattle.intake_workers.specs.Pieces.{transactions_of, txs_of_all};
+ghost use Rattle.std.specs.Prelude.{◌≡◌, ◌<◌, ◌≤◌, ◌++◌, length, map, IfOk, OnOk};
+ghost use Rattle.transaction.specs.Items.{item_of};
+ghost use Rattle.intake_workers.specs.Pieces.{items_of_pieces, items_of_all};
 
 use crate::handed::Handed;
 use std::alloc::{AllocError, Global};
+use transaction::BlockVersion;
 use values::Slice;
 
-/// Transactions of a block that follow one another, and the place of the first.
+/// Transactions of a block that follow one another, and the place of the first; and the block's version.
 #[derive(Clone, Copy)]
 pub struct Piece<'t, 'a> {
+    pub version: BlockVersion,
     pub start: usize,
     pub txs: &'t [Slice<'a>],
 }
@@ -34,14 +37,19 @@ fn next_len(txs: &[Slice<'_>]) -> usize
 }
 
 // Adds the pieces of one block.
-fn cut_one<'t, 'a>(pieces: &mut Vec<Piece<'t, 'a>>, txs: &'t [Slice<'a>]) -> Result<(), AllocError>
-    ensures { OnOk result (transactions_of pieces.new.items ≡ transactions_of pieces.old.items ++ txs.now) }
+fn cut_one<'t, 'a>(
+    pieces: &mut Vec<Piece<'t, 'a>>,
+    version: BlockVersion,
+    txs: &'t [Slice<'a>],
+) -> Result<(), AllocError>
+    ensures { OnOk result (items_of_pieces pieces.new.items ≡ items_of_pieces pieces.old.items ++ map (item_of version) txs.now) }
 {
     let mut start = 0;
     while start < txs.len() {
         let rest = &txs[start..];
         let count = next_len(rest);
         pieces.push(Piece {
+            version,
             start,
             txs: &rest[..count],
         })?;
@@ -55,11 +63,11 @@ pub(crate) fn cut<'t, 'a>(
     alloc: Global,
     blocks: &'t [Handed<'a>],
 ) -> Result<Vec<Piece<'t, 'a>>, AllocError>
-    ensures { IfOk result (λ pieces. transactions_of pieces.items ≡ txs_of_all blocks.now) }
+    ensures { IfOk result (λ pieces. items_of_pieces pieces.items ≡ items_of_all blocks.now) }
 {
     let mut pieces = Vec::new(alloc);
     for handed in blocks {
-        cut_one(&mut pieces, handed.txs())?;
+        cut_one(&mut pieces, handed.version(), handed.txs())?;
     }
     Ok(pieces)
 }

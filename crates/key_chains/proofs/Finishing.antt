@@ -9,7 +9,7 @@ use Rattle.transaction.specs.declared.transaction.Read.{Read}
 use Rattle.transaction.specs.declared.transaction.NsSet.{NsSet}
 use Rattle.transaction.specs.declared.transaction.Tx.{Tx}
 use Rattle.rules.specs.State.{StateKey, is_same_key, is_among}
-use Rattle.rules.specs.Candidate.{Candidate, flagged, opened}
+use Rattle.rules.specs.Candidate.{Candidate, flagged, opened, updates}
 use Rattle.rules.specs.Job.{touched_by, operated_by}
 use Rattle.rules.specs.Effect.{value_keys_in, policy_keys_in}
 use Rattle.rules.proofs.Booleans.{neither}
@@ -54,11 +54,13 @@ policies_unwritten k (n ∷ ns) e =
 
 untouched : (k : StateKey) (c : Candidate) → is_among k (operated_by c) ≡ false → is_among k (touched_by c) ≡ false
 untouched k (flagged flag) e = refl
+untouched k (updates u signers) e = refl
 untouched k (opened tx signers) e = policies_unwritten k tx.namespaces e
 
 module _ (cs : List Candidate) (k : StateKey) (i : ℕ) where
   pub unwritten : (c : Candidate) → is_among k (operated_by c) ≡ false → ◌≡◌ {A = Option Kind} (kind_by c k) None
   unwritten (flagged flag) e = refl
+  unwritten (updates u signers) e = refl
   unwritten (opened tx signers) e = λ j. kind_from (write_of-unwritten tx k e j) (policy_write_of-unwritten tx k e j)
 
   operations-still : is_among k (operated_by (candidate_in cs i)) ≡ false → operations cs k (suc i) ≡ operations cs k i

@@ -3,8 +3,10 @@ use Rattle.std.proofs.Common.{◌≡◌, ℕ, suc, List, [], ◌∷◌, ◌++◌
 use Rattle.std.specs.Prelude.{flat_map}
 use Rattle.std.proofs.lemmas.List.{append-nil, length-map}
 use Rattle.transaction.specs.declared.transaction.NsSet.{NsSet}
-use Rattle.rules.specs.declared.early_flag.EarlyFlag.{EarlyFlag}
-use Rattle.rules.specs.Candidate.{Candidate, flagged, opened}
+use Rattle.rules.specs.State.{StateKey}
+use Rattle.rules.specs.Candidate.{Candidate, opened}
+use Rattle.rules.specs.Job.{operated_by}
+use Rattle.candidates.specs.Written.{keys_in_order}
 use Rattle.candidates.specs.declared.open_tx.OpenTx.{OpenTx}
 use Rattle.key_chains.specs.declared.chains.Chains.{Chains}
 use Rattle.key_chains.specs.Linked.{chain_in, IsLink}
@@ -16,17 +18,17 @@ use Rattle.key_chains.proofs.Flagged.{no_keys}
 use Rattle.key_chains.proofs.OpenWrites.{keys_are}
 use Rattle.key_chains.proofs.Finishing.{finished, reads_linked, read_of}
 
--- a flagged one
-pub flagged_passes : (cs : List Candidate) (i n m : ℕ) (flag : EarlyFlag) (old new : Chains) → candidate_in cs i ≡ flagged flag → IsBuilt cs i i 0 old → n ≡ length old.reads.items → m ≡ length old.written.items
+-- one that reads and writes nothing
+pub nothing_passes : (cs : List Candidate) (i n m : ℕ) (c : Candidate) (old new : Chains) → candidate_in cs i ≡ c → read_by c ≡ [] → operated_by c ≡ [] → IsBuilt cs i i 0 old → n ≡ length old.reads.items → m ≡ length old.written.items
     → new.first_reads.items ≡ old.first_reads.items ++ n ∷ [] → new.first_written.items ≡ old.first_written.items ++ m ∷ []
     → new.keys ≡ old.keys → new.operations ≡ old.operations → new.policy_writers ≡ old.policy_writers → new.written ≡ old.written → new.reads ≡ old.reads → IsBuilt cs (suc i) (suc i) 0 new
-flagged_passes cs i n m flag old new is b count counted first first_written keys ops pols written reads =
+nothing_passes cs i n m c old new is no_reads no_writes b count counted first first_written keys ops pols written reads =
     finished cs i new (subst (λ (p : ℕ). IsBuilt cs i (suc i) p new) (sym nothing) (reads_linked cs i n m old new [] b count counted first first_written
-    (ap (λ (v : Vec (Option ℕ) Global). map (chain_in old.operations.0) v.items) reads ∙ sym (append-nil (map (chain_in old.operations.0) old.reads.items))) (sym (ap (λ (c : Candidate). map (λ k. operations cs k i) (read_by c)) is))
+    (ap (λ (v : Vec (Option ℕ) Global). map (chain_in old.operations.0) v.items) reads ∙ sym (append-nil (map (chain_in old.operations.0) old.reads.items))) (sym (ap (λ (x : Candidate). map (λ k. operations cs k i) (read_by x)) is ∙ ap (map (λ k. operations cs k i)) no_reads))
     (λ links. subst (λ (v : Vec (Option ℕ) Global). All (IsLink old.operations.0) v.items) (sym reads) links) keys ops pols written))
   where
     nothing : length (keys_written cs i) ≡ 0
-    nothing = ap (λ (c : Candidate). length (written_by c)) is ∙ ap length no_keys
+    nothing = ap (λ (x : Candidate). length (written_by x)) is ∙ ap (λ (ks : List StateKey). length (keys_in_order ks)) no_writes ∙ ap length no_keys
 
 -- an open one, once its reads are linked
 pub reads_pass : (cs : List Candidate) (i n m : ℕ) (o : OpenTx) (old new : Chains) (sets : List NsSet) → candidate_in cs i ≡ opened o.tx o.signers → IsBuilt cs i i 0 old → n ≡ length old.reads.items → m ≡ length old.written.items

@@ -5,7 +5,7 @@ use Rattle.transaction.specs.declared.transaction.PolicyWrite.{PolicyWrite}
 use Rattle.rules.specs.declared.early_flag.EarlyFlag.TheVariants.{BadPayload}
 use Rattle.rules.specs.State.{StateKey}
 use Rattle.rules.specs.Effect.{write_of, policy_write_of}
-use Rattle.rules.specs.Candidate.{Candidate, flagged, opened}
+use Rattle.rules.specs.Candidate.{Candidate, flagged, opened, updates}
 use Rattle.key_chains.specs.declared.operation.Kind.{Kind}
 use Rattle.key_chains.specs.declared.operation.Kind.TheVariants.{Value, Delete, Policy}
 use Rattle.key_chains.specs.declared.operation.Operation.{Operation}
@@ -30,6 +30,7 @@ kind_from None None = None
 -- what a candidate does to a key
 abbrev pub kind_by : Candidate → StateKey → Option Kind
 kind_by (flagged flag) k = None
+kind_by (updates u signers) k = None
 kind_by (opened tx signers) k = kind_from (write_of tx k) (policy_write_of tx k)
 
 abbrev pub operation_at : List Candidate → StateKey → ℕ → List Operation

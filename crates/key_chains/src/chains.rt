@@ -112,6 +112,7 @@ fn add_written_keys<'a>(
 {
     match candidate {
         Candidate::Flagged(_) => Ok(()),
+        Candidate::Updates(_) => Ok(()),
         Candidate::Opened(open_tx) => add_keys(keys, open_tx.written.as_slice()),
     }
 }
@@ -220,6 +221,7 @@ impl<'a> Chains<'a> {
         self.first_written.push(self.written.as_slice().len())?;
         match candidate {
             Candidate::Flagged(_) => Ok(()),
+            Candidate::Updates(_) => Ok(()),
             Candidate::Opened(open_tx) => {
                 link_reads(
                     &mut self.reads,

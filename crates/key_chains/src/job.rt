@@ -5,7 +5,7 @@ ghost use Rattle.block.specs.Limits.{max_txs};
 ghost use Rattle.rules.specs.State.{StateKey, is_among};
 ghost use Rattle.rules.specs.Ranges.{is_within, rows_where};
 ghost use Rattle.rules.specs.Job.{candidate_at, flag_by};
-ghost use Rattle.key_chains.specs.Job.{IsOpened, IsOpen, IsFlagged, read_by, written_by, keys_of, keys_where};
+ghost use Rattle.key_chains.specs.Job.{IsOpened, IsOpen, IsNoOpenTx, read_by, written_by, keys_of, keys_where};
 ghost use Rattle.rules.specs.Candidate.{flagged};
 ghost use Rattle.candidates.specs.Seen.{seen};
 ghost use Rattle.key_chains.specs.Operations.{operations};
@@ -29,6 +29,7 @@ pub struct Job<'a> {
     number: u64,
     state: &'a StateDb,
     definitions: &'a Definitions,
+    admin: Option<&'a Policy>,
     candidates: Vec<Candidate<'a>>,
     chains: Chains<'a>,
     /// The row before the block of each key that it writes, in the keys' order.
@@ -44,12 +45,13 @@ impl<'a> Model for Job<'a> {
     ghost coded = { job_code };
 
     ghost use Rattle.std.specs.Prelude.{◌≤◌, map, length};
+    ghost use Rattle.std.specs.Option.{option_copied};
     ghost use Rattle.block.specs.Limits.{max_txs};
     ghost use Rattle.candidates.specs.Seen.{seen};
     ghost use Rattle.key_chains.specs.Built.{IsBuilt};
     ghost use Rattle.key_chains.specs.WrittenRows.{AreRows};
 
-    ghost view = { λ j. record { number = j.number; state = j.state.now.state; definitions = j.definitions.now; candidates = map seen j.candidates.items } };
+    ghost view = { λ j. record { number = j.number; state = j.state.now.state; definitions = j.definitions.now; admin = option_copied j.admin; candidates = map seen j.candidates.items } };
 
     ghost invariant = { λ j. ((length j.candidates.items ≤ max_txs) × AreRows j.state.now.state j.chains.keys j.rows.items) × IsBuilt (map seen j.candidates.items) (length j.candidates.items) (length j.candidates.items) 0 j.chains };
 }
@@ -86,10 +88,11 @@ impl<'a> Job<'a> {
         number: u64,
         state: &'a StateDb,
         definitions: &'a Definitions,
+        admin: Option<&'a Policy>,
         candidates: Vec<Candidate<'a>>,
     ) -> Result<Job<'a>, AllocError>
         requires { length candidates.items ≤ max_txs }
-        ensures { IfOk result (λ j. j ≡ record { number = number; state = state.entry.now.state; definitions = definitions.entry.now; candidates = map seen candidates.entry.items }) }
+        ensures { IfOk result (λ j. j ≡ record { number = number; state = state.entry.now.state; definitions = definitions.entry.now; admin = option_copied admin.entry; candidates = map seen candidates.entry.items }) }
     {
         let chains = Chains::build(alloc, candidates.as_slice())?;
         let rows = rows_of(alloc, state, chains.keys.as_slice())?;
@@ -97,6 +100,7 @@ impl<'a> Job<'a> {
             number,
             state,
             definitions,
+            admin,
             candidates,
             chains,
             rows,
@@ -118,14 +122,31 @@ impl<'a> Job<'a> {
         self.candidates.as_slice().len() as u32
     }
 
+    /// The candidate of this place. Its reads can be counted.
+    pub fn candidate(&self, i: u32) -> &Candidate<'a>
+        requires { i < length self.now.candidates }
+        ensures value { seen result.now ≡ candidate_at self.now i }
+        ensures reads { length (read_by (candidate_at self.now i)) < 2 ^ 64 }
+    {
+        &self.candidates[i as usize]
+    }
+
+    /// The policy by which definitions are updated, where there is one.
+    pub fn admin(&self) -> Option<&'a Policy>
+        ensures { option_copied result ≡ self.now.admin }
+    {
+        self.admin
+    }
+
     /// The transaction of a candidate that is open. Its reads can be counted.
     pub fn open_tx(&self, i: u32) -> Option<&OpenTx<'a>>
         requires { i < length self.now.candidates }
-        ensures tx { MatchOption (option_copied result) (IsFlagged self.now i) (λ o. IsOpened self.now i o) }
+        ensures tx { MatchOption (option_copied result) (IsNoOpenTx self.now i) (λ o. IsOpened self.now i o) }
         ensures reads { length (read_by (candidate_at self.now i)) < 2 ^ 64 }
     {
-        match &self.candidates[i as usize] {
+        match self.candidate(i) {
             Candidate::Flagged(_) => None,
+            Candidate::Updates(_) => None,
             Candidate::Opened(open_tx) => Some(open_tx),
         }
     }
@@ -135,9 +156,10 @@ impl<'a> Job<'a> {
         requires { i < length self.now.candidates }
         ensures { MatchOption result (IsOpen self.now i) (λ flag. candidate_at self.now i ≡ flagged flag) }
     {
-        match &self.candidates[i as usize] {
+        match self.candidate(i) {
             Candidate::Flagged(flag) => Some(*flag),
             Candidate::Opened(_) => None,
+            Candidate::Updates(_) => None,
         }
     }
 

@@ -1,5 +1,6 @@
 -- What the candidates of the next block change is its delta, and a world with it applied is a step.
-use Rattle.std.proofs.Common.{◌≡◌, ℕ, List, [], length, map, Option, Ok, sym, ap, subst, ◌∙◌}
+use Rattle.std.proofs.Common.{◌≡◌, ℕ, ◌==◌, List, [], length, map, Option, Result, Ok, Err, refl, sym, ap, subst, ◌∙◌}
+use Rattle.std.specs.Prelude.{IfOk, IfErr, OnOk, OnErr}
 use Rattle.std.proofs.lemmas.List.{length-map}
 use Rattle.block.specs.declared.block.Block.{Block}
 use Rattle.block.specs.Grammar.{Spells}
@@ -7,40 +8,47 @@ use Rattle.channel.specs.Configuration.{Configuration}
 use Rattle.header_hash.specs.Hashes.{header_hash_of}
 use Rattle.policy_eval.specs.Accepts.{Accepts}
 use Rattle.rules.specs.declared.answer.Accepted.{Accepted}
+use Rattle.rules.specs.declared.answer.Refused.{Refused}
+use Rattle.rules.specs.declared.answer.Refused.TheVariants.{Memory}
 use Rattle.rules.specs.declared.committed.CommittedBlock.{CommittedBlock}
 use Rattle.rules.specs.declared.delta.Delta.{Delta}
 use Rattle.rules.specs.Candidate.{used_id}
-use Rattle.rules.specs.Commit.{txs_of, job_of, committed_of}
+use Rattle.rules.specs.Commit.{items_of, channel_in, job_of, committed_of}
 use Rattle.rules.specs.Delta.{AreRealChanges, IsDelta, applied, changes_in}
 use Rattle.rules.specs.FirstUses.{with_uses}
+use Rattle.rules.specs.Definitions.{with_definitions}
+use Rattle.rules.specs.Names.{HasNamesOf}
 use Rattle.rules.specs.Job.{Job}
-use Rattle.rules.specs.Linked.{IsLinked}
+use Rattle.rules.specs.Linked.{IsLinked, IsRefused}
 use Rattle.rules.specs.Step.{Step}
 use Rattle.rules.specs.World.{World, height_of}
 use Rattle.rules.proofs.Candidates.{length-candidates_from}
 use Rattle.rules.proofs.Deltas.{committed-is_delta}
+use Rattle.rules.proofs.OpenUpdates.{steps_keep_names}
 use Rattle.ledger.specs.Changes.{Changes}
-use Rattle.ledger.specs.NextDelta.{IsDeltaOfJob, IsNextDelta}
+use Rattle.ledger.specs.Contents.{Contents}
+use Rattle.ledger.specs.NextDelta.{IsDeltaOfJob, IsNextDelta, answer_to}
 
 module _ (channel : Configuration) (accepts : Accepts) (w : World) where
   -- one id or none for each candidate
-  count-ids : (b : Block) (ids : List (Option (List ℕ))) → ids ≡ map (used_id channel accepts) (txs_of b) → length ids ≡ length (job_of channel accepts w (txs_of b)).candidates
-  count-ids b ids are = ap length are ∙ length-map (txs_of b) _ ∙ sym (length-candidates_from channel accepts w.first_uses [] (txs_of b))
+  count-ids : (b : Block) (ids : List (Option (List ℕ))) → ids ≡ map (used_id channel accepts) (items_of b) → length ids ≡ length (job_of channel accepts w (items_of b)).candidates
+  count-ids b ids are = ap length are ∙ length-map (items_of b) _ ∙ sym (length-candidates_from (channel_in channel w) accepts (length (items_of b) == 1) w.first_uses [] (items_of b))
 
-  pub count-job : (b : Block) (j : Job) (ids : List (Option (List ℕ))) → j ≡ job_of channel accepts w (txs_of b) → ids ≡ map (used_id channel accepts) (txs_of b) → length ids ≡ length j.candidates
+  pub count-job : (b : Block) (j : Job) (ids : List (Option (List ℕ))) → j ≡ job_of channel accepts w (items_of b) → ids ≡ map (used_id channel accepts) (items_of b) → length ids ≡ length j.candidates
   count-job b j ids job_is ids_are = count-ids b ids ids_are ∙ ap (λ (k : Job). length k.candidates) (sym job_is)
 
   pub changes-is_delta : (bytes : List ℕ) (b : Block) (j : Job) (ids : List (Option (List ℕ))) (kept : CommittedBlock) (d : Delta)
-      → j ≡ job_of channel accepts w (txs_of b) → ids ≡ map (used_id channel accepts) (txs_of b) → kept ≡ committed_of bytes b j
+      → j ≡ job_of channel accepts w (items_of b) → ids ≡ map (used_id channel accepts) (items_of b) → kept ≡ committed_of bytes b j
       → Changes j ids kept d
-      → IsDelta channel accepts w (txs_of b) (committed_of bytes b (job_of channel accepts w (txs_of b))) d × AreRealChanges w.state (changes_in d.changes)
+      → IsDelta channel accepts w (items_of b) (committed_of bytes b (job_of channel accepts w (items_of b))) d × AreRealChanges w.state (changes_in d.changes)
   changes-is_delta bytes b j ids kept d job_is ids_are kept_is changes =
-      let own = subst (λ (us : List (Option (List ℕ))). Changes (job_of channel accepts w (txs_of b)) us kept d) ids_are (
+      let own = subst (λ (us : List (Option (List ℕ))). Changes (job_of channel accepts w (items_of b)) us kept d) ids_are (
       subst (λ (k : Job). Changes k ids kept d) job_is changes) in (
         record {
           state = own.state;
           history = own.history w.history;
           first_uses = ap (with_uses w.first_uses) own.uses;
+          definitions = ap (with_definitions w.definitions) own.definitions;
           block = own.block ∙ kept_is ∙ ap (committed_of bytes b) job_is;
         },
         own.real,
@@ -48,7 +56,7 @@ module _ (channel : Configuration) (accepts : Accepts) (w : World) where
 
   -- the delta of a job is the next one where the job is that of the next block
   pub is_next : (bytes kept : List ℕ) (b : Block) (j : Job) (ids : List (Option (List ℕ))) (d : Delta)
-      → kept ≡ bytes → Spells bytes b → IsLinked w b → j ≡ job_of channel accepts w (txs_of b) → ids ≡ map (used_id channel accepts) (txs_of b)
+      → kept ≡ bytes → Spells bytes b → IsLinked w b → j ≡ job_of channel accepts w (items_of b) → ids ≡ map (used_id channel accepts) (items_of b)
       → IsDeltaOfJob j ids kept b d → IsNextDelta channel accepts w bytes d
   is_next bytes kept b j ids d same spelled linked job_is ids_are is =
       let both = is channel accepts w job_is ids_are in
@@ -56,7 +64,7 @@ module _ (channel : Configuration) (accepts : Accepts) (w : World) where
         block = b;
         spelled = spelled;
         linked = linked;
-        delta = subst (λ (k : List ℕ). IsDelta channel accepts w (txs_of b) (committed_of k b (job_of channel accepts w (txs_of b))) d) same both.0;
+        delta = subst (λ (k : List ℕ). IsDelta channel accepts w (items_of b) (committed_of k b (job_of channel accepts w (items_of b))) d) same both.0;
         changes = both.1;
       }
 
@@ -66,11 +74,28 @@ module _ (channel : Configuration) (accepts : Accepts) (w : World) where
       → Step channel accepts w bytes (Ok answer) new
   next_delta-step bytes d answer new next answer_is new_is =
       let b = next.block in
-      let kept : CommittedBlock = committed_of bytes b (job_of channel accepts w (txs_of b)) in
+      let kept : CommittedBlock = committed_of bytes b (job_of channel accepts w (items_of b)) in
       let shown : (n : ℕ) → CommittedBlock → Accepted = λ n k. record { number = n; header_hash = k.header_hash; flags = k.flags } in (
         b,
         next.spelled,
         next.linked,
         answer_is ∙ ap (shown (height_of w)) next.delta.block ∙ ap (λ (n : ℕ). shown n kept) (sym next.linked.number),
-        new_is ∙ sym (committed-is_delta channel accepts w (txs_of b) kept d next.delta),
+        new_is ∙ sym (committed-is_delta channel accepts w (items_of b) kept d next.delta),
       )
+
+  -- the world behind the next block has the names of the channel too
+  pub next-names : (bytes : List ℕ) (d : Delta) → HasNamesOf channel w → IsNextDelta channel accepts w bytes d → HasNamesOf channel (applied w d)
+  next-names bytes d names next chaincode =
+      steps_keep_names channel accepts w (applied w d) bytes (Ok (answer_to w d)) chaincode (next_delta-step bytes d (answer_to w d) (applied w d) next refl refl)
+      ∙ names chaincode
+
+-- The same of a ledger, where want of memory may be answered in place of applying the delta.
+pub applying-step : (accepts : Accepts) (old new : Contents) (bytes : List ℕ) (d : Delta) (answer : Result Accepted Refused)
+    → IsNextDelta old.channel accepts old.world bytes d
+    → IfOk answer (λ a. a ≡ answer_to old.world d) → OnOk answer (new ≡ record old { world = applied old.world d })
+    → IfErr answer (λ r. r ≡ Memory) → OnErr answer (new ≡ old)
+    → Step old.channel accepts old.world bytes answer new.world
+applying-step accepts old new bytes d (Ok a) next is made refused same =
+    next_delta-step old.channel accepts old.world bytes d a new.world next is (ap (λ (l : Contents). l.world) made)
+applying-step accepts old new bytes d (Err r) next is made refused same =
+    (subst (λ (x : Refused). IsRefused old.world bytes x) (sym refused) tt, ap (λ (l : Contents). l.world) same)

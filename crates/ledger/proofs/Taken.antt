@@ -7,10 +7,10 @@ use Rattle.channel.specs.Configuration.{Configuration}
 use Rattle.intake.specs.declared.taking.Taken.{Taken}
 use Rattle.intake.specs.Place.{taken_of, shown}
 use Rattle.policy_eval.specs.Accepts.{Accepts}
-use Rattle.rules.specs.Commit.{txs_of}
+use Rattle.rules.specs.Commit.{items_of}
 use Rattle.ledger.specs.Taken.{IsTaken}
 
 pub few : (channel : Configuration) (accepts : Accepts) (bytes : List ℕ) (b : Block) (taken : List Taken) → IsTaken channel accepts bytes b taken → length taken ≤ max_txs
 few channel accepts bytes b taken is =
-    let same = sym (length-map taken shown) ∙ ap length is.taken ∙ length-map (txs_of b) (taken_of channel accepts) ∙ length-map b.txs _ in
+    let same = sym (length-map taken shown) ∙ ap length is.taken ∙ length-map (items_of b) (taken_of channel accepts) ∙ length-map b.txs _ in
     omega (arith, same, is.spelled.count)

@@ -6,9 +6,9 @@ use Rattle.rules.specs.declared.delta.Delta.{Delta}
 use Rattle.rules.specs.declared.delta.NewEntry.{NewEntry}
 use Rattle.rules.specs.State.{with_changes}
 use Rattle.rules.specs.Commit.{uses_from}
-use Rattle.rules.specs.Delta.{AreRealChanges, changes_in, entries_in, uses_in}
+use Rattle.rules.specs.Delta.{AreRealChanges, changes_in, entries_in, uses_in, definitions_in}
 use Rattle.rules.specs.History.{History, with_entries}
-use Rattle.rules.specs.Fold.{final_state, entries_to}
+use Rattle.rules.specs.Fold.{final_state, entries_to, definitions_to}
 use Rattle.rules.specs.Job.{Job}
 
 -- these make of any history what those of the job make of it
@@ -21,4 +21,5 @@ pub record Changes (j : Job) (ids : List (Option (List ℕ))) (kept : CommittedB
   pub real : AreRealChanges j.state (changes_in d.changes)
   pub history : AddEntriesOf j d.entries
   pub uses : uses_in d.uses ≡ uses_from j 0 ids
+  pub definitions : definitions_in d.definitions ≡ definitions_to j (length j.candidates)
   pub block : d.block ≡ kept

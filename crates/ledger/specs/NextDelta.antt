@@ -6,14 +6,15 @@ use Rattle.channel.specs.Configuration.{Configuration}
 use Rattle.intake.specs.declared.taking.Taken.{Taken}
 use Rattle.intake.specs.Place.{taken_of, shown}
 use Rattle.policy_eval.specs.Accepts.{Accepts}
-use Rattle.transaction.specs.declared.transaction.Tx.{Tx}
+use Rattle.transaction.specs.declared.item.Item.{Item}
 use Rattle.rules.specs.declared.answer.Accepted.{Accepted}
 use Rattle.rules.specs.declared.delta.Delta.{Delta}
 use Rattle.rules.specs.Candidate.{used_id}
 use Rattle.rules.specs.Job.{Job}
 use Rattle.rules.specs.World.{World, height_of}
+use Rattle.rules.specs.Names.{HasNamesOf}
 use Rattle.rules.specs.Linked.{IsLinked}
-use Rattle.rules.specs.Commit.{txs_of, job_of, committed_of}
+use Rattle.rules.specs.Commit.{items_of, job_of, committed_of}
 use Rattle.rules.specs.Delta.{AreRealChanges, IsDelta, changes_in}
 
 -- The bytes spell a block that is the next one, and what the delta makes of the world is what that block makes of it. Of the state it
@@ -22,26 +23,28 @@ pub record IsNextDelta (channel : Configuration) (accepts : Accepts) (w : World)
   pub block : Block
   pub spelled : Spells bytes block
   pub linked : IsLinked w block
-  pub delta : IsDelta channel accepts w (txs_of block) (committed_of bytes block (job_of channel accepts w (txs_of block))) d
+  pub delta : IsDelta channel accepts w (items_of block) (committed_of bytes block (job_of channel accepts w (items_of block))) d
   pub changes : AreRealChanges w.state (changes_in d.changes)
 
--- Whatever the verifier and the transactions of which this was taken in, the job is theirs, and the ids are theirs.
+-- Whatever the verifier and the items of which this was taken in, the job is theirs where the world has the names of the
+-- channel, and the ids are theirs.
 abbrev pub IsJobOfTaken : Configuration → World → List Taken → Job → Type 0
 IsJobOfTaken channel w taken j =
-    (accepts : Accepts) (txs : List (Option Tx)) → map shown taken ≡ map (taken_of channel accepts) txs → j ≡ job_of channel accepts w txs
+    HasNamesOf channel w → (accepts : Accepts) (items : List (Option Item)) → map shown taken ≡ map (taken_of channel accepts) items
+    → j ≡ job_of channel accepts w items
 
 abbrev pub AreIdsOfTaken : Configuration → List Taken → List (Option (List ℕ)) → Type 0
 AreIdsOfTaken channel taken ids =
-    (accepts : Accepts) (txs : List (Option Tx)) → map shown taken ≡ map (taken_of channel accepts) txs
-    → ids ≡ map (used_id channel accepts) txs
+    (accepts : Accepts) (items : List (Option Item)) → map shown taken ≡ map (taken_of channel accepts) items
+    → ids ≡ map (used_id channel accepts) items
 
 -- Of whatever world and verifier the job is that of this block, and the ids are its, this is the block's delta, which keeps these
 -- bytes. A step to the former.
 abbrev pub IsDeltaOfJob : Job → List (Option (List ℕ)) → List ℕ → Block → Delta → Type 0
 IsDeltaOfJob j ids bytes b d =
-    (channel : Configuration) (accepts : Accepts) (w : World) → j ≡ job_of channel accepts w (txs_of b)
-    → ids ≡ map (used_id channel accepts) (txs_of b)
-    → IsDelta channel accepts w (txs_of b) (committed_of bytes b (job_of channel accepts w (txs_of b))) d
+    (channel : Configuration) (accepts : Accepts) (w : World) → j ≡ job_of channel accepts w (items_of b)
+    → ids ≡ map (used_id channel accepts) (items_of b)
+    → IsDelta channel accepts w (items_of b) (committed_of bytes b (job_of channel accepts w (items_of b))) d
     × AreRealChanges w.state (changes_in d.changes)
 
 -- what is answered to the block of this delta

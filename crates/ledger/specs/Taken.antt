@@ -1,4 +1,4 @@
--- A block that was taken in: what can be said of its transactions without the world.
+-- A block that was taken in: what can be said of its items without the world.
 use Rattle.std.specs.Prelude.{◌≡◌, ℕ, List, map, Result, MatchResult, Vec}
 use Rattle.std.specs.declared.alloc.Global.{Global}
 use Rattle.block.specs.declared.block.Block.{Block}
@@ -8,14 +8,14 @@ use Rattle.intake.specs.declared.taking.Taken.{Taken}
 use Rattle.intake.specs.Place.{taken_of, shown}
 use Rattle.policy_eval.specs.Accepts.{Accepts}
 use Rattle.rules.specs.declared.answer.Refused.{Refused}
-use Rattle.rules.specs.Commit.{txs_of}
+use Rattle.rules.specs.Commit.{items_of}
 use Rattle.rules.specs.Linked.{IsLinked, IsRefused}
 use Rattle.rules.specs.World.{World}
 
--- the block that the bytes spell, and what can be said of each of its transactions
+-- the block that the bytes spell, and what can be said of each of its items
 pub record IsTaken (channel : Configuration) (accepts : Accepts) (bytes : List ℕ) (b : Block) (places : List Taken) : Type 0 where
   pub spelled : Spells bytes b
-  pub taken : map shown places ≡ map (taken_of channel accepts) (txs_of b)
+  pub taken : map shown places ≡ map (taken_of channel accepts) (items_of b)
 
 -- this, and the block is the next one of the world
 pub record IsNext (channel : Configuration) (accepts : Accepts) (w : World) (bytes : List ℕ) (b : Block)

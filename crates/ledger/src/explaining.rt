@@ -1,15 +1,16 @@
 //! The reasons of the next block.
 ghost use Rattle.std.specs.Prelude.{◌≡◌, ◌≤◌, length, map, Ok, Some, IsSome, IfOk, MatchResult};
 ghost use Rattle.block.specs.Limits.{max_txs};
-ghost use Rattle.transaction.specs.Decoded.{tx_of};
+ghost use Rattle.transaction.specs.Items.{item_of};
 ghost use Rattle.rules.specs.declared.answer.Refused.TheVariants.{Memory};
+ghost use Rattle.rules.specs.Names.{HasNamesOf};
 ghost use Rattle.rules.specs.Linked.{IsRefused};
 ghost use Rattle.key_chains.specs.Shown.{Shows};
 ghost use Rattle.ledger.specs.NextReasons.{AreNextReasons, AreFound};
 
 use crate::next_delta::job_of;
 use crate::serial::take_in_next;
-use channel::Channel;
+use channel::Configuration;
 use explanations::reason_of;
 use key_chains::{Job, PlainBoard};
 use policy_eval::Verify;
@@ -17,15 +18,17 @@ use reasons::{Reason, each_place_has_one_reason};
 use rules::Refused;
 use serial_checks::verdicts;
 use std::alloc::{AllocError, Global};
-use transaction::TxId;
+use transaction::{BlockVersion, TxId};
 use values::{Items, Slice};
 use world::World;
 
-/// The reason of each place of a block, of its job, its ids and all verdicts; none where one has none, which doesn't happen.
+/// The reason of each place of a block of this version, of its job, its ids and all verdicts; none where one has none, which
+/// doesn't happen.
 fn all_reasons(
     alloc: Global,
-    channel: &Channel,
+    channel: &Configuration,
     world: &World,
+    version: BlockVersion,
     txs: &[Slice<'_>],
     job: &Job<'_>,
     ids: &[Option<TxId>],
@@ -35,7 +38,7 @@ fn all_reasons(
     requires ids { length ids.now ≡ length job.now.candidates }
     requires few { length ids.now ≤ max_txs }
     requires shown { Shows job.now board.old }
-    ensures { IfOk result (λ reasons. AreFound channel.now world.now (map tx_of txs.now) job.now ids.now reasons) }
+    ensures { IfOk result (λ reasons. AreFound channel.now world.now (map (item_of version) txs.now) job.now ids.now reasons) }
 {
     each_place_has_one_reason();
     let mut reasons = Vec::with_capacity(alloc, txs.len())?;
@@ -48,6 +51,7 @@ fn all_reasons(
             job,
             ids,
             place,
+            version,
             bytes.as_slice(),
             board,
         )?;
@@ -59,11 +63,12 @@ fn all_reasons(
     Ok(Some(Items::from_vec(reasons)))
 }
 
-/// The reasons of a block's places, of its job and ids.
+/// The reasons of the places of a block of this version, of its job and ids.
 fn found_reasons(
     alloc: Global,
-    channel: &Channel,
+    channel: &Configuration,
     world: &World,
+    version: BlockVersion,
     txs: &[Slice<'_>],
     job: &Job<'_>,
     ids: &[Option<TxId>],
@@ -71,10 +76,10 @@ fn found_reasons(
     requires count { length txs.now ≡ length job.now.candidates }
     requires ids { length ids.now ≡ length job.now.candidates }
     requires few { length ids.now ≤ max_txs }
-    ensures { IfOk result (λ reasons. AreFound channel.now world.now (map tx_of txs.now) job.now ids.now reasons) }
+    ensures { IfOk result (λ reasons. AreFound channel.now world.now (map (item_of version) txs.now) job.now ids.now reasons) }
 {
     let (mut board, _flags) = verdicts(alloc, job)?;
-    all_reasons(alloc, channel, world, txs, job, ids, &mut board)
+    all_reasons(alloc, channel, world, version, txs, job, ids, &mut board)
 }
 
 /// Reasons of which it is known that they are there.
@@ -91,14 +96,23 @@ fn there(found: Result<Option<Items<Reason>>, AllocError>) -> Result<Items<Reaso
 /// Why each transaction of the block of these bytes would have its flag, or why the block would be refused.
 pub(crate) fn next_reasons<V: Verify>(
     alloc: Global,
-    channel: &Channel,
+    channel: &Configuration,
     world: &World,
     bytes: &[u8],
     verifier: &V,
 ) -> Result<Items<Reason>, Refused>
+    requires { HasNamesOf channel.now world.now }
     ensures { MatchResult result (AreNextReasons channel.now (V.accepts verifier.now) world.now bytes.now) (IsRefused world.now bytes.now) }
 {
     let (block, taken) = take_in_next(alloc, channel, world, bytes, verifier)?;
     let (job, ids) = job_of(alloc, channel, world, taken)?;
-    there(found_reasons(alloc, channel, world, block.txs(), &job, ids.as_slice()))
+    there(found_reasons(
+        alloc,
+        channel,
+        world,
+        block.version(),
+        block.txs(),
+        &job,
+        ids.as_slice(),
+    ))
 }

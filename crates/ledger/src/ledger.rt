@@ -3,6 +3,7 @@ ghost use Rattle.rules.specs.declared.answer.Refused.TheVariants.{Memory};
 ghost use Rattle.rules.specs.World.{empty_world};
 ghost use Rattle.rules.specs.Delta.{applied};
 ghost use Rattle.rules.specs.Linked.{IsRefused};
+ghost use Rattle.rules.specs.Names.{HasNamesOf};
 ghost use Rattle.rules.specs.Step.{Step};
 ghost use Rattle.rules.specs.Chain.{Chain};
 ghost use Rattle.first_version.specs.AsBefore.{StepsAsBefore};
@@ -12,7 +13,7 @@ ghost use Rattle.ledger.specs.Submissions.{submissions};
 
 use crate::explaining::next_reasons;
 use crate::serial::next_delta;
-use channel::Channel;
+use channel::{Channel, Configuration};
 use first_version::first_version_steps_as_before;
 use policy_eval::Verify;
 use reasons::Reason;
@@ -27,21 +28,26 @@ use world::World;
 #[derive(Drop)]
 pub struct Ledger {
     alloc: Global,
-    channel: Channel,
+    channel: Configuration,
     world: World,
 }
 
 impl Model for Ledger {
     ghost use Rattle.std.specs.Coded.{codes};
     ghost use Rattle.policy.specs.Policies.{policies_code};
+    ghost use Rattle.policy.specs.Tree.{tree_code};
     ghost use Rattle.rules.specs.Code.{world_code};
+    ghost use Rattle.rules.specs.Names.{HasNamesOf};
     ghost use Rattle.ledger.specs.Contents.{Contents};
 
     ghost Value = { Contents };
 
-    ghost coded = { Prim.hlevel (codes, policies_code, world_code) };
+    ghost coded = { Prim.hlevel (codes, tree_code, policies_code, world_code) };
 
     ghost view = { λ l. record { channel = l.channel; world = l.world } };
+
+    // so that what was taken in by the channel serves any world that comes
+    ghost invariant = { λ l. HasNamesOf l.channel l.world };
 }
 
 /// What is answered to the block of this number.
@@ -59,12 +65,13 @@ impl Ledger {
     /// The ledger of height 0. Takes no memory.
     pub fn open(alloc: Global, channel: Channel) -> Ledger
         ensures channel { result.channel ≡ channel }
-        ensures world { result.world ≡ empty_world }
+        ensures world { result.world ≡ empty_world channel.definitions }
     {
+        let (channel, definitions) = channel.into_parts();
         Ledger {
             alloc,
             channel,
-            world: World::new(alloc),
+            world: World::new(alloc, definitions),
         }
     }
 
@@ -104,12 +111,13 @@ impl Ledger {
         ensures channel { self.new.channel ≡ self.old.channel }
     {
         first_version_steps_as_before();
-        let delta = self.delta(bytes, verifier)?;
+        let delta = next_delta(self.alloc, &self.channel, &self.world, bytes, verifier)?;
         self.apply(&delta)
     }
 
     /// Applies the delta of the next block, and answers to that block. An `Err` has changed nothing.
     fn apply(&mut self, delta: &Delta) -> Result<Accepted, Refused>
+        requires { HasNamesOf self.old.channel (applied self.old.world delta.now) }
         ensures accepted { IfOk result (λ a. a ≡ answer_to self.old.world delta.now) }
         ensures applied { OnOk result (self.new ≡ record self.old { world = applied self.old.world delta.now }) }
         ensures refused { IfErr result (λ refused. refused ≡ Memory) }

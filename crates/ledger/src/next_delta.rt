@@ -1,15 +1,15 @@
 //! What the next block of a ledger makes of it, as a delta.
 ghost use Rattle.std.specs.Prelude.{◌≡◌, ◌≤◌, length, IfOk};
 ghost use Rattle.block.specs.Limits.{max_txs};
-ghost use Rattle.rules.specs.Delta.{AreRealChanges, changes_in};
+ghost use Rattle.rules.specs.Delta.{AreRealChanges, changes_in, definitions_in};
 ghost use Rattle.rules.specs.Fold as fold;
-ghost use Rattle.rules.specs.Fold.{final_state};
+ghost use Rattle.rules.specs.Fold.{final_state, definitions_to};
 ghost use Rattle.rules.specs.State.{with_changes};
 ghost use Rattle.ledger.specs.Changes.{AddEntriesOf, Changes};
 ghost use Rattle.ledger.specs.NextDelta.{AreIdsOfTaken, IsDeltaOfJob, IsJobOfTaken};
 
 use block_steps::{LinkedBlock, uses_of};
-use channel::Channel;
+use channel::Configuration;
 use effects::{Effects, effects_of};
 use header_hash::header_hash;
 use intake::{Taken, candidates_of, ids_of};
@@ -29,7 +29,7 @@ const TX_COUNT: usize = 4;
 /// Memory for lists of ids, marks and candidates, and for what the job has of their keys.
 pub fn job_of<'a>(
     alloc: Global,
-    channel: &'a Channel,
+    channel: &'a Configuration,
     world: &'a World,
     taken: Vec<Taken<'a>>,
 ) -> Result<(Job<'a>, Vec<Option<TxId>>), AllocError>
@@ -44,7 +44,8 @@ pub fn job_of<'a>(
         alloc,
         world.height(),
         world.state(),
-        channel.definitions(),
+        world.definitions(),
+        channel.admin(),
         candidates,
     )?;
     Ok((job, ids))
@@ -67,7 +68,7 @@ fn starts_of(alloc: Global, bytes: usize, txs: &[Slice<'_>]) -> Result<Vec<usize
     Ok(starts)
 }
 
-/// What a job changes of rows and histories, where these transactions stand in the bytes that are kept.
+/// What a job changes of rows, histories and policies, where these transactions stand in the bytes that are kept.
 fn effects_in(
     alloc: Global,
     job: &Job<'_>,
@@ -78,6 +79,7 @@ fn effects_in(
     ensures state { IfOk result (λ e. with_changes job.now.state (changes_in e.changes.items) ≡ final_state job.now) }
     ensures changes { IfOk result (λ e. AreRealChanges job.now.state (changes_in e.changes.items)) }
     ensures history { IfOk result (λ e. AddEntriesOf job.now e.entries.items) }
+    ensures definitions { IfOk result (λ e. definitions_in e.definitions.items ≡ definitions_to job.now (length job.now.candidates)) }
 {
     let starts = starts_of(alloc, block.bytes.get().len(), txs)?;
     effects_of(
@@ -108,6 +110,7 @@ fn changes_of(
         changes: Items::from_vec(effects.changes),
         entries: Items::from_vec(effects.entries),
         uses: Items::from_vec(uses),
+        definitions: Items::from_vec(effects.definitions),
         block,
     })
 }

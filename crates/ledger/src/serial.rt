@@ -3,13 +3,14 @@ ghost use Rattle.std.specs.Prelude.{◌≡◌, ◌≤◌, length, MatchResult};
 ghost use Rattle.block.specs.Grammar.{Spells, bytes_of};
 ghost use Rattle.block.specs.Limits.{max_txs};
 ghost use Rattle.rules.specs.declared.answer.Refused.TheVariants.{Memory};
+ghost use Rattle.rules.specs.Names.{HasNamesOf};
 ghost use Rattle.rules.specs.Linked.{IsLinked, IsRefused};
 ghost use Rattle.ledger.specs.NextDelta.{IsDeltaOfJob, IsNextDelta};
 ghost use Rattle.ledger.specs.Taken.{IsNextTakenIn};
 
 use crate::next_delta::{delta_of, job_of};
 use block_steps::{DecodedBlock, LinkedBlock};
-use channel::Channel;
+use channel::Configuration;
 use intake::{Taken, take_in};
 use key_chains::Job;
 use policy_eval::Verify;
@@ -28,10 +29,10 @@ fn next_block<'b>(alloc: Global, world: &World, bytes: &'b [u8]) -> Result<Linke
     placed.linked(world.version())
 }
 
-/// The next block of a world, and what can be said of its transactions without the world; or why the bytes are refused.
+/// The next block of a world, and what can be said of its items without the world; or why the bytes are refused.
 pub(crate) fn take_in_next<'b, V: Verify>(
     alloc: Global,
-    channel: &Channel,
+    channel: &Configuration,
     world: &World,
     bytes: &'b [u8],
     verifier: &V,
@@ -39,7 +40,7 @@ pub(crate) fn take_in_next<'b, V: Verify>(
     ensures { IsNextTakenIn channel.now (V.accepts verifier.now) world.now bytes.now result }
 {
     let block = next_block(alloc, world, bytes)?;
-    let taken = take_in(alloc, channel, verifier, block.txs())?;
+    let taken = take_in(alloc, channel, verifier, block.version(), block.txs())?;
     Ok((block, taken))
 }
 
@@ -62,11 +63,12 @@ fn delta_in_order(
 /// What the block of these bytes would change, or why it would be refused.
 pub(crate) fn next_delta<V: Verify>(
     alloc: Global,
-    channel: &Channel,
+    channel: &Configuration,
     world: &World,
     bytes: &[u8],
     verifier: &V,
 ) -> Result<Delta, Refused>
+    requires { HasNamesOf channel.now world.now }
     ensures { MatchResult result (IsNextDelta channel.now (V.accepts verifier.now) world.now bytes.now) (IsRefused world.now bytes.now) }
 {
     let (block, taken) = take_in_next(alloc, channel, world, bytes, verifier)?;

@@ -3,6 +3,7 @@
 #![tactic(auto)]
 
 mod buffered;
+mod definition;
 mod draft;
 mod explain;
 mod fault;
@@ -15,6 +16,7 @@ mod scan;
 mod status;
 
 pub use buffered::finish;
+pub use definition::print_definition;
 pub use draft::draft_block;
 pub use explain::print_reasons;
 pub use fault::Fault;

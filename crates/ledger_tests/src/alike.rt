@@ -1,33 +1,36 @@
 //! The ledger over bytes, and over their transactions what has no cleverness: `plain` for the flags and what is behind them,
 //! the rules of linked blocks as they are written, and a list of the blocks that were accepted.
 
-use crate::fixture::{configuration, key, name};
+use crate::fixture::{channel_with, definition_text, key, name};
 use block::{Block, BlockFault, BlockVersion, MAX_TXS, Previous, decode_block};
 use chain_vectors::first_blocks::first_blocks;
 use chain_vectors::later_blocks::later_blocks;
 use chain_vectors::rows::rows;
 use chain_vectors::uses::uses;
 use chain_vectors::{Committed, SaysOk, read_use};
-use channel::Channel;
+use channel::Configuration;
 use commit::{Ledger, Reason};
 use failing::Failed;
 use header_hash::{data_hash, header_hash};
 use policy_eval::Verify;
+use reasons::UpdateFault;
 use rules::{Accepted, CommittedBlock, Flag, HistoryEntry, Refused, Row};
 use std::alloc::{AllocError, Global};
 use transaction::TxId;
-use values::{Bytes, Items, Key, Name, Part, Shared, Slice};
+use values::{Bytes, Items, Key, Name, Part, Shared};
 use world::World;
 
 /// Both, with the same blocks.
 #[derive(Drop)]
 pub struct Pair {
-    channel: Channel,
+    channel: Configuration,
     plain: plain::World,
     accepted: Vec<CommittedBlock>,
     ledger: Ledger,
     // how often each flag was given
     given: [u32; 26],
+    // how often each cause of an update that isn't valid was told
+    faults: [u32; 5],
 }
 
 fn is_same_answer(one: &Result<Accepted, Refused>, other: &Result<Accepted, Refused>) -> bool {
@@ -112,6 +115,27 @@ fn count(given: &mut [u32; 26], flags: &[Flag]) {
     }
 }
 
+fn cause(reason: &Reason) -> Option<usize> {
+    match reason {
+        Reason::InvalidUpdate(UpdateFault::NotAlone) => Some(0),
+        Reason::InvalidUpdate(UpdateFault::NoAdminPolicy) => Some(1),
+        Reason::InvalidUpdate(UpdateFault::NoDefinition { .. }) => Some(2),
+        Reason::InvalidUpdate(UpdateFault::NoPolicy(_)) => Some(3),
+        Reason::InvalidUpdate(UpdateFault::AdminUnsatisfied { .. }) => Some(4),
+        _ => None,
+    }
+}
+
+fn count_faults(faults: &mut [u32; 5], reasons: &[Reason]) {
+    for reason in reasons {
+        if let Some(place) = cause(reason) {
+            if let Some(times) = faults.get_mut(place) {
+                *times = times.saturating_add(1);
+            }
+        }
+    }
+}
+
 fn decoded(alloc: Global, bytes: &[u8]) -> Result<Block<'_>, Refused> {
     match decode_block(alloc, bytes) {
         Ok(block) => Ok(block),
@@ -150,30 +174,39 @@ fn check_linked(world: &World, block: &Block<'_>) -> Result<(), Refused> {
     }
 }
 
-fn flags_of<V: Verify>(
+/// The flags of the next block of `plain`, which takes it.
+pub fn flags_of<V: Verify>(
     alloc: Global,
-    channel: &Channel,
+    channel: &Configuration,
     plain: &mut plain::World,
-    number: u64,
-    txs: &[Slice<'_>],
+    block: &Block<'_>,
     verifier: &V,
 ) -> Result<Items<Flag>, AllocError> {
+    let txs = block.txs.as_slice();
     // no block has more
     if txs.len() > MAX_TXS {
         return Ok(Items::new(alloc));
     }
-    let flags = plain::take_block(alloc, channel, verifier, plain, number, txs)?;
+    let number = block.header.number;
+    let flags = plain::take_block(alloc, channel, verifier, plain, number, block.version, txs)?;
     Ok(Items::from_vec(flags))
 }
 
 impl Pair {
     pub fn open(alloc: Global) -> Result<Pair, Failed> {
+        Pair::of(alloc, "")
+    }
+
+    /// The channel has this line more.
+    pub fn of(alloc: Global, line: &str) -> Result<Pair, Failed> {
+        let (channel, definitions) = channel_with(alloc, line)?.into_parts();
         Ok(Pair {
-            channel: configuration(alloc)?,
-            plain: plain::World::new(alloc),
+            channel,
+            plain: plain::World::new(alloc, definitions),
             accepted: Vec::new(alloc),
-            ledger: Ledger::open(alloc, configuration(alloc)?),
+            ledger: Ledger::open(alloc, channel_with(alloc, line)?),
             given: [0; 26],
+            faults: [0; 5],
         })
     }
 
@@ -185,6 +218,18 @@ impl Pair {
         &self.given
     }
 
+    pub fn faults(&self) -> &[u32; 5] {
+        &self.faults
+    }
+
+    /// Of the last block that was accepted.
+    pub fn last_flags(&self) -> &[Flag] {
+        match self.accepted.last() {
+            None => &[],
+            Some(last) => last.flags.as_slice(),
+        }
+    }
+
     // What is to be answered.
     fn wanted<V: Verify>(
         &mut self,
@@ -194,12 +239,10 @@ impl Pair {
     ) -> Result<Accepted, Refused> {
         let block = decoded(alloc, bytes)?;
         check_linked(self.ledger.view(), &block)?;
-        let number = block.header.number;
-        let txs = block.txs.as_slice();
         Ok(Accepted {
-            number,
+            number: block.header.number,
             header_hash: header_hash(&block.header),
-            flags: flags_of(alloc, &self.channel, &mut self.plain, number, txs, verifier)?,
+            flags: flags_of(alloc, &self.channel, &mut self.plain, &block, verifier)?,
         })
     }
 
@@ -230,7 +273,11 @@ impl Pair {
         verifier: &V,
     ) -> Result<bool, AllocError> {
         let wanted = self.wanted(alloc, bytes, verifier);
-        let is_told = have_flags(&self.ledger.explain(bytes, verifier), &wanted);
+        let told = self.ledger.explain(bytes, verifier);
+        let is_told = have_flags(&told, &wanted);
+        if let Ok(reasons) = &told {
+            count_faults(&mut self.faults, reasons.as_slice());
+        }
         let is_alike = is_same_answer(&self.ledger.submit_one(bytes, verifier), &wanted);
         if let Ok(accepted) = wanted {
             self.keep(alloc, bytes, accepted)?;
@@ -260,6 +307,13 @@ impl Pair {
         let namespace = name(alloc, namespace)?;
         let at = key(alloc, at)?;
         Ok(self.is_same_at(alloc, &namespace, &at)?)
+    }
+
+    /// Whether a chaincode has the same policy, or none in both.
+    pub fn is_alike_in(&self, alloc: Global, chaincode: &[u8]) -> Result<bool, Failed> {
+        let text = definition_text(alloc, self.ledger.view().definitions(), chaincode)?;
+        let wanted = definition_text(alloc, self.plain.definitions(), chaincode)?;
+        Ok(text.as_str() == wanted.as_str())
     }
 
     pub fn is_alike_of(&self, id: &TxId) -> bool {

@@ -12,6 +12,7 @@ use chain_vectors::rows::rows;
 use chain_vectors::uses::uses;
 use chain_vectors::worked_reads::worked_reads;
 use chain_vectors::{Committed, SaysOk, WorkedChain};
+use channel::Channel;
 use commit::{Committer, NotCommitted, QueryHandle};
 use failing::Failed;
 use gates::{Gate, Open, Reverse};
@@ -25,12 +26,12 @@ pub const WORKERS: [usize; 3] = [1, 2, 64];
 
 /// How blocks are handed in: by how many workers, and whether checks go in reverse.
 #[derive(Clone, Copy)]
-struct Way {
-    workers: usize,
-    is_reverse: bool,
+pub struct Way {
+    pub workers: usize,
+    pub is_reverse: bool,
 }
 
-const WAYS: [Way; 6] = [
+pub const WAYS: [Way; 6] = [
     Way {
         workers: 1,
         is_reverse: false,
@@ -63,7 +64,17 @@ pub fn opened<R: Wait>(
     alloc: Global,
     workers: usize,
 ) -> Result<(Committer, Vec<QueryHandle>), Failed> {
-    match Committer::open(alloc, rt, configuration(alloc)?, workers, 1) {
+    opened_of(rt, alloc, configuration(alloc)?, workers)
+}
+
+/// The same of this channel.
+pub fn opened_of<R: Wait>(
+    rt: &R,
+    alloc: Global,
+    channel: Channel,
+    workers: usize,
+) -> Result<(Committer, Vec<QueryHandle>), Failed> {
+    match Committer::open(alloc, rt, channel, workers, 1) {
         Ok(opened) => Ok(opened),
         Err(_) => Err(Failed::Missing("a committer")),
     }
@@ -83,7 +94,7 @@ fn is_committed<R: Threads + Wait + Sync, G: Gate + Sync>(
     }
 }
 
-fn is_committed_in<R: Threads + Wait + Sync>(
+pub fn is_committed_in<R: Threads + Wait + Sync>(
     rt: &R,
     alloc: Global,
     way: Way,

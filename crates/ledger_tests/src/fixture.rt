@@ -4,6 +4,7 @@ use chain_vectors::CHANNEL;
 use channel::{Channel, ChannelFault};
 use commit::Ledger;
 use failing::Failed;
+use policy::Definitions;
 use policy_eval::Verify;
 use rules::{Flag, Refused, Row};
 use std::alloc::{AllocError, Global};
@@ -53,6 +54,25 @@ pub fn are_numbered(flags: &[Flag], numbers: &[u8]) -> bool {
             .all(|(flag, number)| flag.number() == *number)
 }
 
+/// The text of a chaincode's policy, which is empty where it has none.
+pub fn definition_text(
+    alloc: Global,
+    definitions: &Definitions,
+    chaincode: &[u8],
+) -> Result<String, Failed> {
+    let chaincode = name(alloc, chaincode)?;
+    match definitions.of(&chaincode.lend()) {
+        None => Ok(String::new(alloc)),
+        Some(policy) => Ok(policy.text(alloc)?),
+    }
+}
+
+/// The channel of all chains with this line more.
+pub fn channel_with(alloc: Global, line: &str) -> Result<Channel, Failed> {
+    let text = format!(in alloc; "{CHANNEL}{line}")?;
+    Ok(Channel::read(alloc, text.as_str())?)
+}
+
 pub fn configuration(alloc: Global) -> Result<Channel, ChannelFault> {
     Channel::read(alloc, CHANNEL)
 }
@@ -65,9 +85,13 @@ pub struct Peer {
 
 impl Peer {
     pub fn open(alloc: Global) -> Result<Peer, ChannelFault> {
-        Ok(Peer {
-            ledger: Ledger::open(alloc, configuration(alloc)?),
-        })
+        Ok(Peer::of(alloc, configuration(alloc)?))
+    }
+
+    pub fn of(alloc: Global, channel: Channel) -> Peer {
+        Peer {
+            ledger: Ledger::open(alloc, channel),
+        }
     }
 
     pub fn world(&self) -> &World {

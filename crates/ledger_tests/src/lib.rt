@@ -29,6 +29,8 @@ mod random_chains;
 #[cfg(test)]
 mod random_scripts;
 #[cfg(test)]
+mod random_updates;
+#[cfg(test)]
 mod refusals;
 #[cfg(test)]
 mod scripted;
@@ -40,6 +42,14 @@ mod spoiling;
 mod submitting;
 #[cfg(test)]
 mod told;
+#[cfg(test)]
+mod update_chains;
+#[cfg(test)]
+mod update_messages;
+#[cfg(test)]
+mod update_rows;
+#[cfg(test)]
+mod updates;
 #[cfg(test)]
 mod versions;
 #[cfg(test)]

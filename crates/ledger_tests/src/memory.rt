@@ -1,9 +1,13 @@
+use crate::fixture::definition_text;
 use crate::scripted::ScriptedPeer;
 use crate::shown::{is_row, shown};
+use crate::update_rows::FIRST_POLICY;
+use block::BlockVersion;
 use chain_vectors::LeftRow;
 use failing::{Failed, Outcome, begins};
 use rules::Refused;
 use std::alloc::Global;
+use world::World;
 
 const FIRST: &str = "\
 tx Org1:client:c0 n1 cc
@@ -30,6 +34,37 @@ result c 0 0
 endorse Org1:peer:p0
 ";
 
+/// The second block: its version, which the first one has too, its script, its flags, and what it leaves at `k` and as the policy
+/// of `cc`.
+struct Second {
+    version: BlockVersion,
+    script: &'static str,
+    flags: &'static [u8],
+    row: Option<LeftRow>,
+    policy: &'static str,
+}
+
+static TXS: Second = Second {
+    version: BlockVersion::V1,
+    script: THREE,
+    flags: &[0, 0, 0],
+    row: Some(LeftRow {
+        value: b"value",
+        block: 1,
+        tx: 0,
+        policy: "",
+    }),
+    policy: FIRST_POLICY,
+};
+
+static UPDATE: Second = Second {
+    version: BlockVersion::V2,
+    script: "update Org1:client:c0 n2 cc AND('Org1.peer','Org2.peer')\nendorse Org1:peer:p0\n",
+    flags: &[0],
+    row: None,
+    policy: "AND('Org1.peer','Org2.peer')",
+};
+
 // Whether the refusal was want of memory, and left the world as it was shown before, in which `k` isn't written.
 fn is_as_before(
     alloc: Global,
@@ -44,55 +79,71 @@ fn is_as_before(
     )
 }
 
-fn is_behind_both(alloc: Global, peer: &ScriptedPeer) -> Result<bool, Failed> {
-    let row = LeftRow {
-        value: b"value",
-        block: 1,
-        tx: 0,
-        policy: "",
-    };
-    Ok(peer.world().height() == 2 && is_row(alloc, peer.world(), b"cc", b"k", &Some(row))?)
+fn is_policy(alloc: Global, world: &World, policy: &str) -> Result<bool, Failed> {
+    let text = definition_text(alloc, world.definitions(), b"cc")?;
+    Ok(text.as_str() == policy)
+}
+
+fn is_behind_both(alloc: Global, peer: &ScriptedPeer, second: &Second) -> Result<bool, Failed> {
+    Ok(
+        peer.world().height() == 2
+            && is_row(alloc, peer.world(), b"cc", b"k", &second.row)?
+            && is_policy(alloc, peer.world(), second.policy)?,
+    )
 }
 
 // Whether the refused bytes changed nothing, and the same are taken next.
 fn is_made_good(
     alloc: Global,
     peer: &mut ScriptedPeer,
+    second: &Second,
     refused: Refused,
     before: &[u8],
 ) -> Result<bool, Failed> {
     Ok(
         is_as_before(alloc, peer, refused, before)?
-            && peer.is_taken(alloc, THREE, &[0, 0, 0])?
-            && is_behind_both(alloc, peer)?,
+            && peer.is_taken(alloc, second.script, second.flags)?
+            && is_behind_both(alloc, peer, second)?,
     )
 }
 
 fn outcome_of_submit(
     alloc: Global,
     peer: &mut ScriptedPeer,
+    second: &Second,
     before: &[u8],
 ) -> Result<Outcome, Failed> {
-    let block = peer.block(alloc, THREE)?;
+    let block = peer.block(alloc, second.script)?;
     begins(alloc)?;
     match peer.refusal_of(block.as_slice()) {
-        None if is_behind_both(alloc, peer)? => Ok(Outcome::Done),
-        Some(refused) if is_made_good(alloc, peer, refused, before)? => Ok(Outcome::MadeGood),
+        None if is_behind_both(alloc, peer, second)? => Ok(Outcome::Done),
+        Some(refused) if is_made_good(alloc, peer, second, refused, before)? => {
+            Ok(Outcome::MadeGood)
+        }
         _ => Ok(Outcome::Wrong),
     }
 }
 
-fn outcome_by(alloc: Global, peer: &mut ScriptedPeer) -> Result<Outcome, Failed> {
-    if !peer.is_taken(alloc, FIRST, &[0])? {
+fn outcome_by(alloc: Global, peer: &mut ScriptedPeer, second: &Second) -> Result<Outcome, Failed> {
+    if !peer.is_taken(alloc, FIRST, &[0])? || !is_policy(alloc, peer.world(), FIRST_POLICY)? {
         return Ok(Outcome::Wrong);
     }
     let before = shown(alloc, peer.world())?;
-    outcome_of_submit(alloc, peer, &before)
+    outcome_of_submit(alloc, peer, second, &before)
+}
+
+fn outcome_of_second(alloc: Global, second: &Second) -> Result<Outcome, Failed> {
+    let admin = "admin OR('Org1.peer','Org2.peer')\n";
+    let mut peer = ScriptedPeer::with_line(alloc, second.version, admin)?;
+    outcome_by(alloc, &mut peer, second)
 }
 
 pub fn outcome(alloc: Global) -> Result<Outcome, Failed> {
-    let mut peer = ScriptedPeer::open(alloc)?;
-    outcome_by(alloc, &mut peer)
+    outcome_of_second(alloc, &TXS)
+}
+
+pub fn outcome_of_update(alloc: Global) -> Result<Outcome, Failed> {
+    outcome_of_second(alloc, &UPDATE)
 }
 
 // To be tried with memory that is refused at any one allocation of the submit, by `bench/refused_memory.py`: then the world
@@ -100,5 +151,11 @@ pub fn outcome(alloc: Global) -> Result<Outcome, Failed> {
 #[test]
 fn three_transactions(rt: HostRuntime) -> Result<(), Failed> {
     assert!(rt; outcome(rt.alloc())? == Outcome::Done);
+    Ok(())
+}
+
+#[test]
+fn an_update(rt: HostRuntime) -> Result<(), Failed> {
+    assert!(rt; outcome_of_update(rt.alloc())? == Outcome::Done);
     Ok(())
 }

@@ -42,7 +42,6 @@ fn version_at_random(random: &mut Random, world: &World) -> BlockVersion {
     }
 }
 
-// The next block, of which one in ten has a bit of its front changed.
 fn block_at_random(
     alloc: Global,
     random: &mut Random,
@@ -50,13 +49,19 @@ fn block_at_random(
     world: &World,
     nonces: &mut Vec<u8>,
 ) -> Result<Vec<u8>, Failed> {
-    let mut bytes = drafted_at_random(alloc, random, keys, world, nonces)?.into_vec();
+    let block = drafted_at_random(alloc, random, keys, world, nonces)?;
+    Ok(with_other_front(random, block))
+}
+
+/// The bytes of a block, of which one in ten has a bit of its front changed.
+pub fn with_other_front(random: &mut Random, block: Bytes) -> Vec<u8> {
+    let mut bytes = block.into_vec();
     if random.one_of(10) {
         if let Some(byte) = bytes.get_mut(random.below(100) as usize) {
             *byte ^= 1;
         }
     }
-    Ok(bytes)
+    bytes
 }
 
 // Takes 1 to 4 blocks at random, and tells whether they are answered alike.
@@ -75,7 +80,7 @@ fn take_at_random(
     Ok(are_alike)
 }
 
-fn are_keys_alike(alloc: Global, pair: &Pair) -> Result<bool, Failed> {
+pub fn are_keys_alike(alloc: Global, pair: &Pair) -> Result<bool, Failed> {
     for namespace in NAMESPACES {
         for at in KEYS {
             if !pair.is_alike_at(alloc, namespace.as_bytes(), at)? {
@@ -97,8 +102,8 @@ fn push_id(
     Ok(())
 }
 
-// By each nonce, and one that is never drawn, the ids of both creators.
-fn all_ids(alloc: Global) -> Result<Vec<TxId>, AllocError> {
+/// By each nonce, and one that is never drawn, the ids of both creators.
+pub fn all_ids(alloc: Global) -> Result<Vec<TxId>, AllocError> {
     let mut ids = Vec::new(alloc);
     for nonce in 0..=NONCES {
         push_id(alloc, &mut ids, nonce, CREATOR)?;
@@ -107,7 +112,7 @@ fn all_ids(alloc: Global) -> Result<Vec<TxId>, AllocError> {
     Ok(ids)
 }
 
-fn are_uses_alike(pair: &Pair, ids: &[TxId], nonces: &[u8]) -> bool {
+pub fn are_uses_alike(pair: &Pair, ids: &[TxId], nonces: &[u8]) -> bool {
     nonces.iter().all(|nonce| {
         let first = *nonce as usize * 2;
         ids.iter()
@@ -148,7 +153,8 @@ fn is_chain_alike(
     is_alike
 }
 
-fn add(all: &mut [u32; 26], given: &[u32; 26]) {
+/// Adds counts.
+pub fn add(all: &mut [u32], given: &[u32]) {
     for (sum, count) in all.iter_mut().zip(given) {
         *sum = sum.saturating_add(*count);
     }

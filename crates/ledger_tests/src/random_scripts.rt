@@ -257,8 +257,8 @@ fn put_endorsement(
     script.push_str("\n")
 }
 
-// By no peer, by one or by both.
-fn put_endorsements(script: &mut String, random: &mut Random) -> Result<(), AllocError> {
+/// By no peer, by one or by both.
+pub fn put_endorsements(script: &mut String, random: &mut Random) -> Result<(), AllocError> {
     let (first, count) = match random.below(8) {
         0 => (0, 0),
         1 => (1, 1),
@@ -271,13 +271,18 @@ fn put_endorsements(script: &mut String, random: &mut Random) -> Result<(), Allo
     Ok(())
 }
 
+/// Seldom the forger.
+pub fn creator_at_random(random: &mut Random) -> &'static str {
+    CREATORS[if random.one_of(64) { 1 } else { 0 }]
+}
+
 fn put_tx_line(
     alloc: Global,
     script: &mut String,
     random: &mut Random,
     nonce: u8,
 ) -> Result<(), AllocError> {
-    let creator = CREATORS[if random.one_of(64) { 1 } else { 0 }];
+    let creator = creator_at_random(random);
     let chaincode = namespace_at_random(random);
     let line = format!(in alloc; "tx {creator} n{nonce} {chaincode}\n")?;
     script.push_str(line.as_str())
@@ -314,7 +319,8 @@ fn tx_lines(
     Ok(lines)
 }
 
-fn put_tx(
+/// Adds a transaction with this nonce.
+pub fn put_tx(
     alloc: Global,
     script: &mut String,
     random: &mut Random,

@@ -1,6 +1,6 @@
 //! A peer whose blocks are drafted from scripts.
 
-use crate::fixture::{Peer, name};
+use crate::fixture::{Peer, channel_with, name};
 use block::{BlockVersion, Header, decode_block};
 use drafts::draft;
 use failing::Failed;
@@ -72,8 +72,17 @@ impl ScriptedPeer {
     }
 
     pub fn of(alloc: Global, version: BlockVersion) -> Result<ScriptedPeer, Failed> {
+        ScriptedPeer::with_line(alloc, version, "")
+    }
+
+    /// Of the channel that has this line more.
+    pub fn with_line(
+        alloc: Global,
+        version: BlockVersion,
+        line: &str,
+    ) -> Result<ScriptedPeer, Failed> {
         let keys = KeyBook::read(alloc, KEYS)?;
-        let peer = Peer::open(alloc)?;
+        let peer = Peer::of(alloc, channel_with(alloc, line)?);
         Ok(ScriptedPeer {
             peer,
             keys,

@@ -1,6 +1,6 @@
 //! Parts of a world as bytes, which tell one from another.
 
-use crate::fixture::{key, name, policy_text, row_at};
+use crate::fixture::{definition_text, key, name, policy_text, row_at};
 use chain_vectors::rows::rows;
 use chain_vectors::uses::uses;
 use chain_vectors::{Left, LeftRow, Used, read_use};
@@ -135,11 +135,21 @@ fn show_uses(shown: &mut Vec<u8>, world: &World) -> Result<(), AllocError> {
     Ok(())
 }
 
+fn show_definitions(alloc: Global, shown: &mut Vec<u8>, world: &World) -> Result<(), Failed> {
+    for chaincode in [b"cc".as_slice(), b"dd", b"both"] {
+        let text = definition_text(alloc, world.definitions(), chaincode)?;
+        shown.extend_from_slice(text.as_bytes())?;
+        shown.push(b';')?;
+    }
+    Ok(())
+}
+
 fn show_world(alloc: Global, shown: &mut Vec<u8>, world: &World) -> Result<(), Failed> {
     shown.extend_from_slice(&world.height().to_be_bytes())?;
     if let Some(hash) = world.header_hash() {
         shown.extend_from_slice(&hash)?;
     }
+    show_definitions(alloc, shown, world)?;
     for left in rows() {
         let row = row_at(alloc, world, left.namespace, left.key)?;
         show_row(alloc, shown, row)?;
@@ -148,7 +158,7 @@ fn show_world(alloc: Global, shown: &mut Vec<u8>, world: &World) -> Result<(), F
     Ok(show_uses(shown, world)?)
 }
 
-// Height, last header hash, and what is at each key and id that the chain writes, as bytes that tell one
+// Height, last header hash, policies of chaincodes, and what is at each key and id that the chain writes, as bytes that tell one
 // world from another.
 pub fn shown(alloc: Global, world: &World) -> Result<Vec<u8>, Failed> {
     let mut shown = Vec::new(alloc);

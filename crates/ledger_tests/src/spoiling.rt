@@ -1,5 +1,5 @@
-//! Transactions that no script drafts: bytes that spell none, or another channel, id or set under a good signature of the
-//! creator. They are drafted first, then changed and signed anew, and stand in the script as they are.
+//! Transactions and updates that no script drafts: bytes that spell none, or another channel, id or set under a good signature
+//! of the creator. They are drafted first, then changed and signed anew, and stand in the script as they are.
 
 use crate::scripted::drafted;
 use block::{BlockVersion, decode_block};
@@ -7,14 +7,15 @@ use failing::Failed;
 use key_book::KeyBook;
 use random_numbers::Random;
 use std::alloc::{AllocError, Global};
-use transaction::decode_tx;
+use transaction::{Identity, Item, decode_item};
 use values::Bytes;
 
 // The creator's signature behind its length, at the end.
 const SIGNATURE: usize = 34;
 
-fn drafted_tx(alloc: Global, keys: &KeyBook, lines: &str) -> Result<Bytes, Failed> {
-    let block = drafted(alloc, keys, BlockVersion::V1, None, lines)?;
+/// The bytes of the transaction or update of these lines.
+pub fn drafted_tx(alloc: Global, keys: &KeyBook, lines: &str) -> Result<Bytes, Failed> {
+    let block = drafted(alloc, keys, BlockVersion::V2, None, lines)?;
     let block = decode_block(alloc, block.as_slice())?;
     match block.txs.as_slice().first() {
         Some(tx) => Ok(tx.copy(alloc)?),
@@ -32,6 +33,13 @@ fn place_at_random(random: &mut Random, len: usize) -> usize {
     }
 }
 
+fn creator<'s, 'a>(item: &'s Item<'a>) -> &'s Identity<'a> {
+    match item {
+        Item::Tx(tx) => &tx.creator,
+        Item::Update(update) => &update.creator,
+    }
+}
+
 // What the creator of the transaction, as it was drafted, signs the changed bytes with.
 fn signature_anew(
     alloc: Global,
@@ -39,16 +47,17 @@ fn signature_anew(
     tx: &Bytes,
     changed: &[u8],
 ) -> Result<[u8; 32], Failed> {
-    let Ok(tx) = decode_tx(alloc, tx.as_slice()) else {
+    let Ok(tx) = decode_item(alloc, BlockVersion::V2, tx.as_slice()) else {
         return Err(Failed::Missing("a transaction"));
     };
-    match keys.sign(&tx.tx().creator, changed) {
+    match keys.sign(creator(tx.item()), changed) {
         Some(signature) => Ok(signature),
         None => Err(Failed::Missing("a key")),
     }
 }
 
-fn sign_anew(
+/// The creator of the transaction or update, as it was drafted, signs the changed bytes before the signature.
+pub fn sign_anew(
     alloc: Global,
     keys: &KeyBook,
     tx: &Bytes,
@@ -93,6 +102,11 @@ pub fn raw_line(
 ) -> Result<String, Failed> {
     let tx = drafted_tx(alloc, keys, lines)?;
     let bytes = spoiled(alloc, random, keys, &tx)?;
-    let digits = hex::encode(alloc, bytes.as_slice())?;
-    Ok(format!(in alloc; "raw {digits}\n")?)
+    Ok(raw_line_of(alloc, bytes.as_slice())?)
+}
+
+/// The line of a script that has these bytes in the place of a transaction.
+pub fn raw_line_of(alloc: Global, bytes: &[u8]) -> Result<String, AllocError> {
+    let digits = hex::encode(alloc, bytes)?;
+    format!(in alloc; "raw {digits}\n")
 }

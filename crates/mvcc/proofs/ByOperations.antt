@@ -9,7 +9,7 @@ use Rattle.policy.specs.Tree.{Tree}
 use Rattle.rules.specs.declared.row.Row.{Row}
 use Rattle.rules.specs.State.{StateKey, version_in, is_among}
 use Rattle.rules.specs.Effect.{write_of, policy_write_of, row_after, policy_after, policy_left, written_keys}
-use Rattle.rules.specs.Candidate.{Candidate, flagged, opened}
+use Rattle.rules.specs.Candidate.{Candidate, flagged, opened, updates}
 use Rattle.rules.specs.Job.{Job, candidate_at, version_of, operated_by}
 use Rattle.rules.specs.Assignment.{Assignment, version_under}
 use Rattle.rules.specs.Depends.{VersionDepends}
@@ -55,6 +55,7 @@ by_writes counts v None None row = still counts row
 by_candidate : (counts : Bool) (v : Version) (c : Candidate) (k : StateKey) (row : Option Row)
     → version_of_row (cond counts (row_by v c k row) row) ≡ made_where counts (kind_by c k) v (version_of_row row)
 by_candidate counts v (flagged flag) k row = still counts row
+by_candidate counts v (updates u signers) k row = still counts row
 by_candidate counts v (opened tx signers) k row = by_writes counts v (write_of tx k) (policy_write_of tx k) row
 
 -- the operation of one candidate, on top of those of earlier ones
@@ -80,6 +81,7 @@ version_by_operations j k called i = version_under-by_row j k called i ∙ by_ro
 
 writes_where : (c : Candidate) (k : StateKey) (kind : Kind) → kind_by c k ≡ Some kind → is_among k (operated_by c) ≡ true
 writes_where (flagged flag) k kind e = absurd cc
+writes_where (updates u signers) k kind e = absurd cc
 writes_where (opened tx signers) k kind e = by (is_among k (written_keys tx)) refl
   where
     by : (b : Bool) → is_among k (written_keys tx) ≡ b → is_among k (written_keys tx) ≡ true

@@ -76,7 +76,7 @@ fn sets_verdict<B: Board>(
     Decision::Sure(ReadVerdict::Good)
 }
 
-/// What the reads and ranges of candidate i find first; of a flagged one that all is good.
+/// What the reads and ranges of candidate i find first; of a flagged one and of an update, which read nothing, that all is good.
 ///
 /// `Sure` only with the answer that holds whatever the unknown flags before i will be. `Blocked(h)`: h is before i,
 /// writes a key that i looks at, and its flag is unknown; the answer may be the same either way. Where all before i are

@@ -2,5 +2,6 @@ pub mod Worlds
 pub mod Folding
 pub mod InForm
 pub mod RangeChecks
+pub mod Places
 pub mod Steps
 pub mod Histories

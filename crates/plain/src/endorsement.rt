@@ -14,7 +14,8 @@ use policy::{Definitions, Policy};
 use policy_eval::{Signers, satisfied};
 use values::NameRef;
 
-fn meets(signers: &Signers<'_>, policy: Option<&Policy>) -> bool
+/// Whether there is a policy, which these signers satisfy.
+pub(crate) fn meets(signers: &Signers<'_>, policy: Option<&Policy>) -> bool
     ensures { result ≡ meets signers.now (option_copied policy.entry) }
 {
     match policy {

@@ -1,27 +1,30 @@
-//! From a block's transactions to candidates.
-ghost use Rattle.std.specs.Prelude.{◌≡◌, ◌&&◌, ◌++◌, map, option_to_list, Some, [], IfOk, OnOk};
+//! From a block's items to candidates.
+ghost use Rattle.std.specs.Prelude.{◌≡◌, ◌&&◌, ◌++◌, ◌==◌, length, map, option_to_list, Some, [], IfOk, OnOk};
 ghost use Rattle.std.specs.List.{list_all};
 ghost use Rattle.std.specs.FinMap.{contains_key};
-ghost use Rattle.transaction.specs.Decoded.{tx_of};
+ghost use Rattle.transaction.specs.Items.{IsSpelledItem, item_of};
+ghost use Rattle.transaction.specs.declared.item.Item.TheVariants as item;
 ghost use Rattle.std.specs.List.{list_any};
 ghost use Rattle.std.specs.Str.{bytes_eq};
+ghost use Rattle.policy.specs.Meaning.{policy_of};
 ghost use Rattle.policy_eval.specs.Signers.{signers_of};
-ghost use Rattle.transaction.specs.Spelled.{IsSpelled};
+ghost use Rattle.policy_eval.specs.UpdateSigners.{update_signers_of};
+ghost use Rattle.transaction.specs.Spelled.{IsSpelled, IsSpelledUpdate};
 ghost use Rattle.rules.specs.Candidate as candidate;
 ghost use Rattle.plain.specs.Keys.{keys_of};
-ghost use Rattle.plain.specs.Seen.{seen};
+ghost use Rattle.plain.specs.Seen.{seen, channel_with};
 
-use crate::candidate::{Candidate, OpenTx};
+use crate::candidate::{Candidate, OpenTx, OpenUpdate};
 use crate::sets::is_in_form;
 use crate::state_key::{StateKey, written_keys};
 use crate::world::World;
-use block_steps::{decoded_tx, origin_fault};
-use channel::Channel;
-use policy::Definitions;
-use policy_eval::{Verify, signers};
+use block_steps::{decoded_item, origin_fault, origin_of};
+use channel::Configuration;
+use policy::{Definitions, Policy, PolicyFault};
+use policy_eval::{Verify, signers, update_signers};
 use rules::EarlyFlag;
 use std::alloc::{AllocError, Global};
-use transaction::{Tx, TxId};
+use transaction::{BlockVersion, Item, Tx, TxId, Update};
 use values::{NameRef, Slice};
 
 fn is_defined(definitions: &Definitions, namespace: &NameRef<'_>) -> bool
@@ -52,15 +55,17 @@ fn is_all_defined(
 }
 
 /// What the rules that ask for no row say of a transaction whose origin is good.
-fn checked<'a, V: Verify>(
+fn checked_tx<'a, V: Verify>(
     alloc: Global,
-    channel: &Channel,
+    channel: &Configuration,
+    world: &World,
     verifier: &V,
+    alone: bool,
     used: bool,
     tx: Tx<'a>,
 ) -> Result<Candidate<'a>, AllocError>
     requires { IsSpelled tx }
-    ensures { IfOk result (λ c. seen c ≡ candidate.flagged_or (candidate.content_fault channel.now used tx.entry) (candidate.opened tx.entry (signers_of (V.accepts verifier.now) tx.entry))) }
+    ensures { IfOk result (λ c. seen c ≡ candidate.flagged_or (candidate.content_fault (channel_with channel.now world.now) alone used (item.Tx tx.entry)) (candidate.opened tx.entry (signers_of (V.accepts verifier.now) tx.entry))) }
 {
     if used {
         return Ok(Candidate::Flagged(EarlyFlag::DuplicateTxId));
@@ -69,7 +74,7 @@ fn checked<'a, V: Verify>(
         return Ok(Candidate::Flagged(EarlyFlag::BadRwset));
     }
     let written = written_keys(alloc, &tx)?;
-    if !is_all_defined(channel.definitions(), &tx.chaincode, written.as_slice()) {
+    if !is_all_defined(world.definitions(), &tx.chaincode, written.as_slice()) {
         return Ok(Candidate::Flagged(EarlyFlag::InvalidChaincode));
     }
     let signers = signers(alloc, &tx, verifier)?;
@@ -78,6 +83,73 @@ fn checked<'a, V: Verify>(
         signers,
         written,
     }))
+}
+
+/// The policy that an update's text spells, or none.
+fn policy_spelled(alloc: Global, update: &Update<'_>) -> Result<Option<Policy>, AllocError>
+    ensures { IfOk result (λ policy. policy ≡ policy_of update.now.policy) }
+{
+    match Policy::parse_bytes(alloc, update.policy.as_slice()) {
+        Ok(policy) => Ok(Some(policy)),
+        Err(PolicyFault::Memory) => Err(AllocError),
+        Err(_) => Ok(None),
+    }
+}
+
+/// What the rules that ask for no row say of an update whose origin is good, and which is the only item of its block or not.
+fn checked_update<'a, V: Verify>(
+    alloc: Global,
+    channel: &Configuration,
+    world: &World,
+    verifier: &V,
+    alone: bool,
+    used: bool,
+    update: Update<'a>,
+) -> Result<Candidate<'a>, AllocError>
+    requires { IsSpelledUpdate update }
+    ensures { IfOk result (λ c. seen c ≡ candidate.flagged_or (candidate.content_fault (channel_with channel.now world.now) alone used (item.Update update.entry)) (candidate.updates update.entry (update_signers_of (V.accepts verifier.now) update.entry))) }
+{
+    if used {
+        return Ok(Candidate::Flagged(EarlyFlag::DuplicateTxId));
+    }
+    if !alone {
+        return Ok(Candidate::Flagged(EarlyFlag::InvalidConfigTransaction));
+    }
+    if channel.admin().is_none() {
+        return Ok(Candidate::Flagged(EarlyFlag::InvalidConfigTransaction));
+    }
+    if !is_defined(world.definitions(), &update.namespace) {
+        return Ok(Candidate::Flagged(EarlyFlag::InvalidConfigTransaction));
+    }
+    let Some(policy) = policy_spelled(alloc, &update)? else {
+        return Ok(Candidate::Flagged(EarlyFlag::InvalidConfigTransaction));
+    };
+    let signers = update_signers(alloc, &update, verifier)?;
+    Ok(Candidate::Updates(OpenUpdate {
+        update,
+        signers,
+        policy,
+    }))
+}
+
+fn checked<'a, V: Verify>(
+    alloc: Global,
+    channel: &Configuration,
+    world: &World,
+    verifier: &V,
+    alone: bool,
+    used: bool,
+    item: Item<'a>,
+) -> Result<Candidate<'a>, AllocError>
+    requires { IsSpelledItem item }
+    ensures { IfOk result (λ c. seen c ≡ candidate.flagged_or (candidate.content_fault (channel_with channel.now world.now) alone used item.entry) (candidate.open_of (V.accepts verifier.now) item.entry)) }
+{
+    match item {
+        Item::Tx(tx) => checked_tx(alloc, channel, world, verifier, alone, used, tx),
+        Item::Update(update) => checked_update(
+            alloc, channel, world, verifier, alone, used, update,
+        ),
+    }
 }
 
 fn contains(ids: &[TxId], id: &TxId) -> bool
@@ -97,41 +169,51 @@ fn is_used(world: &World, earlier: &[TxId], id: &TxId) -> bool
     world.first_use(id).is_some() || contains(earlier, id)
 }
 
-/// A candidate, with the id that its transaction uses.
+/// A candidate, with the id that its item uses.
 #[derive(Drop)]
 struct Place<'a> {
     candidate: Candidate<'a>,
     id: Option<TxId>,
 }
 
-/// The candidate of one place, behind places that use the earlier ids.
+/// The candidate of one place, behind places that use the earlier ids, in a block that has this one alone or not.
 fn place_of<'a, V: Verify>(
     alloc: Global,
-    channel: &Channel,
+    channel: &Configuration,
     verifier: &V,
     world: &World,
+    version: BlockVersion,
+    alone: bool,
     earlier: &[TxId],
     bytes: &'a [u8],
 ) -> Result<Place<'a>, AllocError>
-    ensures id { IfOk result (λ t. t.id ≡ candidate.used_id channel.now (V.accepts verifier.now) (tx_of bytes.now)) }
-    ensures candidate { IfOk result (λ t. seen t.candidate ≡ candidate.candidate_of channel.now (V.accepts verifier.now) (candidate.is_used world.now.first_uses earlier.now t.id) (tx_of bytes.now)) }
+    ensures id { IfOk result (λ t. t.id ≡ candidate.used_id channel.now (V.accepts verifier.now) (item_of version bytes.now)) }
+    ensures candidate { IfOk result (λ t. seen t.candidate ≡ candidate.candidate_of (channel_with channel.now world.now) (V.accepts verifier.now) alone (candidate.is_used world.now.first_uses earlier.now t.id) (item_of version bytes.now)) }
 {
-    let Some(tx) = decoded_tx(alloc, bytes)? else {
+    let Some(item) = decoded_item(alloc, version, bytes)? else {
         return Ok(Place {
             candidate: Candidate::Flagged(EarlyFlag::BadPayload),
             id: None,
         });
     };
-    if let Some(flag) = origin_fault(channel, verifier, &tx) {
+    if let Some(flag) = origin_fault(channel, verifier, &item) {
         return Ok(Place {
             candidate: Candidate::Flagged(flag),
             id: None,
         });
     }
-    let id = tx.tx().id;
+    let id = *origin_of(item.item()).id;
     let used = is_used(world, earlier, &id);
     Ok(Place {
-        candidate: checked(alloc, channel, verifier, used, tx.into_tx())?,
+        candidate: checked(
+            alloc,
+            channel,
+            world,
+            verifier,
+            alone,
+            used,
+            item.into_item(),
+        )?,
         id: Some(id),
     })
 }
@@ -152,16 +234,18 @@ pub(crate) struct Intake<'a> {
     pub ids: Vec<Option<TxId>>,
 }
 
-/// Takes the transactions of a block in order.
-pub(crate) fn take_in<'a, V: Verify>(
+/// Takes the items of a block of this version in order, which has one alone or not.
+fn taken_in<'a, V: Verify>(
     alloc: Global,
-    channel: &Channel,
+    channel: &Configuration,
     verifier: &V,
     world: &World,
+    version: BlockVersion,
+    alone: bool,
     txs: &[Slice<'a>],
 ) -> Result<Intake<'a>, AllocError>
-    ensures candidates { IfOk result (λ r. map seen r.candidates.items ≡ candidate.candidates_from channel.now (V.accepts verifier.now) world.now.first_uses [] (map tx_of txs.now)) }
-    ensures ids { IfOk result (λ r. r.ids.items ≡ map (candidate.used_id channel.now (V.accepts verifier.now)) (map tx_of txs.now)) }
+    ensures candidates { IfOk result (λ r. map seen r.candidates.items ≡ candidate.candidates_from (channel_with channel.now world.now) (V.accepts verifier.now) alone world.now.first_uses [] (map (item_of version) txs.now)) }
+    ensures ids { IfOk result (λ r. r.ids.items ≡ map (candidate.used_id channel.now (V.accepts verifier.now)) (map (item_of version) txs.now)) }
 {
     let mut candidates = Vec::new(alloc);
     let mut ids = Vec::new(alloc);
@@ -172,6 +256,8 @@ pub(crate) fn take_in<'a, V: Verify>(
             channel,
             verifier,
             world,
+            version,
+            alone,
             earlier.as_slice(),
             bytes.as_slice(),
         )?;
@@ -180,4 +266,20 @@ pub(crate) fn take_in<'a, V: Verify>(
         add_id(&mut earlier, taken.id)?;
     }
     Ok(Intake { candidates, ids })
+}
+
+/// Takes all items of a block of this version.
+pub(crate) fn take_in<'a, V: Verify>(
+    alloc: Global,
+    channel: &Configuration,
+    verifier: &V,
+    world: &World,
+    version: BlockVersion,
+    txs: &[Slice<'a>],
+) -> Result<Intake<'a>, AllocError>
+    ensures candidates { IfOk result (λ r. map seen r.candidates.items ≡ candidate.candidates_from (channel_with channel.now world.now) (V.accepts verifier.now) (length (map (item_of version) txs.now) == 1) world.now.first_uses [] (map (item_of version) txs.now)) }
+    ensures ids { IfOk result (λ r. r.ids.items ≡ map (candidate.used_id channel.now (V.accepts verifier.now)) (map (item_of version) txs.now)) }
+{
+    let alone = txs.len() == 1;
+    taken_in(alloc, channel, verifier, world, version, alone, txs)
 }

@@ -1,4 +1,4 @@
-//! What the transactions of a block make of state, histories and first uses, over plain lists, slow and obvious. Whether a
+//! What the items of a block make of state, histories, first uses and definitions, over plain lists, slow and obvious. Whether a
 //! block is linked, and what is kept of it, is no concern of it. Faster committers are to be compared with it.
 #![tactic(auto)]
 

@@ -1,5 +1,5 @@
 ghost use Rattle.std.specs.Prelude.{◌≡◌, ◌<◌, ◌^◌, length, map, IfOk, OnOk, OnErr};
-ghost use Rattle.transaction.specs.Decoded.{tx_of};
+ghost use Rattle.transaction.specs.Items.{item_of};
 ghost use Rattle.rules.specs.Candidate.{used_id};
 ghost use Rattle.rules.specs.Commit.{job_of, uses_from, committed};
 ghost use Rattle.rules.specs.Delta.{uses_in};
@@ -14,29 +14,32 @@ use crate::fold::{Running, fold};
 use crate::intake::take_in;
 use crate::world::World;
 use block_steps::uses_of;
-use channel::Channel;
+use channel::Configuration;
 use policy_eval::Verify;
 use rules::{Flag, NewUse};
 use std::alloc::{AllocError, Global};
+use transaction::BlockVersion;
 use values::Slice;
 
-/// What the transactions of the next block give, and where their ids are used.
+/// What the items of the next block give, and where their ids are used.
 fn taken<'a, V: Verify>(
     alloc: Global,
-    channel: &Channel,
+    channel: &Configuration,
     verifier: &V,
     world: &World,
     number: u64,
+    version: BlockVersion,
     txs: &[Slice<'a>],
 ) -> Result<(Running<'a>, Vec<NewUse>), AllocError>
     requires { length txs.now < 2 ^ 32 }
-    ensures folded { IfOk result (λ r. IsFolded (next_job channel.now (V.accepts verifier.now) number world.now (map tx_of txs.now)) r.0) }
-    ensures uses { IfOk result (λ r. uses_in r.1.items ≡ uses_from (next_job channel.now (V.accepts verifier.now) number world.now (map tx_of txs.now)) 0 (map (used_id channel.now (V.accepts verifier.now)) (map tx_of txs.now))) }
+    ensures folded { IfOk result (λ r. IsFolded (next_job channel.now (V.accepts verifier.now) number world.now (map (item_of version) txs.now)) r.0) }
+    ensures uses { IfOk result (λ r. uses_in r.1.items ≡ uses_from (next_job channel.now (V.accepts verifier.now) number world.now (map (item_of version) txs.now)) 0 (map (used_id channel.now (V.accepts verifier.now)) (map (item_of version) txs.now))) }
 {
-    let intake = take_in(alloc, channel, verifier, world, txs)?;
+    let intake = take_in(alloc, channel, verifier, world, version, txs)?;
     let folded = fold(
         alloc,
-        channel.definitions(),
+        channel.admin(),
+        world.definitions(),
         world,
         number,
         intake.candidates.as_slice(),
@@ -50,7 +53,7 @@ fn taken<'a, V: Verify>(
     Ok((folded, uses))
 }
 
-/// Takes the transactions of the next block of a channel, and answers their flags. An `Err` changes nothing.
+/// Takes the items of the next block of a channel, which is of this version, and answers their flags. An `Err` changes nothing.
 ///
 /// Whether the block is linked isn't asked: it is the next one of any world that holds this, and whose height is its number.
 ///
@@ -59,18 +62,25 @@ fn taken<'a, V: Verify>(
 /// with all ids, each written key with all touched ones, and whether a list repeats nothing takes its square.
 pub fn take_block<V: Verify>(
     alloc: Global,
-    channel: &Channel,
+    channel: &Configuration,
     verifier: &V,
     world: &mut World,
     number: u64,
+    version: BlockVersion,
     txs: &[Slice<'_>],
 ) -> Result<Vec<Flag>, AllocError>
     requires { length txs.now < 2 ^ 32 }
-    ensures flags { IfOk result (λ flags. (w : definition.World) → IsBefore w number world.old → flags.items ≡ fold.flags (job_of channel.now (V.accepts verifier.now) w (map tx_of txs.now))) }
-    ensures held { OnOk result ((w : definition.World) (kept : CommittedBlock) → IsBefore w number world.old → world.new ≡ held_in (committed channel.now (V.accepts verifier.now) w (map tx_of txs.now) kept)) }
+    ensures flags { IfOk result (λ flags. (w : definition.World) → IsBefore w number world.old → flags.items ≡ fold.flags (job_of channel.now (V.accepts verifier.now) w (map (item_of version) txs.now))) }
+    ensures held { OnOk result ((w : definition.World) (kept : CommittedBlock) → IsBefore w number world.old → world.new ≡ held_in (committed channel.now (V.accepts verifier.now) w (map (item_of version) txs.now) kept)) }
     ensures refused { OnErr result (world.new ≡ world.old) }
 {
-    let (folded, uses) = taken(alloc, channel, verifier, world, number, txs)?;
-    world.add(folded.changes, folded.entries, uses)?;
+    let (folded, uses) = taken(alloc, channel, verifier, world, number, version, txs)?;
+    world.add(
+        alloc,
+        folded.changes,
+        folded.entries,
+        uses,
+        folded.definitions.as_slice(),
+    )?;
     Ok(folded.flags)
 }

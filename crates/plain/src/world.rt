@@ -4,25 +4,28 @@ ghost use Rattle.std.specs.FinMap.{get, empty, find};
 ghost use Rattle.values.specs.Order.{bytes_cmp};
 ghost use Rattle.rules.specs.State.{State, with_changes};
 ghost use Rattle.rules.specs.History.{entries_at};
-ghost use Rattle.rules.specs.Delta.{changes_in, entries_in, uses_in};
+ghost use Rattle.rules.specs.Delta.{changes_in, entries_in, uses_in, definitions_in};
+ghost use Rattle.rules.specs.Definitions.{with_definitions};
 ghost use Rattle.plain.specs.Entries.{entries_for};
-ghost use Rattle.plain.specs.Held.{held_after, nothing};
+ghost use Rattle.plain.specs.Held.{held_after, nothing_but};
 ghost use Rattle.plain.specs.Keys.{key_of};
 
 use crate::state_key::StateKey;
-use rules::{Change, FirstUse, HistoryEntry, NewEntry, NewUse, Row};
+use policy::Definitions;
+use rules::{Change, FirstUse, HistoryEntry, NewDefinition, NewEntry, NewUse, Row};
 use std::alloc::{AllocError, Global};
 use std::marker::Model;
 use transaction::TxId;
 use values::{Key, Name, Shared};
 
-/// All changes, entries and uses of ids that blocks ever made. A contract sees the state, the history and the first uses
-/// that they make.
+/// All changes, entries and uses of ids that blocks ever made, and the policies of chaincodes. A contract sees the state, the
+/// history and the first uses that they make.
 #[derive(Drop)]
 pub struct World {
     changes: Vec<Change>,
     entries: Vec<Shared<NewEntry>>,
     uses: Vec<NewUse>,
+    definitions: Definitions,
 }
 
 impl Model for World {
@@ -33,9 +36,9 @@ impl Model for World {
     ghost coded = { held_code };
 
     ghost use Rattle.rules.specs.Delta.{changes_in, entries_in, uses_in};
-    ghost use Rattle.plain.specs.Held.{held_after, nothing};
+    ghost use Rattle.plain.specs.Held.{made_of};
 
-    ghost view = { λ w. held_after nothing (changes_in w.changes.items) (entries_in w.entries.items) (uses_in w.uses.items) };
+    ghost view = { λ w. made_of w.definitions (changes_in w.changes.items) (entries_in w.entries.items) (uses_in w.uses.items) };
 }
 
 /// The row of a key once the changes are made, where it is `before` without them.
@@ -92,16 +95,39 @@ fn append_reserved<T: Drop>(all: &mut Vec<T>, mut more: Vec<T>)
     let _ = all.append(&mut more);
 }
 
+/// A copy of the policies of chaincodes, with others in the place of some.
+fn definitions_after(
+    alloc: Global,
+    definitions: &Definitions,
+    more: &[NewDefinition],
+) -> Result<Definitions, AllocError>
+    ensures { IfOk result (λ after. after ≡ with_definitions definitions.now (definitions_in more.now)) }
+{
+    let mut after = definitions.copy(alloc)?;
+    for new in more {
+        after.set(&new.chaincode, new.policy.get().copy(alloc)?)?;
+    }
+    Ok(after)
+}
+
 impl World {
-    /// The world before all blocks. Takes no memory.
-    pub fn new(alloc: Global) -> World
-        ensures { result ≡ nothing }
+    /// The world before all blocks, where chaincodes have these policies. Takes no memory.
+    pub fn new(alloc: Global, definitions: Definitions) -> World
+        ensures { result ≡ nothing_but definitions }
     {
         World {
             changes: Vec::new(alloc),
             entries: Vec::new(alloc),
             uses: Vec::new(alloc),
+            definitions,
         }
+    }
+
+    /// The policies of chaincodes.
+    pub fn definitions(&self) -> &Definitions
+        ensures { result.now ≡ self.now.definitions }
+    {
+        &self.definitions
     }
 
     /// What the state has at a key. Linear in all changes that were ever made.
@@ -153,13 +179,16 @@ impl World {
     /// Adds what a block has given. An `Err` changes nothing.
     pub(crate) fn add(
         &mut self,
+        alloc: Global,
         changes: Vec<Change>,
         entries: Vec<Shared<NewEntry>>,
         uses: Vec<NewUse>,
+        definitions: &[NewDefinition],
     ) -> Result<(), AllocError>
-        ensures ok { OnOk result (self.new ≡ held_after self.old (changes_in changes.items) (entries_in entries.items) (uses_in uses.items)) }
+        ensures ok { OnOk result (self.new ≡ held_after self.old (changes_in changes.items) (entries_in entries.items) (uses_in uses.items) (definitions_in definitions.now)) }
         ensures err { OnErr result (self.new ≡ self.old) }
     {
+        let after = definitions_after(alloc, &self.definitions, definitions)?;
         self.changes.reserve(changes.len())?;
         self.entries.reserve(entries.len())?;
         self.uses.reserve(uses.len())?;
@@ -167,6 +196,7 @@ impl World {
         append_reserved(&mut self.changes, changes);
         append_reserved(&mut self.entries, entries);
         append_reserved(&mut self.uses, uses);
+        self.definitions = after;
         Ok(())
     }
 }

@@ -4,6 +4,7 @@ use Rattle.std.specs.Prelude.{◌≡◌, ℕ, List, Option, Some, None}
 use mathlib.Core.Option.{some}
 use mathlib.Core.List.{IsPrefix}
 use lib.ListN.{get_elem?}
+use Rattle.std.specs.FinMap.{empty}
 use Rattle.logbook.specs.Pages.{Book}
 use Rattle.rules.specs.World.{World, empty_world}
 use Rattle.rules.specs.Delta.{applied}
@@ -19,7 +20,7 @@ View = Option Told
 -- any world will do where nothing was told
 abbrev pub base_of : View → World
 base_of (Some told) = told.base
-base_of None = empty_world
+base_of None = empty_world empty
 
 abbrev pub absorbed : Shown → Entry → Shown
 absorbed x e = record { world = applied x.world e.delta; front = e.front }

@@ -1,9 +1,11 @@
 //! What queries answer.
-ghost use Rattle.std.specs.Prelude.{◌≡◌};
+ghost use Rattle.std.specs.Prelude.{◌≡◌, IfOk};
+ghost use Rattle.policy.specs.Text.{text_of};
 ghost use Rattle.query.specs.declared.answers.QueryFault.TheVariants.{Memory};
 
+use policy::Policy;
 use rules::KeyedRow;
-use std::alloc::AllocError;
+use std::alloc::{AllocError, Global};
 use std::marker::Model;
 use thiserror::Error;
 use values::{Hash, Items};
@@ -43,6 +45,37 @@ impl Model for RangeRows {
     ghost coded = { range_code };
 
     ghost view = { λ r. record { rows = r.rows; more = r.more } };
+}
+
+/// The canonical text of a policy. A contract sees its bytes.
+#[derive(Debug, Drop)]
+pub struct PolicyText {
+    text: String,
+}
+
+impl Model for PolicyText {
+    ghost use Rattle.std.specs.Prelude.{ℕ, List, string_bytes};
+
+    ghost Value = { List ℕ };
+
+    ghost view = { λ t. string_bytes t.text };
+}
+
+impl PolicyText {
+    /// The text of this policy. Linear in it, in time and memory.
+    pub(crate) fn of(alloc: Global, policy: &Policy) -> Result<PolicyText, AllocError>
+        ensures { IfOk result (λ text. text ≡ text_of policy.now) }
+    {
+        Ok(PolicyText {
+            text: policy.text(alloc)?,
+        })
+    }
+
+    pub fn as_str(&self) -> &str
+        ensures { result.now ≡ self.now }
+    {
+        self.text.as_str()
+    }
 }
 
 /// Why a query has no answer. The handle stays as it was.

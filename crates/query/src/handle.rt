@@ -1,14 +1,16 @@
 //! The handles by which threads query.
 ghost use Rattle.std.specs.Prelude.{◌≡◌, IfOk, OnOk, OnErr};
 ghost use Rattle.left_right.specs.Sides.{view};
-ghost use Rattle.rules.specs.Answers.{reply, row_answer, range_answer, history_answer, first_use_answer, block_answer, height_answer};
+ghost use Rattle.rules.specs.Answers.{reply, row_answer, range_answer, history_answer, first_use_answer, definition_answer, block_answer, height_answer};
 ghost use Rattle.query.specs.Published.{GoesOn, Learns, watched_world};
 ghost use Rattle.query.specs.Rule.{IsTold};
 
-use crate::answers::{QueryFault, RangeRows, Reply};
+use crate::answers::{PolicyText, QueryFault, RangeRows, Reply};
 use crate::asking;
 use crate::front::Front;
-use crate::question::{BlockOf, FirstUseOf, Height, HistoryOf, Question, RowAt, RowsIn};
+use crate::question::{
+    BlockOf, DefinitionOf, FirstUseOf, Height, HistoryOf, Question, RowAt, RowsIn,
+};
 use crate::receipt::Receipt;
 use crate::shown::{Shown, ShownReader};
 use rules::{CommittedBlock, FirstUse, HistoryEntry, Row};
@@ -143,6 +145,23 @@ impl QueryHandle {
         ensures err { OnErr result (self.new ≡ self.old) }
     {
         self.ask(FirstUseOf { id: *id })
+    }
+
+    /// The canonical text of a chaincode's policy, if it has one. Logarithmic in the number of chaincodes, and linear in the text.
+    pub fn definition(
+        &mut self,
+        alloc: Global,
+        chaincode: &NameRef<'_>,
+    ) -> Result<Reply<Option<PolicyText>>, QueryFault>
+        ensures goes_on { OnOk result (GoesOn self.old self.new) }
+        ensures reply { IfOk result (λ r. r ≡ reply (watched_world self.new) (definition_answer (watched_world self.new) chaincode.now)) }
+        ensures err { OnErr result (self.new ≡ self.old) }
+    {
+        let question = DefinitionOf {
+            alloc,
+            chaincode: chaincode.again(),
+        };
+        self.ask(question)
     }
 
     /// The block of a number, if there is one. Its flags are copied.

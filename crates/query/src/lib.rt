@@ -13,7 +13,7 @@ mod question;
 mod receipt;
 mod shown;
 
-pub use answers::{QueryFault, RangeRows, Reply};
+pub use answers::{PolicyText, QueryFault, RangeRows, Reply};
 pub use front::Front;
 pub use handle::QueryHandle;
 pub use opening::{MAX_READERS, OpenFault, open};

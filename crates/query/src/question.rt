@@ -2,7 +2,7 @@
 ghost use Rattle.std.specs.Prelude.{◌≡◌, IfOk};
 ghost use Rattle.rules.specs.Answers.{range_answer};
 
-use crate::answers::RangeRows;
+use crate::answers::{PolicyText, RangeRows};
 use crate::copies::{copied_block, copied_entries, copied_rows};
 use block_steps::share_row;
 use rules::{CommittedBlock, FirstUse, HistoryEntry, Row};
@@ -120,6 +120,27 @@ impl Question for FirstUseOf {
 
     fn ask(&self, world: &World) -> Result<Option<FirstUse>, AllocError> {
         Ok(world.first_use(&self.id))
+    }
+}
+
+#[derive(Drop)]
+pub(crate) struct DefinitionOf<'a> {
+    pub alloc: Global,
+    pub chaincode: NameRef<'a>,
+}
+
+impl<'a> Question for DefinitionOf<'a> {
+    ghost use Rattle.rules.specs.Answers.{definition_answer};
+
+    type Answer = Option<PolicyText>;
+
+    ghost answer_in = { λ q w. definition_answer w q.chaincode };
+
+    fn ask(&self, world: &World) -> Result<Option<PolicyText>, AllocError> {
+        match world.definitions().of(&self.chaincode) {
+            None => Ok(None),
+            Some(policy) => Ok(Some(PolicyText::of(self.alloc, policy)?)),
+        }
     }
 }
 

@@ -3,7 +3,8 @@
 use crate::alike::{is_of, is_same_block, is_same_entry, is_same_keyed_row, is_same_row};
 use crate::blocks::{bound, key, name};
 use failing::{Failed, check};
-use query::{QueryHandle, RangeRows, Reply};
+use policy::Policy;
+use query::{PolicyText, QueryHandle, RangeRows, Reply};
 use rules::{CommittedBlock, HistoryEntry, Row};
 use std::alloc::{AllocError, Global};
 use transaction::TxId;
@@ -158,6 +159,31 @@ pub fn check_block(
 pub fn check_use(handle: &mut QueryHandle, world: &World, id: &TxId) -> Result<(), Failed> {
     let reply = handle.flag_of(id)?;
     check(is_of(&reply, world) && reply.answer == world.first_use(id))
+}
+
+fn has_text(
+    alloc: Global,
+    answer: &Option<PolicyText>,
+    policy: Option<&Policy>,
+) -> Result<bool, AllocError> {
+    match (answer, policy) {
+        (None, None) => Ok(true),
+        (Some(text), Some(policy)) => Ok(text.as_str() == policy.text(alloc)?.as_str()),
+        _ => Ok(false),
+    }
+}
+
+/// Wants a chaincode's policy answered alike.
+pub fn check_definition(
+    alloc: Global,
+    handle: &mut QueryHandle,
+    world: &World,
+    chaincode: &[u8],
+) -> Result<(), Failed> {
+    let chaincode = name(chaincode)?;
+    let reply = handle.definition(alloc, &chaincode)?;
+    check(is_of(&reply, world))?;
+    check(has_text(alloc, &reply.answer, world.definitions().of(&chaincode))?)
 }
 
 /// Wants the height answered alike.

@@ -1,5 +1,7 @@
 //! Blocks that scripts draft, one behind the other, and what each changes.
-ghost use Rattle.std.specs.Prelude.{◌+◌, ◌<◌, ◌^◌, IfOk, IfSome};
+ghost use Rattle.std.specs.Prelude.{◌≡◌, ◌+◌, ◌<◌, ◌^◌, IfOk, IfSome};
+ghost use Rattle.std.specs.FinMap.{empty};
+ghost use Rattle.rules.specs.World.{empty_world};
 
 use block::{BlockVersion, Header, decode_block};
 use channel::{Channel, ChannelFault};
@@ -7,13 +9,18 @@ use commit::{Accepted, Ledger, Refused};
 use drafts::draft;
 use failing::Failed;
 use key_book::KeyBook;
+use policy::Definitions;
 use rules::Delta;
 use std::alloc::Global;
 use values::{BoundRef, Bytes, Hash, KeyRef, Name, NameRef, is_bound, is_key, is_name};
 use world::World;
 
-const CHANNEL: &str =
-    "channel ch\nchaincode cc OR('Org1.peer','Org2.peer')\nchaincode dd OR('Org1.peer')\n";
+const CHANNEL: &str = "\
+channel ch
+chaincode cc OR('Org1.peer','Org2.peer')
+chaincode dd OR('Org1.peer')
+admin OR('Org1.peer','Org2.peer')
+";
 
 const KEYS: &str = "Org1:client:c0 11\nOrg1:peer:p0 22\nOrg2:peer:q0 33\n";
 
@@ -34,6 +41,22 @@ pub fn key(bytes: &[u8]) -> Result<KeyRef<'_>, Failed> {
 /// The channel of all blocks.
 pub fn configuration(alloc: Global) -> Result<Channel, ChannelFault> {
     Channel::read(alloc, CHANNEL)
+}
+
+/// The world of height 0 of a channel without chaincodes.
+pub fn empty_world(alloc: Global) -> World
+    ensures { result ≡ empty_world empty }
+{
+    World::new(alloc, Definitions::new(alloc))
+}
+
+/// The world of height 0 of the channel of all blocks, twice.
+pub fn first_worlds(alloc: Global) -> Result<(World, World), Failed>
+    ensures { IfOk result (λ worlds. worlds.0 ≡ worlds.1) }
+{
+    let (_, definitions) = configuration(alloc)?.into_parts();
+    let copy = definitions.copy(alloc)?;
+    Ok((World::new(alloc, definitions), World::new(alloc, copy)))
 }
 
 pub fn bound(bytes: &[u8]) -> Result<BoundRef<'_>, Failed> {

@@ -1,7 +1,8 @@
 //! To be tried with memory that is refused at any one allocation, by `bench/refused_memory.py`: a committer of two workers then
 //! refuses the block and takes the same bytes next, or has stopped, and handles answer the height from before.
 
-use crate::blocks::{Drafter, configuration};
+use crate::blocks::{Drafter, configuration, name};
+use block::BlockVersion;
 use commit::{Committer, NotCommitted, QueryHandle, Receipt, Refused};
 use failing::{Failed, Outcome, begins};
 use gates::Open;
@@ -9,8 +10,9 @@ use std::alloc::Global;
 use std::sync::Wait;
 use std::thread::Threads;
 use values::{Bytes, Hash};
+use world::World;
 
-const SCRIPTS: [&str; 4] = [
+const WRITES: [&str; 4] = [
     "tx Org1:client:c0 n1 cc\nns cc\nwrite a v\nwrite c v\nendorse Org1:peer:p0\n",
     "\
 tx Org1:client:c0 n2 cc
@@ -31,30 +33,71 @@ endorse Org1:peer:p0
     "tx Org1:client:c0 n6 cc\nns cc\ndelete k\nendorse Org1:peer:p0\n",
 ];
 
+// The second block is an update.
+const UPDATES: [&str; 4] = [
+    "tx Org1:client:c0 n1 cc\nns cc\nwrite a v\nwrite c v\nendorse Org1:peer:p0\n",
+    "update Org1:client:c0 n2 cc AND('Org1.peer','Org2.peer')\nendorse Org1:peer:p0\n",
+    "tx Org1:client:c0 n3 cc\nns cc\nwrite k v\nendorse Org1:peer:p0\n",
+    "update Org1:client:c0 n4 cc 'Org2.peer'\nendorse Org2:peer:q0\n",
+];
+
 const HANDLES: usize = 3;
 
-/// Blocks, the header hash of each, and who signs.
+/// Blocks, the header hash of each, the policy of `cc` at each height, and who signs.
 #[derive(Drop)]
 struct Story {
+    alloc: Global,
     drafter: Drafter,
     blocks: Vec<Bytes>,
     hashes: Vec<Hash>,
+    policies: Vec<String>,
+}
+
+fn policy_in(alloc: Global, world: &World) -> Result<String, Failed> {
+    match world.definitions().of(&name(b"cc")?) {
+        Some(policy) => Ok(policy.text(alloc)?),
+        None => Err(Failed::Missing("a policy")),
+    }
+}
+
+// Whether the policy of `cc` is answered from this height, and is this one.
+fn is_policy(
+    alloc: Global,
+    handle: &mut QueryHandle,
+    height: usize,
+    policy: &str,
+) -> Result<bool, Failed> {
+    let reply = handle.definition(alloc, &name(b"cc")?)?;
+    match &reply.answer {
+        Some(text) => Ok(reply.height == height as u64 && text.as_str() == policy),
+        None => Ok(false),
+    }
 }
 
 impl Story {
     fn open(alloc: Global) -> Result<Story, Failed> {
         Ok(Story {
+            alloc,
             drafter: Drafter::open(alloc)?,
             blocks: Vec::new(alloc),
             hashes: Vec::new(alloc),
+            policies: Vec::new(alloc),
         })
     }
 
-    fn add_all(&mut self) -> Result<(), Failed> {
-        for script in SCRIPTS {
-            let bytes = self.drafter.drafted(script)?;
+    fn add_policy(&mut self) -> Result<(), Failed> {
+        self.policies
+            .push(policy_in(self.alloc, self.drafter.world())?)?;
+        Ok(())
+    }
+
+    fn add_all(&mut self, version: BlockVersion, scripts: [&'static str; 4]) -> Result<(), Failed> {
+        self.add_policy()?;
+        for script in scripts {
+            let bytes = self.drafter.drafted_in(version, script)?;
             self.hashes.push(self.drafter.take(&bytes)?)?;
             self.blocks.push(bytes)?;
+            self.add_policy()?;
         }
         Ok(())
     }
@@ -68,12 +111,22 @@ impl Story {
         self.blocks.get(number..).unwrap_or(&[])
     }
 
-    // Whether all handles answer this height.
+    fn is_shown_to(&self, handle: &mut QueryHandle, height: usize) -> Result<bool, Failed> {
+        let reply = handle.height()?;
+        let Some(policy) = self.policies.get(height) else {
+            return Err(Failed::Missing("a height"));
+        };
+        Ok(
+            reply.answer == height as u64
+                && reply.header_hash == self.hash_at(height)
+                && is_policy(self.alloc, handle, height, policy.as_str())?,
+        )
+    }
+
+    // Whether all handles answer this height, and the policy there.
     fn is_at(&self, handles: &mut Vec<QueryHandle>, height: usize) -> Result<bool, Failed> {
-        let hash = self.hash_at(height);
         for handle in handles.iter_mut() {
-            let reply = handle.height()?;
-            if reply.answer != height as u64 || reply.header_hash != hash {
+            if !self.is_shown_to(handle, height)? {
                 return Ok(false);
             }
         }
@@ -182,7 +235,7 @@ fn are_taken_next<R: Threads + Wait + Sync>(
         return Ok(false);
     }
     let answers = committer.run(rt, story.from(number), story.drafter.keys(), &Open)?;
-    Ok(answers.iter().all(|answer| answer.is_ok()) && story.is_at(handles, SCRIPTS.len())?)
+    Ok(answers.iter().all(|answer| answer.is_ok()) && story.is_at(handles, WRITES.len())?)
 }
 
 fn first_without_receipt(
@@ -278,10 +331,12 @@ fn outcome_by<R: Threads + Wait + Sync>(
 fn outcome<R: Threads + Wait + Sync>(
     rt: &R,
     alloc: Global,
+    version: BlockVersion,
+    scripts: [&'static str; 4],
     is_run: bool,
 ) -> Result<Outcome, Failed> {
     let mut story = Story::open(alloc)?;
-    story.add_all()?;
+    story.add_all(version, scripts)?;
     outcome_by(rt, alloc, &story, is_run)
 }
 
@@ -289,14 +344,28 @@ pub fn outcome_of_submitting<R: Threads + Wait + Sync>(
     rt: &R,
     alloc: Global,
 ) -> Result<Outcome, Failed> {
-    outcome(rt, alloc, false)
+    outcome(rt, alloc, BlockVersion::V1, WRITES, false)
 }
 
 pub fn outcome_of_running<R: Threads + Wait + Sync>(
     rt: &R,
     alloc: Global,
 ) -> Result<Outcome, Failed> {
-    outcome(rt, alloc, true)
+    outcome(rt, alloc, BlockVersion::V1, WRITES, true)
+}
+
+pub fn outcome_of_updating<R: Threads + Wait + Sync>(
+    rt: &R,
+    alloc: Global,
+) -> Result<Outcome, Failed> {
+    outcome(rt, alloc, BlockVersion::V2, UPDATES, false)
+}
+
+pub fn outcome_of_running_updates<R: Threads + Wait + Sync>(
+    rt: &R,
+    alloc: Global,
+) -> Result<Outcome, Failed> {
+    outcome(rt, alloc, BlockVersion::V2, UPDATES, true)
 }
 
 #[test]
@@ -308,5 +377,17 @@ fn three_transactions(rt: HostRuntime) -> Result<(), Failed> {
 #[test]
 fn three_blocks(rt: HostRuntime) -> Result<(), Failed> {
     assert!(rt; outcome_of_running(&rt, rt.alloc())? == Outcome::Done);
+    Ok(())
+}
+
+#[test]
+fn an_update(rt: HostRuntime) -> Result<(), Failed> {
+    assert!(rt; outcome_of_updating(&rt, rt.alloc())? == Outcome::Done);
+    Ok(())
+}
+
+#[test]
+fn a_run_of_updates(rt: HostRuntime) -> Result<(), Failed> {
+    assert!(rt; outcome_of_running_updates(&rt, rt.alloc())? == Outcome::Done);
     Ok(())
 }

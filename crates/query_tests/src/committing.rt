@@ -1,9 +1,10 @@
 //! A committer answers and publishes what a ledger does on one thread, whatever its workers, their order, and what is refused
 //! between its blocks.
 
-use crate::asking::{check_blocks, check_key, check_range, check_use};
+use crate::asking::{check_blocks, check_definition, check_key, check_range, check_use};
 use crate::blocks::{Drafter, configuration};
 use crate::spoiling::spoiled;
+use crate::updates::script_of_updates;
 use block::BlockVersion;
 use commit::{Accepted, Committer, NotCommitted, OpenFault, QueryHandle, Receipt, Refused};
 use failing::{Failed, check, is_alike};
@@ -36,8 +37,11 @@ const CHAINS: u64 = 1_000;
 
 pub const BLOCKS: u64 = 3;
 
-/// So many spoiled blocks are handed in before each right one.
-const SPOILED: u32 = 7;
+const KIND: Kind = Kind {
+    blocks: BLOCKS,
+    spoiled: 7,
+    has_updates: false,
+};
 
 pub const WORKERS: [usize; 3] = [1, 2, 5];
 
@@ -92,13 +96,26 @@ pub fn check_published(
     uses: &[NewUse],
 ) -> Result<(), Failed> {
     check_keys(alloc, handle, world)?;
-    check_blocks(alloc, handle, world, BLOCKS)?;
+    check_blocks(alloc, handle, world, world.height().max(BLOCKS))?;
+    for chaincode in [b"cc".as_slice(), b"dd"] {
+        check_definition(alloc, handle, world, chaincode)?;
+    }
     check_uses(handle, world, uses)
 }
 
-pub fn next_block(alloc: Global, drafter: &Drafter, random: &mut Random) -> Result<Bytes, Failed> {
+/// The next block of a chain at random, which may have updates.
+pub fn next_block(
+    alloc: Global,
+    drafter: &Drafter,
+    random: &mut Random,
+    has_updates: bool,
+) -> Result<Bytes, Failed> {
     if drafter.world().height() == 0 {
         return drafter.drafted(FIRST);
+    }
+    if has_updates && random.one_of(2) {
+        let script = script_of_updates(alloc, random)?;
+        return drafter.drafted_in(BlockVersion::V2, script.as_str());
     }
     let script = script(alloc, random)?;
     drafter.drafted_in(version_at_random(random, drafter.world()), script.as_str())
@@ -113,30 +130,53 @@ fn version_at_random(random: &mut Random, world: &World) -> BlockVersion {
     }
 }
 
-fn add_uses(drafter: &Drafter, bytes: &Bytes, uses: &mut Vec<NewUse>) -> Result<(), Failed> {
+// How many definitions the block changes.
+fn add_uses(drafter: &Drafter, bytes: &Bytes, uses: &mut Vec<NewUse>) -> Result<usize, Failed> {
     let delta = drafter.delta(bytes)?;
     uses.extend_from_slice(delta.uses.as_slice())?;
-    Ok(())
+    Ok(delta.definitions.len())
+}
+
+// Whether the last block has these bytes, and no spoiled one stands in its place.
+fn is_last(world: &World, bytes: &Bytes) -> bool {
+    match world.block(world.height().saturating_sub(1)) {
+        Some(kept) => kept.bytes.get().is_same(bytes),
+        None => false,
+    }
+}
+
+/// What the blocks of a chain are.
+#[derive(Clone, Copy)]
+pub struct Kind {
+    pub blocks: u64,
+    /// So many spoiled blocks are handed in before each right one.
+    pub spoiled: u32,
+    pub has_updates: bool,
 }
 
 /// A chain on its way.
 #[derive(Drop)]
 struct Chain {
+    kind: Kind,
     drafter: Drafter,
     random: Random,
     /// What its blocks use.
     uses: Vec<NewUse>,
+    /// How many updates are valid.
+    updated: usize,
     /// The block before the next one.
     before: Bytes,
 }
 
 impl Chain {
-    fn open(alloc: Global, seed: u64) -> Result<Chain, Failed> {
+    fn open(alloc: Global, seed: u64, kind: Kind) -> Result<Chain, Failed> {
         Ok(Chain {
+            kind,
             before: Bytes::from_slice(alloc, b"FBK1")?,
             drafter: Drafter::open(alloc)?,
             random: Random::new(seed),
             uses: Vec::new(alloc),
+            updated: 0,
         })
     }
 
@@ -149,7 +189,7 @@ impl Chain {
         bytes: &Bytes,
         gate: &Yielding,
     ) -> Result<(), Failed> {
-        for _ in 0..SPOILED {
+        for _ in 0..self.kind.spoiled {
             let before = self.before.as_slice();
             let other = spoiled(alloc, &mut self.random, bytes.as_slice(), before)?;
             check_answered(rt, &mut self.drafter, committer, &other, gate)?;
@@ -167,8 +207,11 @@ impl Chain {
         bytes: &Bytes,
         gate: &Yielding,
     ) -> Result<(), Failed> {
-        add_uses(&self.drafter, bytes, &mut self.uses)?;
+        let updated = add_uses(&self.drafter, bytes, &mut self.uses)?;
         self.check_answered(rt, alloc, committer, bytes, gate)?;
+        if is_last(self.drafter.world(), bytes) {
+            self.updated = self.updated.saturating_add(updated);
+        }
         check_published(alloc, handle, self.drafter.world(), self.uses.as_slice())
     }
 
@@ -180,7 +223,8 @@ impl Chain {
         handle: &mut QueryHandle,
         gate: &Yielding,
     ) -> Result<(), Failed> {
-        let bytes = next_block(alloc, &self.drafter, &mut self.random)?;
+        let has_updates = self.kind.has_updates;
+        let bytes = next_block(alloc, &self.drafter, &mut self.random, has_updates)?;
         let checked = self.check_block(rt, alloc, committer, handle, &bytes, gate);
         self.before = bytes;
         checked
@@ -194,23 +238,26 @@ impl Chain {
         handle: &mut QueryHandle,
         gate: &Yielding,
     ) -> Result<(), Failed> {
-        for _ in 0..BLOCKS {
+        for _ in 0..self.kind.blocks {
             self.check_next(rt, alloc, committer, handle, gate)?;
         }
-        check(self.drafter.world().height() == BLOCKS)
+        check(self.drafter.world().height() == self.kind.blocks)
     }
 }
 
+// How many of its updates are valid.
 fn check_chain<R: Threads + Wait + Sync>(
     rt: &R,
     alloc: Global,
     committer: &mut Committer,
     handle: &mut QueryHandle,
     seed: u64,
+    kind: Kind,
     gate: &Yielding,
-) -> Result<(), Failed> {
-    let mut chain = Chain::open(alloc, seed)?;
-    chain.check_all(rt, alloc, committer, handle, gate)
+) -> Result<usize, Failed> {
+    let mut chain = Chain::open(alloc, seed, kind)?;
+    chain.check_all(rt, alloc, committer, handle, gate)?;
+    Ok(chain.updated)
 }
 
 pub fn opened<R: Wait>(
@@ -224,16 +271,18 @@ pub fn opened<R: Wait>(
     }
 }
 
-fn check_seed<R: Threads + Wait + Sync>(
+/// Wants a chain of this seed and kind answered alike, and answers how many of its updates are valid.
+pub fn check_seed<R: Threads + Wait + Sync>(
     rt: &R,
     alloc: Global,
     seed: u64,
+    kind: Kind,
     gate: &Yielding,
-) -> Result<(), Failed> {
+) -> Result<usize, Failed> {
     let workers = WORKERS[(seed % 3) as usize];
     let (mut committer, mut handles) = opened(rt, alloc, workers)?;
     let checked = match handles.first_mut() {
-        Some(handle) => check_chain(rt, alloc, &mut committer, handle, seed, gate),
+        Some(handle) => check_chain(rt, alloc, &mut committer, handle, seed, kind, gate),
         None => Err(Failed::Missing("a handle")),
     };
     committer.close(rt);
@@ -244,7 +293,7 @@ fn check_seed<R: Threads + Wait + Sync>(
 fn alike_chains<R: Threads + Wait + Sync>(rt: &R, alloc: Global) -> Result<u64, Failed> {
     let gate = Yielding::new(17);
     for seed in 1..=CHAINS {
-        if !is_alike(check_seed(rt, alloc, seed, &gate))? {
+        if !is_alike(check_seed(rt, alloc, seed, KIND, &gate).map(|_| ()))? {
             return Ok(seed);
         }
     }

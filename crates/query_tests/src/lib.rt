@@ -33,3 +33,5 @@ mod spoiling;
 mod telling;
 #[cfg(test)]
 mod threads;
+#[cfg(test)]
+mod updates;

@@ -2,8 +2,8 @@
 //! as it was, a publish leaves what is published, and its publisher failed. Where memory is refused to what a test does beside,
 //! it ends by `?`.
 
-use crate::asking::{check_block, check_height, check_key, check_range};
-use crate::blocks::{Drafter, key, name};
+use crate::asking::{check_block, check_definition, check_height, check_key, check_range};
+use crate::blocks::{Drafter, empty_world, first_worlds, key, name};
 use crate::publishing::publish_next;
 use failing::{Failed, Outcome, begins, is_alike};
 use query::{OpenFault, Publisher, QueryHandle, Reply, open};
@@ -21,7 +21,7 @@ const SECOND: &str =
 
 // How many handles are opened.
 fn opened<R: Wait>(rt: &R, alloc: Global) -> Result<usize, OpenFault> {
-    let (publisher, handles) = open(alloc, rt, World::new(alloc), World::new(alloc), 32)?;
+    let (publisher, handles) = open(alloc, rt, empty_world(alloc), empty_world(alloc), 32)?;
     publisher.close(rt);
     Ok(handles.len())
 }
@@ -127,7 +127,7 @@ fn outcome_of_both<R: Wait>(
 }
 
 pub fn outcome_of_publishing<R: Wait>(rt: &R, alloc: Global) -> Result<Outcome, Failed> {
-    let (mut publisher, mut handles) = open(alloc, rt, World::new(alloc), World::new(alloc), 2)?;
+    let (mut publisher, mut handles) = open(alloc, rt, empty_world(alloc), empty_world(alloc), 2)?;
     let outcome = outcome_of_both(rt, alloc, &mut publisher, &mut handles);
     publisher.close(rt);
     outcome
@@ -145,6 +145,7 @@ fn check_alike(alloc: Global, handle: &mut QueryHandle, world: &World) -> Result
     check_key(alloc, handle, world, b"cc", b"k0")?;
     check_key(alloc, handle, world, b"cc", b"k1")?;
     check_range(alloc, handle, world, b"cc", (start, end), 2)?;
+    check_definition(alloc, handle, world, b"cc")?;
     check_block(alloc, handle, world, 1)
 }
 
@@ -195,7 +196,8 @@ fn outcome_of_asking_by<R: Wait>(
 }
 
 pub fn outcome_of_asking<R: Wait>(rt: &R, alloc: Global) -> Result<Outcome, Failed> {
-    let (mut publisher, mut handles) = open(alloc, rt, World::new(alloc), World::new(alloc), 1)?;
+    let (world, other) = first_worlds(alloc)?;
+    let (mut publisher, mut handles) = open(alloc, rt, world, other, 1)?;
     let outcome = outcome_of_asking_by(rt, alloc, &mut publisher, &mut handles);
     publisher.close(rt);
     outcome

@@ -77,18 +77,25 @@ impl Story {
         alloc: Global,
         random: &mut Random,
         before: &mut Bytes,
+        has_updates: bool,
     ) -> Result<(), Failed> {
-        let bytes = next_block(alloc, &self.drafter, random)?;
+        let bytes = next_block(alloc, &self.drafter, random, has_updates)?;
         let added = self.add_block(alloc, random, &bytes, before);
         *before = bytes;
         added
     }
 
-    fn add_all_at_random(&mut self, alloc: Global, seed: u64) -> Result<(), Failed> {
+    fn add_all_at_random(
+        &mut self,
+        alloc: Global,
+        seed: u64,
+        blocks: u64,
+        has_updates: bool,
+    ) -> Result<(), Failed> {
         let mut random = Random::new(seed);
         let mut before = Bytes::from_slice(alloc, b"FBK1")?;
-        for _ in 0..BLOCKS {
-            self.add_next(alloc, &mut random, &mut before)?;
+        for _ in 0..blocks {
+            self.add_next(alloc, &mut random, &mut before, has_updates)?;
         }
         Ok(())
     }
@@ -138,8 +145,7 @@ fn check_run<R: Threads + Wait + Sync, G: Gate + Sync>(
     };
     let world = story.drafter.world();
     check_answered(rt, committer, story, gate)?;
-    check_published(alloc, handle, world, &[])?;
-    check(world.height() == BLOCKS)
+    check_published(alloc, handle, world, &[])
 }
 
 fn check_story<R: Threads + Wait + Sync, G: Gate + Sync>(
@@ -156,14 +162,18 @@ fn check_story<R: Threads + Wait + Sync, G: Gate + Sync>(
     checked
 }
 
-fn check_seed<R: Threads + Wait + Sync>(
+/// Wants so many blocks at random, handed in at once, answered alike.
+pub fn check_seed<R: Threads + Wait + Sync>(
     rt: &R,
     alloc: Global,
     seed: u64,
+    blocks: u64,
+    has_updates: bool,
     gate: &Yielding,
 ) -> Result<(), Failed> {
     let mut story = Story::open(alloc)?;
-    story.add_all_at_random(alloc, seed)?;
+    story.add_all_at_random(alloc, seed, blocks, has_updates)?;
+    check(story.drafter.world().height() == blocks)?;
     check_story(rt, alloc, WORKERS[(seed % 3) as usize], &story, gate)
 }
 
@@ -171,7 +181,7 @@ fn check_seed<R: Threads + Wait + Sync>(
 fn alike_runs<R: Threads + Wait + Sync>(rt: &R, alloc: Global) -> Result<u64, Failed> {
     let gate = Yielding::new(19);
     for seed in 1..=CHAINS {
-        if !is_alike(check_seed(rt, alloc, seed, &gate))? {
+        if !is_alike(check_seed(rt, alloc, seed, BLOCKS, false, &gate))? {
             return Ok(seed);
         }
     }
@@ -191,6 +201,7 @@ fn check_run_of_writes<R: Threads + Wait + Sync>(
 ) -> Result<(), Failed> {
     let mut story = Story::open(alloc)?;
     story.add_writes(alloc, 3, 40)?;
+    check(story.drafter.world().height() == 3)?;
     check_story(rt, alloc, 2, &story, gate)
 }
 

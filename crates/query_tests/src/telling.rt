@@ -3,7 +3,7 @@ ghost use Rattle.std.specs.Prelude.{◌≡◌, All};
 
 mod vectors;
 
-use crate::blocks::Drafter;
+use crate::blocks::{Drafter, empty_world};
 use crate::publishing::publish_next;
 use failing::Failed;
 use query::{Publisher, QueryHandle, Receipt, Reply, open};
@@ -13,7 +13,6 @@ use std::sync::Wait;
 use std::thread;
 use std::thread::Threads;
 use vectors::{SCRIPT, block, header_hash};
-use world::World;
 
 const ASKS: u32 = 1_000;
 
@@ -135,7 +134,7 @@ fn of_two<R: Threads + Wait + Sync>(
 }
 
 fn is_one_told<R: Threads + Wait + Sync>(rt: &R, alloc: Global) -> Result<bool, Failed> {
-    let (mut publisher, mut handles) = open(alloc, rt, World::new(alloc), World::new(alloc), 2)?;
+    let (mut publisher, mut handles) = open(alloc, rt, empty_world(alloc), empty_world(alloc), 2)?;
     let is_right = of_two(rt, alloc, &mut publisher, &mut handles);
     publisher.close(rt);
     is_right

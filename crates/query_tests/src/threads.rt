@@ -2,10 +2,12 @@
 ghost use Rattle.std.specs.Prelude.{◌≡◌, All, IfOk, IfSome};
 
 use crate::blocks::{Drafter, configuration, key, name};
+use block::BlockVersion;
 use commit::{Committer, QueryHandle, Receipt, Reply};
 use failing::Failed;
 use gates::{Gate, Open};
 use key_book::KeyBook;
+use query::PolicyText;
 use rules::Row;
 use std::alloc::{AllocError, Global};
 use std::sync::Wait;
@@ -79,14 +81,31 @@ impl Watched {
     }
 }
 
-// Block b writes the decimal text of b.
+// Each even block writes the decimal text of its number.
 fn has_value(alloc: Global, reply: &Reply<Option<Row>>) -> Result<bool, AllocError> {
     match &reply.answer {
         None => Ok(reply.height == 0),
         Some(row) => {
-            let wanted = format!(in alloc; "{}", reply.height.wrapping_sub(1))?;
+            let wanted = format!(in alloc; "{}", reply.height.wrapping_sub(1) & !1)?;
             Ok(row.value.as_slice() == wanted.as_bytes())
         }
+    }
+}
+
+// The policy that each odd block gives the chaincode.
+fn policy_of(alloc: Global, block: u64) -> Result<String, AllocError> {
+    format!(in alloc; "OR('Org1.peer','n{block}.peer')")
+}
+
+// That of the last odd block, or the channel's.
+fn has_policy(alloc: Global, reply: &Reply<Option<PolicyText>>) -> Result<bool, AllocError> {
+    let wanted = match reply.height {
+        0 | 1 => String::from_str(alloc, "OR('Org1.peer','Org2.peer')")?,
+        height => policy_of(alloc, height.wrapping_sub(2) | 1)?,
+    };
+    match &reply.answer {
+        None => Ok(false),
+        Some(text) => Ok(text.as_str() == wanted.as_str()),
     }
 }
 
@@ -107,15 +126,30 @@ fn is_right(
             && watched.has_hash(&row)
             && watched.has_hash(&entries)
             && has_value(alloc, &row)?
-            && entries.answer.len() as u64 == entries.height,
+            && entries.answer.len() as u64 == entries.height.wrapping_add(1) / 2,
     )
+}
+
+// The same of the chaincode's policy.
+fn is_right_policy(
+    alloc: Global,
+    handle: &mut QueryHandle,
+    watched: &Watched,
+    least: &mut u64,
+) -> Result<bool, Failed> {
+    let reply = handle.definition(alloc, &name(b"cc")?)?;
+    let rises = *least <= reply.height;
+    *least = reply.height;
+    Ok(rises && watched.has_hash(&reply) && has_policy(alloc, &reply)?)
 }
 
 fn are_right(alloc: Global, handle: &mut QueryHandle, watched: &Watched) -> Result<bool, Failed> {
     let mut least = 0;
     for turn in 0..TURNS {
         let is_over = watched.is_over.load(Ordering::SeqCst);
-        if !is_right(alloc, handle, watched, &mut least)? {
+        if !is_right(alloc, handle, watched, &mut least)?
+            || !is_right_policy(alloc, handle, watched, &mut least)?
+        {
             return Ok(false);
         }
         watched.replies.fetch_add(1, Ordering::SeqCst);
@@ -248,16 +282,24 @@ fn is_read_rightly<R: Threads + Wait + Sync>(
     Ok(height == BLOCKS && watched.wrong.load(Ordering::SeqCst) == 0)
 }
 
+fn script_of(alloc: Global, block: u64) -> Result<String, AllocError> {
+    if block % 2 == 0 {
+        return format!(in alloc;
+            "tx Org1:client:c0 n{block} cc\nns cc\nwrite k {block}\nendorse Org1:peer:p0\n"
+        );
+    }
+    let policy = policy_of(alloc, block)?;
+    format!(in alloc; "update Org1:client:c0 n{block} cc {policy}\nendorse Org1:peer:p0\n")
+}
+
 fn drafted_next(
     alloc: Global,
     drafter: &mut Drafter,
     block: u64,
     hashes: &mut Vec<Hash>,
 ) -> Result<Bytes, Failed> {
-    let script = format!(in alloc;
-        "tx Org1:client:c0 n{block} cc\nns cc\nwrite k {block}\nendorse Org1:peer:p0\n"
-    )?;
-    let bytes = drafter.drafted(script.as_str())?;
+    let script = script_of(alloc, block)?;
+    let bytes = drafter.drafted_in(BlockVersion::V2, script.as_str())?;
     hashes.push(drafter.take(&bytes)?)?;
     Ok(bytes)
 }

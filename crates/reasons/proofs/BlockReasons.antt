@@ -1,11 +1,11 @@
 -- The reasons of all places of a block.
-use Rattle.std.proofs.Common.{◌≡◌, ℕ, zero, suc, ◌+◌, ◌<◌, List, [], ◌∷◌, length, map, slice_get, Option, Some, refl, sym, ap, subst, ◌∙◌, arith}
+use Rattle.std.proofs.Common.{◌≡◌, ℕ, ◌==◌, zero, suc, ◌+◌, ◌<◌, List, [], ◌∷◌, length, map, slice_get, Option, Some, refl, sym, ap, subst, ◌∙◌, arith}
 use Rattle.std.proofs.lemmas.List.{length-map, same_lists}
-use Rattle.transaction.specs.declared.transaction.Tx.{Tx}
+use Rattle.transaction.specs.declared.item.Item.{Item}
 use Rattle.policy_eval.specs.Accepts.{Accepts}
 use Rattle.channel.specs.Configuration.{Configuration}
 use Rattle.rules.specs.Fold.{flags}
-use Rattle.rules.specs.Commit.{job_of}
+use Rattle.rules.specs.Commit.{channel_in, job_of}
 use Rattle.rules.specs.World.{World}
 use Rattle.rules.proofs.BlockFlags.{flags-by_place}
 use Rattle.rules.proofs.Candidates.{length-candidates_from}
@@ -15,10 +15,10 @@ use Rattle.reasons.proofs.Lists.{some_is, some_and_none, get-inside, get_or-at, 
 use Rattle.reasons.proofs.Existence.{some_reason}
 use Rattle.reasons.proofs.Uniqueness.{one_reason}
 
-module _ (channel : Configuration) (accepts : Accepts) (w : World) (txs : List (Option Tx)) where
+module _ (channel : Configuration) (accepts : Accepts) (w : World) (txs : List (Option Item)) where
   pub flags_of_reasons : (reasons : List Reason) → AreReasons channel accepts w txs reasons → map flag_of reasons ≡ flags (job_of channel accepts w txs)
   flags_of_reasons reasons are =
-      let candidates : length (job_of channel accepts w txs).candidates ≡ length txs = length-candidates_from channel accepts w.first_uses [] txs in
+      let candidates : length (job_of channel accepts w txs).candidates ≡ length txs = length-candidates_from (channel_in channel w) accepts (length txs == 1) w.first_uses [] txs in
       flags-by_place (job_of channel accepts w txs) (map flag_of reasons) (length-map reasons flag_of ∙ are.count ∙ sym candidates) (λ i d lt.
       let here = get-inside reasons i (subst (λ (n : ℕ). i < n) (candidates ∙ sym are.count) lt) in
       get_or-map_at flag_of reasons i d here.0 here.1 ∙ sym (are.each i here.0 here.1).flag_is)

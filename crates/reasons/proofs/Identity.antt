@@ -7,6 +7,7 @@ use Rattle.std.proofs.lemmas.List.Folds.{list_any-append, list_all-map}
 use Rattle.std.proofs.lemmas.List.Quantifiers.{position-Some}
 use Rattle.transaction.specs.declared.transaction.Tx.{Tx}
 use Rattle.policy.specs.Policies.{Policies}
+use Rattle.transaction.specs.declared.item.Item.{Item}
 use Rattle.policy_eval.specs.Accepts.{Accepts}
 use Rattle.channel.specs.Configuration.{Configuration}
 use Rattle.rules.specs.declared.first_use.FirstUse.{FirstUse}
@@ -34,7 +35,7 @@ place_if : {X : Type 0} (p : X → Bool) (xs : List X) → list_any p xs ≡ tru
 place_if p xs e = ap (λ (b : Bool). cond b (Some (position_or_len p xs)) None) (lt-ltb (position_or_len p xs) (length xs) (inside p xs e))
 
 -- of those before place i
-pub place_before : (p : Option Tx → Bool) (txs : List (Option Tx)) (i h : ℕ) → position p (take i txs) ≡ Some h → h < i
+pub place_before : (p : Option Item → Bool) (txs : List (Option Item)) (i h : ℕ) → position p (take i txs) ≡ Some h → h < i
 place_before p txs i h e =
     let lt = (position-Some p (take i txs) h None e).0 in
     let long = length-take i txs in
@@ -43,13 +44,13 @@ place_before p txs i h e =
 -- ---- first uses
 
 module _ (channel : Configuration) (accepts : Accepts) where
-  any-ids : (id : List ℕ) (txs : List (Option Tx)) → list_any (bytes_eq id) (ids_of channel accepts txs) ≡ list_any (uses_id channel accepts id) txs
+  any-ids : (id : List ℕ) (txs : List (Option Item)) → list_any (bytes_eq id) (ids_of channel accepts txs) ≡ list_any (uses_id channel accepts id) txs
   any-ids id [] = refl
   any-ids id (tx ∷ txs) =
       list_any-append (bytes_eq id) (option_to_list (used_id channel accepts tx)) (ids_of channel accepts txs)
       ∙ ap (λ (b : Bool). uses_id channel accepts id tx || b) (any-ids id txs)
 
-  pub first_use_if : (w : World) (before : List (Option Tx)) (id : List ℕ) → is_used w.first_uses (ids_of channel accepts before) (Some id) ≡ true
+  pub first_use_if : (w : World) (before : List (Option Item)) (id : List ℕ) → is_used w.first_uses (ids_of channel accepts before) (Some id) ≡ true
       → (place : IdUse) × IsFirstUse channel accepts w before id place
   first_use_if w before id e = by (get w.first_uses id) refl (sym (or-false (contains_key w.first_uses id || list_any (bytes_eq id) (ids_of channel accepts before))) ∙ e)
     where
@@ -58,7 +59,7 @@ module _ (channel : Configuration) (accepts : Accepts) where
       by (Some u) is e = (Earlier u.block u.place, (u.flag, is))
       by None is e = (Here (position_or_len (uses_id channel accepts id) before), (is, place_if (uses_id channel accepts id) before (sym (any-ids id before) ∙ e)))
 
-pub one_use : (channel : Configuration) (accepts : Accepts) (w : World) (txs : List (Option Tx)) (id : List ℕ) (a b : IdUse)
+pub one_use : (channel : Configuration) (accepts : Accepts) (w : World) (txs : List (Option Item)) (id : List ℕ) (a b : IdUse)
     → IsFirstUse channel accepts w txs id a → IsFirstUse channel accepts w txs id b → a ≡ b
 one_use channel accepts w txs id (Earlier m h) (Earlier n i) x y =
     let u : FirstUse = record { block = m; place = h; flag = x.0 } in

@@ -6,9 +6,10 @@ mod Endorsement
 mod Below
 mod Writers
 mod Conflicts
-mod Places
+pub mod Places
+pub mod Updates
 mod Uniqueness
-mod Unsatisfied
+pub mod Unsatisfied
 mod Existence
 mod BlockReasons
 mod rows

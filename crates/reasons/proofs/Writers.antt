@@ -7,7 +7,7 @@ use Rattle.rules.specs.declared.row.Row.{Row}
 use Rattle.rules.specs.Flags.{is_valid}
 use Rattle.rules.specs.State.{StateKey}
 use Rattle.rules.specs.Effect.{write_of, policy_write_of, policy_after, row_after}
-use Rattle.rules.specs.Candidate.{Candidate, flagged, opened}
+use Rattle.rules.specs.Candidate.{Candidate, flagged, opened, updates}
 use Rattle.rules.specs.Job.{Job, candidate_at, version_of, state_after}
 use Rattle.rules.specs.Fold.{running, flag}
 use Rattle.rules.proofs.PerKey.{row_by, get-state_by}
@@ -36,6 +36,7 @@ module _ (j : Job) (k : StateKey) (i : ℕ) where
 
   candidate_left : (before : Option ℕ) (c : Candidate) (row : Option Row) → IsLeft j k before row → IsLeft j k (cond (sets_row c k row) (Some i) before) (row_by (version_of j i) c k row)
   candidate_left before (flagged f) row h = h
+  candidate_left before (updates u signers) row h = h
   candidate_left before (opened tx signers) row h = row_left before (write_of tx k) (policy_write_of tx k) row h
 
   step_left : (b : Bool) (before : Option ℕ) → IsLeft j k before (get (running j i).state k)

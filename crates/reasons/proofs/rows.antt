@@ -7,3 +7,4 @@ mod Endorsement
 mod Reads
 mod Ranges
 mod Reasons
+mod Updates

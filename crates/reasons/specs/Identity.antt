@@ -4,6 +4,7 @@ use Rattle.std.specs.Str.{bytes_eq}
 use Rattle.std.specs.List.{list_any}
 use Rattle.std.specs.FinMap.{get}
 use Rattle.transaction.specs.declared.transaction.Tx.{Tx}
+use Rattle.transaction.specs.declared.item.Item.{Item}
 use Rattle.transaction.specs.Grammar.{identity_bytes}
 use Rattle.header_hash.specs.Hashes.{tx_id_of}
 use Rattle.policy.specs.Policies.{Policies}
@@ -11,20 +12,20 @@ use Rattle.policy_eval.specs.Accepts.{Accepts}
 use Rattle.channel.specs.Configuration.{Configuration}
 use Rattle.rules.specs.declared.flag.Flag.{Flag}
 use Rattle.rules.specs.Effect.{written_keys}
-use Rattle.rules.specs.Candidate.{is_defined, used_id}
+use Rattle.rules.specs.Candidate.{is_defined, origin_of, used_id}
 use Rattle.rules.specs.World.{World}
 use Rattle.reasons.specs.declared.id_use.IdUse.{IdUse}
 use Rattle.reasons.specs.declared.id_use.IdUse.TheVariants.{Earlier, Here}
 
 -- that of its nonce and its creator
-abbrev pub wanted_id : Tx → List ℕ
-wanted_id tx = tx_id_of tx.nonce (identity_bytes tx.creator)
+abbrev pub wanted_id : Item → List ℕ
+wanted_id i = tx_id_of (origin_of i).nonce (identity_bytes (origin_of i).creator)
 
-abbrev pub uses_id : Configuration → Accepts → List ℕ → Option Tx → Bool
+abbrev pub uses_id : Configuration → Accepts → List ℕ → Option Item → Bool
 uses_id channel accepts id tx = list_any (bytes_eq id) (option_to_list (used_id channel accepts tx))
 
 -- The first use of an id: in an accepted block, or else at the first of these places of the block that uses it.
-abbrev pub IsFirstUse : Configuration → Accepts → World → List (Option Tx) → List ℕ → IdUse → Type 0
+abbrev pub IsFirstUse : Configuration → Accepts → World → List (Option Item) → List ℕ → IdUse → Type 0
 IsFirstUse channel accepts w before id (Earlier block place) = (flag : Flag) × (get w.first_uses id ≡ Some (record { block = block; place = place; flag = flag }))
 IsFirstUse channel accepts w before id (Here place) = (get w.first_uses id ≡ None) × (position (uses_id channel accepts id) before ≡ Some place)
 

@@ -4,4 +4,5 @@ pub mod Identity
 pub mod Endorsement
 pub mod Reads
 pub mod Ranges
+pub mod Update
 pub mod Reason

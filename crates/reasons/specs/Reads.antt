@@ -11,7 +11,7 @@ use Rattle.rules.specs.Flags.{is_valid}
 use Rattle.rules.specs.State.{StateKey, State, version_in}
 use Rattle.rules.specs.Effect.{write_of, policy_write_of}
 use Rattle.rules.specs.Reads.{read_holds, set_verdict}
-use Rattle.rules.specs.Candidate.{Candidate, flagged, opened}
+use Rattle.rules.specs.Candidate.{Candidate, flagged, opened, updates}
 use Rattle.rules.specs.Job.{Job, candidate_at}
 use Rattle.rules.specs.Fold.{running, flag}
 use Rattle.reasons.specs.declared.stale_read.StaleRead.{StaleRead}
@@ -28,6 +28,7 @@ first_faulty s tx = find (λ n. not (is_good (set_verdict s n))) tx.namespaces
 -- It writes or deletes the row of a key; a policy write alone writes the row that is there.
 abbrev pub sets_row : Candidate → StateKey → Option Row → Bool
 sets_row (flagged flag) k row = false
+sets_row (updates u signers) k row = false
 sets_row (opened tx signers) k row = is_some (write_of tx k) || (is_some (policy_write_of tx k) && is_some row)
 
 -- candidate h is valid, and writes or deletes the row of the key

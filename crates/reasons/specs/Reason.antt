@@ -1,27 +1,33 @@
--- Why a transaction has its flag.
-use Rattle.std.specs.Prelude.{◌≡◌, ℕ, ◌<◌, List, length, take, Option, Some, None, slice_get, slice_index_or, ⊤}
+-- Why a transaction or an update has its flag.
+use Rattle.std.specs.Prelude.{◌≡◌, ℕ, ◌<◌, ◌==◌, List, length, take, Option, Some, None, slice_get, slice_index_or, ⊤}
 use Rattle.transaction.specs.declared.transaction.Tx.{Tx}
+use Rattle.transaction.specs.declared.update.Update.{Update}
+use Rattle.transaction.specs.declared.item.Item.{Item}
+use Rattle.transaction.specs.declared.item.Item.TheVariants as item
 use Rattle.policy_eval.specs.Accepts.{Accepts}
 use Rattle.policy_eval.specs.Signers.{signers_of}
 use Rattle.channel.specs.Configuration.{Configuration}
 use Rattle.rules.specs.declared.flag.Flag.{Flag}
-use Rattle.rules.specs.declared.flag.Flag.TheVariants.{Valid, BadPayload, BadCreatorSignature, BadProposalTxId, DuplicateTxId, EndorsementPolicyFailure, MvccReadConflict, PhantomReadConflict, TargetChainNotFound, BadRwset, InvalidChaincode}
+use Rattle.rules.specs.declared.flag.Flag.TheVariants.{Valid, BadPayload, BadCreatorSignature, InvalidConfigTransaction, BadProposalTxId, DuplicateTxId, EndorsementPolicyFailure, MvccReadConflict, PhantomReadConflict, TargetChainNotFound, BadRwset, InvalidChaincode}
 use Rattle.rules.specs.Fold.{flag}
-use Rattle.rules.specs.Commit.{job_of}
+use Rattle.rules.specs.Candidate.{origin_of}
+use Rattle.rules.specs.Commit.{channel_in, job_of}
 use Rattle.rules.specs.World.{World}
 use Rattle.reasons.specs.declared.reason.Reason.{Reason}
-use Rattle.reasons.specs.declared.reason.Reason.TheVariants.{NoFault, NoTransaction, BadSignature, OtherId, UsedId, NotEndorsed, ReadConflict, PhantomConflict, OtherChannel, NotInForm, Undefined}
+use Rattle.reasons.specs.declared.reason.Reason.TheVariants.{NoFault, NoTransaction, BadSignature, InvalidUpdate, OtherId, UsedId, NotEndorsed, ReadConflict, PhantomConflict, OtherChannel, NotInForm, Undefined}
 use Rattle.reasons.specs.Form.{form_fault}
 use Rattle.reasons.specs.Identity.{wanted_id, IsFirstUse, first_undefined}
 use Rattle.reasons.specs.Endorsement.{IsEndorsementFault}
 use Rattle.reasons.specs.Reads.{IsStaleRead}
 use Rattle.reasons.specs.Ranges.{IsPhantomKey}
+use Rattle.reasons.specs.Update.{IsUpdateFault}
 
 -- the flag that it is the reason of
 abbrev pub flag_of : Reason → Flag
 flag_of NoFault = Valid
 flag_of NoTransaction = BadPayload
 flag_of BadSignature = BadCreatorSignature
+flag_of (InvalidUpdate fault) = InvalidConfigTransaction
 flag_of (OtherId wanted) = BadProposalTxId
 flag_of (UsedId place) = DuplicateTxId
 flag_of (NotEndorsed fault) = EndorsementPolicyFailure
@@ -31,36 +37,42 @@ flag_of (OtherChannel channel) = TargetChainNotFound
 flag_of (NotInForm fault) = BadRwset
 flag_of (Undefined chaincode) = InvalidChaincode
 
--- the transaction of place i, none where its bytes spell none
-abbrev pub tx_at : List (Option Tx) → ℕ → Option Tx
-tx_at txs i = slice_index_or txs i None
+-- the item of place i, none where its bytes spell none
+abbrev pub item_at : List (Option Item) → ℕ → Option Item
+item_at items i = slice_index_or items i None
 
--- there is a transaction at place i of which this holds
-abbrev pub OfTx : List (Option Tx) → ℕ → (Tx → Type 0) → Type 0
-OfTx txs i P = (tx : Tx) × (tx_at txs i ≡ Some tx) × P tx
+-- there is an item, a transaction or an update at place i of which this holds
+abbrev pub OfItem : List (Option Item) → ℕ → (Item → Type 0) → Type 0
+OfItem items i P = (x : Item) × (item_at items i ≡ Some x) × P x
+
+abbrev pub OfTx : List (Option Item) → ℕ → (Tx → Type 0) → Type 0
+OfTx items i P = (tx : Tx) × (item_at items i ≡ Some (item.Tx tx)) × P tx
+
+abbrev pub OfUpdate : List (Option Item) → ℕ → (Update → Type 0) → Type 0
+OfUpdate items i P = (u : Update) × (item_at items i ≡ Some (item.Update u)) × P u
 
 -- What a reason says beside the flag, of place i.
-abbrev pub Explains : Configuration → Accepts → World → List (Option Tx) → ℕ → Reason → Type 0
-Explains channel accepts w txs i NoFault = ⊤
-Explains channel accepts w txs i NoTransaction = ⊤
-Explains channel accepts w txs i BadSignature = ⊤
-Explains channel accepts w txs i (OtherChannel name) = OfTx txs i (λ tx. name ≡ tx.channel)
-Explains channel accepts w txs i (OtherId wanted) = OfTx txs i (λ tx. wanted ≡ wanted_id tx)
-Explains channel accepts w txs i (UsedId place) = OfTx txs i (λ tx. IsFirstUse channel accepts w (take i txs) tx.id place)
-Explains channel accepts w txs i (NotInForm fault) = OfTx txs i (λ tx. form_fault tx ≡ Some fault)
-Explains channel accepts w txs i (Undefined chaincode) = OfTx txs i (λ tx. first_undefined channel.definitions tx ≡ Some chaincode)
-Explains channel accepts w txs i (NotEndorsed fault) = OfTx txs i (λ tx. IsEndorsementFault (job_of channel accepts w txs) i tx (signers_of accepts tx) fault)
-Explains channel accepts w txs i (ReadConflict read) = OfTx txs i (λ tx. IsStaleRead (job_of channel accepts w txs) i tx read)
-Explains channel accepts w txs i (PhantomConflict key) = OfTx txs i (λ tx. IsPhantomKey (job_of channel accepts w txs) i tx key)
+abbrev pub Explains : Configuration → Accepts → World → List (Option Item) → ℕ → Reason → Type 0
+Explains channel accepts w items i NoFault = ⊤
+Explains channel accepts w items i NoTransaction = ⊤
+Explains channel accepts w items i BadSignature = ⊤
+Explains channel accepts w items i (OtherChannel name) = OfItem items i (λ x. name ≡ (origin_of x).channel)
+Explains channel accepts w items i (OtherId wanted) = OfItem items i (λ x. wanted ≡ wanted_id x)
+Explains channel accepts w items i (UsedId place) = OfItem items i (λ x. IsFirstUse channel accepts w (take i items) (origin_of x).id place)
+Explains channel accepts w items i (InvalidUpdate fault) = OfUpdate items i (λ u. IsUpdateFault (channel_in channel w) accepts (length items == 1) u fault)
+Explains channel accepts w items i (NotInForm fault) = OfTx items i (λ tx. form_fault tx ≡ Some fault)
+Explains channel accepts w items i (Undefined chaincode) = OfTx items i (λ tx. first_undefined w.definitions tx ≡ Some chaincode)
+Explains channel accepts w items i (NotEndorsed fault) = OfTx items i (λ tx. IsEndorsementFault (job_of channel accepts w items) i tx (signers_of accepts tx) fault)
+Explains channel accepts w items i (ReadConflict read) = OfTx items i (λ tx. IsStaleRead (job_of channel accepts w items) i tx read)
+Explains channel accepts w items i (PhantomConflict key) = OfTx items i (λ tx. IsPhantomKey (job_of channel accepts w items) i tx key)
 
--- The reason of place i of a block of these transactions over this world: the block gives the place its flag, and it says
--- why.
-pub record IsReason (channel : Configuration) (accepts : Accepts) (w : World) (txs : List (Option Tx)) (i : ℕ) (reason : Reason) : Type 0 where
-  pub place : i < length txs
-  pub flag_is : flag (job_of channel accepts w txs) i ≡ flag_of reason
-  pub why : Explains channel accepts w txs i reason
+-- The reason of place i of a block of these items over this world: the block gives the place its flag, and it says why.
+pub record IsReason (channel : Configuration) (accepts : Accepts) (w : World) (items : List (Option Item)) (i : ℕ) (reason : Reason) : Type 0 where
+  pub place : i < length items
+  pub flag_is : flag (job_of channel accepts w items) i ≡ flag_of reason
+  pub why : Explains channel accepts w items i reason
 
 -- the reasons of all places of the block, in order
-pub record AreReasons (channel : Configuration) (accepts : Accepts) (w : World) (txs : List (Option Tx)) (reasons : List Reason) : Type 0 where
-  pub count : length reasons ≡ length txs
-  pub each : (i : ℕ) (reason : Reason) → slice_get reasons i ≡ Some reason → IsReason channel accepts w txs i reason
+pub record AreReasons (channel : Configuration) (accepts : Accepts) (w : World) (items : List (Option Item)) (reasons : List Reason) : Type 0 where
+  pub count : length reasons ≡ length items
+  pub each : (i : ℕ) (reason : Reason) → slice_get reasons i ≡ Some reason → IsReason channel accepts w items i reason

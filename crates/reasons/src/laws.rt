@@ -1,5 +1,5 @@
 ghost use Rattle.std.specs.Prelude.{◌≡◌, ◌<◌, ℕ, List, length, map, false, Option, Some, None, IfSome, is_some};
-ghost use Rattle.transaction.specs.declared.transaction.Tx.{Tx};
+ghost use Rattle.transaction.specs.declared.item.Item.{Item};
 ghost use Rattle.transaction.specs.declared.identity.Identity.{Identity};
 ghost use Rattle.policy.specs.Tree.{Tree};
 ghost use Rattle.policy_eval.specs.Accepts.{Accepts};
@@ -14,7 +14,8 @@ ghost use Rattle.reasons.specs.declared.endorsement_fault.EndorsementFault.TheVa
 ghost use Rattle.reasons.specs.declared.id_use.IdUse.TheVariants.{Here};
 ghost use Rattle.reasons.specs.declared.policy_owner.PolicyOwner.{PolicyOwner};
 ghost use Rattle.reasons.specs.declared.reason.Reason.{Reason};
-ghost use Rattle.reasons.specs.declared.reason.Reason.TheVariants.{UsedId, NotEndorsed, ReadConflict};
+ghost use Rattle.reasons.specs.declared.reason.Reason.TheVariants.{UsedId, NotEndorsed, InvalidUpdate, ReadConflict};
+ghost use Rattle.reasons.specs.declared.update_fault.UpdateFault.TheVariants.{AdminUnsatisfied};
 ghost use Rattle.reasons.specs.declared.stale_read.StaleRead.{StaleRead};
 ghost use Rattle.reasons.specs.First.{first_below};
 ghost use Rattle.reasons.specs.Endorsement.{touches};
@@ -22,37 +23,39 @@ ghost use Rattle.reasons.specs.Reason.{flag_of, IsReason, AreReasons};
 
 /// A law, and no work: each place of a block has one reason, never none or two.
 pub fn each_place_has_one_reason()
-    ensures some_reason { (channel : Configuration) (accepts : Accepts) (w : World) (txs : List (Option Tx)) (i : ℕ) → i < length txs
-        → (reason : Reason) × IsReason channel accepts w txs i reason }
-    ensures one_reason { (channel : Configuration) (accepts : Accepts) (w : World) (txs : List (Option Tx)) (i : ℕ) (a b : Reason)
-        → IsReason channel accepts w txs i a → IsReason channel accepts w txs i b → a ≡ b }
+    ensures some_reason { (channel : Configuration) (accepts : Accepts) (w : World) (items : List (Option Item)) (i : ℕ) → i < length items
+        → (reason : Reason) × IsReason channel accepts w items i reason }
+    ensures one_reason { (channel : Configuration) (accepts : Accepts) (w : World) (items : List (Option Item)) (i : ℕ) (a b : Reason)
+        → IsReason channel accepts w items i a → IsReason channel accepts w items i b → a ≡ b }
 {}
 
 /// A law, and no work: a block has one list of reasons, and their flags are those that the block is given.
 pub fn reasons_have_the_flags()
-    ensures some_list { (channel : Configuration) (accepts : Accepts) (w : World) (txs : List (Option Tx))
-        → (reasons : List Reason) × AreReasons channel accepts w txs reasons }
-    ensures one_list { (channel : Configuration) (accepts : Accepts) (w : World) (txs : List (Option Tx)) (reasons others : List Reason)
-        → AreReasons channel accepts w txs reasons → AreReasons channel accepts w txs others → reasons ≡ others }
-    ensures flags { (channel : Configuration) (accepts : Accepts) (w : World) (txs : List (Option Tx)) (reasons : List Reason)
-        → AreReasons channel accepts w txs reasons → map flag_of reasons ≡ flags (job_of channel accepts w txs) }
+    ensures some_list { (channel : Configuration) (accepts : Accepts) (w : World) (items : List (Option Item))
+        → (reasons : List Reason) × AreReasons channel accepts w items reasons }
+    ensures one_list { (channel : Configuration) (accepts : Accepts) (w : World) (items : List (Option Item)) (reasons others : List Reason)
+        → AreReasons channel accepts w items reasons → AreReasons channel accepts w items others → reasons ≡ others }
+    ensures flags { (channel : Configuration) (accepts : Accepts) (w : World) (items : List (Option Item)) (reasons : List Reason)
+        → AreReasons channel accepts w items reasons → map flag_of reasons ≡ flags (job_of channel accepts w items) }
 {}
 
 /// A law, and no work: the signers that a reason names don't satisfy the policy that it names.
 pub fn named_policies_are_not_satisfied()
-    ensures of_a_key { (channel : Configuration) (accepts : Accepts) (w : World) (txs : List (Option Tx)) (i : ℕ) (namespace key : List ℕ) (owner : PolicyOwner) (policy : Tree) (signers : List Identity)
-        → IsReason channel accepts w txs i (NotEndorsed (Unsatisfied namespace key owner policy signers)) → is_satisfied policy signers ≡ false }
-    ensures of_a_chaincode { (channel : Configuration) (accepts : Accepts) (w : World) (txs : List (Option Tx)) (i : ℕ) (chaincode : List ℕ) (policy : Tree) (signers : List Identity)
-        → IsReason channel accepts w txs i (NotEndorsed (ChaincodeUnsatisfied chaincode policy signers)) → is_satisfied policy signers ≡ false }
+    ensures of_a_key { (channel : Configuration) (accepts : Accepts) (w : World) (items : List (Option Item)) (i : ℕ) (namespace key : List ℕ) (owner : PolicyOwner) (policy : Tree) (signers : List Identity)
+        → IsReason channel accepts w items i (NotEndorsed (Unsatisfied namespace key owner policy signers)) → is_satisfied policy signers ≡ false }
+    ensures of_the_admin { (channel : Configuration) (accepts : Accepts) (w : World) (items : List (Option Item)) (i : ℕ) (policy : Tree) (signers : List Identity)
+        → IsReason channel accepts w items i (InvalidUpdate (AdminUnsatisfied policy signers)) → is_satisfied policy signers ≡ false }
+    ensures of_a_chaincode { (channel : Configuration) (accepts : Accepts) (w : World) (items : List (Option Item)) (i : ℕ) (chaincode : List ℕ) (policy : Tree) (signers : List Identity)
+        → IsReason channel accepts w items i (NotEndorsed (ChaincodeUnsatisfied chaincode policy signers)) → is_satisfied policy signers ≡ false }
 {}
 
 /// A law, and no work: where the key of a read that doesn't hold is there, its version is that of the writer that the
 /// reason names; where it names none, what is there is what was there before the block.
 pub fn named_writers_left_what_is_there()
-    ensures written { (channel : Configuration) (accepts : Accepts) (w : World) (txs : List (Option Tx)) (i h : ℕ) (read : StaleRead)
-        → IsReason channel accepts w txs i (ReadConflict read) → read.writer ≡ Some h → IfSome read.there (λ v. v ≡ record { block = height_of w; tx = h }) }
-    ensures unwritten { (channel : Configuration) (accepts : Accepts) (w : World) (txs : List (Option Tx)) (i : ℕ) (read : StaleRead)
-        → IsReason channel accepts w txs i (ReadConflict read) → read.writer ≡ None → read.there ≡ version_in w.state (read.namespace, read.key) }
+    ensures written { (channel : Configuration) (accepts : Accepts) (w : World) (items : List (Option Item)) (i h : ℕ) (read : StaleRead)
+        → IsReason channel accepts w items i (ReadConflict read) → read.writer ≡ Some h → IfSome read.there (λ v. v ≡ record { block = height_of w; tx = h }) }
+    ensures unwritten { (channel : Configuration) (accepts : Accepts) (w : World) (items : List (Option Item)) (i : ℕ) (read : StaleRead)
+        → IsReason channel accepts w items i (ReadConflict read) → read.writer ≡ None → read.there ≡ version_in w.state (read.namespace, read.key) }
 {}
 
 /// A law, and no work: a key is touched where an earlier candidate of the block touches it.
@@ -62,10 +65,10 @@ pub fn touched_keys_have_a_toucher()
 
 /// A law, and no work: each transaction of the block that a reason names stands before the one that it is the reason of.
 pub fn named_places_come_before()
-    ensures of_a_use { (channel : Configuration) (accepts : Accepts) (w : World) (txs : List (Option Tx)) (i h : ℕ)
-        → IsReason channel accepts w txs i (UsedId (Here h)) → h < i }
-    ensures of_a_policy { (channel : Configuration) (accepts : Accepts) (w : World) (txs : List (Option Tx)) (i h : ℕ) (namespace key : List ℕ)
-        → IsReason channel accepts w txs i (NotEndorsed (Touched namespace key h)) → h < i }
-    ensures of_a_writer { (channel : Configuration) (accepts : Accepts) (w : World) (txs : List (Option Tx)) (i h : ℕ) (read : StaleRead)
-        → IsReason channel accepts w txs i (ReadConflict read) → read.writer ≡ Some h → h < i }
+    ensures of_a_use { (channel : Configuration) (accepts : Accepts) (w : World) (items : List (Option Item)) (i h : ℕ)
+        → IsReason channel accepts w items i (UsedId (Here h)) → h < i }
+    ensures of_a_policy { (channel : Configuration) (accepts : Accepts) (w : World) (items : List (Option Item)) (i h : ℕ) (namespace key : List ℕ)
+        → IsReason channel accepts w items i (NotEndorsed (Touched namespace key h)) → h < i }
+    ensures of_a_writer { (channel : Configuration) (accepts : Accepts) (w : World) (items : List (Option Item)) (i h : ℕ) (read : StaleRead)
+        → IsReason channel accepts w items i (ReadConflict read) → read.writer ≡ Some h → h < i }
 {}

@@ -12,6 +12,7 @@ mod policy_text_fault;
 mod queried_range;
 mod reason;
 mod stale_read;
+mod update_fault;
 
 pub use endorsement_fault::EndorsementFault;
 pub use form_fault::FormFault;
@@ -27,3 +28,4 @@ pub use policy_text_fault::PolicyTextFault;
 pub use queried_range::QueriedRange;
 pub use reason::Reason;
 pub use stale_read::StaleRead;
+pub use update_fault::UpdateFault;

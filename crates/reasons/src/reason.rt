@@ -6,19 +6,22 @@ use crate::form_fault::FormFault;
 use crate::id_use::IdUse;
 use crate::phantom_key::PhantomKey;
 use crate::stale_read::StaleRead;
+use crate::update_fault::UpdateFault;
 use rules::Flag;
 use transaction::TxId;
 use values::Name;
 
-/// Why a transaction has its flag.
+/// Why a transaction or an update has its flag.
 #[derive(Drop)]
 pub enum Reason {
     /// 0: nothing is wrong with it.
     NoFault,
-    /// 2: its bytes are no transaction.
+    /// 2: its bytes are neither a transaction nor an update.
     NoTransaction,
     /// 4: the verifier refuses its creator's signature.
     BadSignature,
+    /// 6: it is an update that may not be made, or that its signers may not make.
+    InvalidUpdate(UpdateFault),
     /// 8: its nonce and creator give another id.
     OtherId { wanted: TxId },
     /// 9: its id was used before, there first.
@@ -46,6 +49,7 @@ impl Reason {
             Reason::NoFault => Flag::Valid,
             Reason::NoTransaction => Flag::BadPayload,
             Reason::BadSignature => Flag::BadCreatorSignature,
+            Reason::InvalidUpdate(_) => Flag::InvalidConfigTransaction,
             Reason::OtherId { .. } => Flag::BadProposalTxId,
             Reason::UsedId(_) => Flag::DuplicateTxId,
             Reason::NotEndorsed(_) => Flag::EndorsementPolicyFailure,

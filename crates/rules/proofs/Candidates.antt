@@ -1,7 +1,7 @@
 -- The candidates and the used ids of a block's transactions, list by list.
-use Rattle.std.proofs.Common.{◌≡◌, ℕ, suc, ◌+◌, List, [], ◌∷◌, ◌++◌, length, map, Option, Some, None, refl, sym, ap, ◌∙◌, append_assoc, append-nil, arith}
+use Rattle.std.proofs.Common.{◌≡◌, ℕ, Bool, suc, ◌+◌, List, [], ◌∷◌, ◌++◌, length, map, Option, Some, None, refl, sym, ap, ◌∙◌, append_assoc, append-nil, arith}
 use Rattle.std.specs.Prelude.{option_to_list}
-use Rattle.transaction.specs.declared.transaction.Tx.{Tx}
+use Rattle.transaction.specs.declared.item.Item.{Item}
 use Rattle.policy_eval.specs.Accepts.{Accepts}
 use Rattle.channel.specs.Configuration.{Configuration}
 use Rattle.rules.specs.declared.first_use.FirstUse.{FirstUse}
@@ -13,28 +13,28 @@ use Rattle.rules.specs.Commit.{uses_from}
 
 module _ (channel : Configuration) (accepts : Accepts) where
   -- the ids that these use
-  abbrev pub ids_of : List (Option Tx) → List (List ℕ)
+  abbrev pub ids_of : List (Option Item) → List (List ℕ)
   ids_of [] = []
   ids_of (tx ∷ txs) = option_to_list (used_id channel accepts tx) ++ ids_of txs
 
   -- one candidate for each transaction
-  pub length-candidates_from : (uses : FirstUses) (earlier : List (List ℕ)) (txs : List (Option Tx)) → length (candidates_from channel accepts uses earlier txs) ≡ length txs
-  length-candidates_from uses earlier [] = refl
-  length-candidates_from uses earlier (tx ∷ txs) = ap suc (length-candidates_from uses (earlier ++ option_to_list (used_id channel accepts tx)) txs)
+  pub length-candidates_from : (alone : Bool) (uses : FirstUses) (earlier : List (List ℕ)) (txs : List (Option Item)) → length (candidates_from channel accepts alone uses earlier txs) ≡ length txs
+  length-candidates_from alone uses earlier [] = refl
+  length-candidates_from alone uses earlier (tx ∷ txs) = ap suc (length-candidates_from alone uses (earlier ++ option_to_list (used_id channel accepts tx)) txs)
 
-  pub candidates_from-append : (uses : FirstUses) (earlier : List (List ℕ)) (txs others : List (Option Tx))
-      → candidates_from channel accepts uses earlier (txs ++ others) ≡ candidates_from channel accepts uses earlier txs ++ candidates_from channel accepts uses (earlier ++ ids_of txs) others
-  candidates_from-append uses earlier [] others = ap (λ (ids : List (List ℕ)). candidates_from channel accepts uses ids others) (sym (append-nil earlier))
-  candidates_from-append uses earlier (tx ∷ txs) others =
+  pub candidates_from-append : (alone : Bool) (uses : FirstUses) (earlier : List (List ℕ)) (txs others : List (Option Item))
+      → candidates_from channel accepts alone uses earlier (txs ++ others) ≡ candidates_from channel accepts alone uses earlier txs ++ candidates_from channel accepts alone uses (earlier ++ ids_of txs) others
+  candidates_from-append alone uses earlier [] others = ap (λ (ids : List (List ℕ)). candidates_from channel accepts alone uses ids others) (sym (append-nil earlier))
+  candidates_from-append alone uses earlier (tx ∷ txs) others =
       let id = option_to_list (used_id channel accepts tx) in
-      let rest = candidates_from-append uses (earlier ++ id) txs others
-      ∙ ap (λ (ids : List (List ℕ)). candidates_from channel accepts uses (earlier ++ id) txs ++ candidates_from channel accepts uses ids others) (append_assoc earlier id (ids_of txs)) in
-      ap (λ (cs : List Candidate). candidate_of channel accepts (is_used uses earlier (used_id channel accepts tx)) tx ∷ cs) rest
+      let rest = candidates_from-append alone uses (earlier ++ id) txs others
+      ∙ ap (λ (ids : List (List ℕ)). candidates_from channel accepts alone uses (earlier ++ id) txs ++ candidates_from channel accepts alone uses ids others) (append_assoc earlier id (ids_of txs)) in
+      ap (λ (cs : List Candidate). candidate_of channel accepts alone (is_used uses earlier (used_id channel accepts tx)) tx ∷ cs) rest
 
   -- one transaction more at the end
-  pub candidates_from-push : (uses : FirstUses) (earlier : List (List ℕ)) (txs : List (Option Tx)) (tx : Option Tx)
-      → candidates_from channel accepts uses earlier (txs ++ tx ∷ []) ≡ candidates_from channel accepts uses earlier txs ++ candidate_of channel accepts (is_used uses (earlier ++ ids_of txs) (used_id channel accepts tx)) tx ∷ []
-  candidates_from-push uses earlier txs tx = candidates_from-append uses earlier txs (tx ∷ [])
+  pub candidates_from-push : (alone : Bool) (uses : FirstUses) (earlier : List (List ℕ)) (txs : List (Option Item)) (tx : Option Item)
+      → candidates_from channel accepts alone uses earlier (txs ++ tx ∷ []) ≡ candidates_from channel accepts alone uses earlier txs ++ candidate_of channel accepts alone (is_used uses (earlier ++ ids_of txs) (used_id channel accepts tx)) tx ∷ []
+  candidates_from-push alone uses earlier txs tx = candidates_from-append alone uses earlier txs (tx ∷ [])
 
 pub uses_from-append : (j : Job) (i : ℕ) (ids others : List (Option (List ℕ))) → uses_from j i (ids ++ others) ≡ uses_from j i ids ++ uses_from j (i + length ids) others
 uses_from-append j i [] others = let same : i ≡ i + 0 = omega arith in ap (λ (n : ℕ). uses_from j n others) same
@@ -45,7 +45,7 @@ uses_from-append j i (id ∷ ids) others =
     ∙ sym (append_assoc own (uses_from j (suc i) ids) (uses_from j (i + length (id ∷ ids)) others))
 
 -- the ids of the uses, in order
-pub uses_from-ids : (channel : Configuration) (accepts : Accepts) (j : Job) (i : ℕ) (txs : List (Option Tx)) → map (λ u. u.0) (uses_from j i (map (used_id channel accepts) txs)) ≡ ids_of channel accepts txs
+pub uses_from-ids : (channel : Configuration) (accepts : Accepts) (j : Job) (i : ℕ) (txs : List (Option Item)) → map (λ u. u.0) (uses_from j i (map (used_id channel accepts) txs)) ≡ ids_of channel accepts txs
 uses_from-ids channel accepts j i [] = refl
 uses_from-ids channel accepts j i (tx ∷ txs) = by (used_id channel accepts tx) (uses_from-ids channel accepts j (suc i) txs)
   where

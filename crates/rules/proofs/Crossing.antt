@@ -16,6 +16,7 @@ use Rattle.policy.proofs.tree.Principal.TheSendSync as principal
 use Rattle.policy.specs.contracts.definitions.Definitions as definitions
 use Rattle.policy.specs.contracts.policy.Policy as policy
 use Rattle.rules.proofs.flag.Flag.TheSendSync as flag
+use Rattle.rules.specs.contracts.delta.NewDefinition as new_definition
 
 pub ruleset crossing = (
   sendable,
@@ -49,5 +50,14 @@ policy_send = search (crossing, in_policies) depth 40 fits 100000
 pub policy_sync : IsSync policy.the_row
 policy_sync = search (crossing, in_policies) depth 40 fits 100000
 
+pub definitions_send : IsSend definitions.the_row
+definitions_send = search (crossing, maps.crosses, policy_send) depth 40 fits 100000
+
 pub definitions_sync : IsSync definitions.the_row
 definitions_sync = search (crossing, maps.crosses, policy_sync) depth 40 fits 100000
+
+pub new_definition_send : IsSend new_definition.the_row
+new_definition_send = search (crossing, policy_send, policy_sync) depth 40 fits 100000
+
+pub new_definition_sync : IsSync new_definition.the_row
+new_definition_sync = search (crossing, policy_send, policy_sync) depth 40 fits 100000

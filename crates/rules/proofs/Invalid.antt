@@ -5,8 +5,8 @@ use Rattle.std.proofs.lemmas.List.{append-nil}
 use Rattle.rules.specs.declared.flag.Flag.{Flag}
 use Rattle.rules.specs.declared.flag.Flag.TheVariants.{Valid}
 use Rattle.rules.specs.Flags.{is_valid}
-use Rattle.rules.specs.Job.{Job, candidate_at, version_of, changes_by, entries_by, state_after}
-use Rattle.rules.specs.Fold.{running, flag, changes_to, entries_to}
+use Rattle.rules.specs.Job.{Job, candidate_at, version_of, changes_by, entries_by, definitions_by, state_after}
+use Rattle.rules.specs.Fold.{running, flag, changes_to, entries_to, definitions_to}
 
 is_valid-not : (f : Flag) → f ≢ Valid → is_valid f ≡ false
 is_valid-not Valid apart = absurd (apart refl)
@@ -28,3 +28,9 @@ module _ (j : Job) (i : ℕ) (apart : flag j i ≢ Valid) where
   invalid-entries =
       ap (λ (b : Bool). entries_to j i ++ (if b then entries_by (version_of j i) (candidate_at j i) else [])) (is_valid-not (flag j i) apart)
       ∙ append-nil (entries_to j i)
+
+  pub invalid-definitions : definitions_to j (suc i) ≡ definitions_to j i
+  unfolding definitions_to
+  invalid-definitions =
+      ap (λ (b : Bool). definitions_to j i ++ (if b then definitions_by (candidate_at j i) else [])) (is_valid-not (flag j i) apart)
+      ∙ append-nil (definitions_to j i)

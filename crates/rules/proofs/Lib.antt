@@ -20,6 +20,8 @@ pub mod Touched
 pub mod Certainty
 pub mod Candidates
 pub mod OpenCandidates
+pub mod Names
+pub mod OpenUpdates
 pub mod NewIds
 pub mod Numbers
 pub mod Crossing

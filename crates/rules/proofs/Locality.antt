@@ -11,6 +11,7 @@ use Rattle.transaction.specs.declared.transaction.Read.{Read}
 use Rattle.transaction.specs.declared.transaction.Range.{Range}
 use Rattle.transaction.specs.declared.transaction.NsSet.{NsSet}
 use Rattle.transaction.specs.Same.{is_same_version}
+use Rattle.policy.specs.Tree.{Tree}
 use Rattle.policy.specs.Policies.{Policies}
 use Rattle.rules.specs.declared.row.Row.{Row}
 use Rattle.rules.specs.declared.read_verdict.ReadVerdict.TheVariants.{Good, Stale, Phantom}
@@ -19,7 +20,7 @@ use Rattle.rules.specs.Effect.{written_keys}
 use Rattle.rules.specs.Endorsement.{may_write, meets, governing, has_writes}
 use Rattle.rules.specs.Ranges.{is_compared, versions_now, results_of, is_same_result, range_holds}
 use Rattle.rules.specs.Reads.{read_holds, set_verdict, or_next, first_fault}
-use Rattle.rules.specs.Candidate.{Candidate, flagged, opened}
+use Rattle.rules.specs.Candidate.{Candidate, flagged, opened, updates}
 use Rattle.rules.specs.Job.{Job, candidate_at, version_of, touched_by, operated_by, endorsement_by, reads_by}
 use Rattle.rules.specs.Assignment.{Assignment, touched_under, state_under, endorsement_under, reads_under, version_under}
 use Rattle.rules.specs.Depends.{set_looks_at, looks_at, EndorsementDepends, ReadsDepend, VersionDepends}
@@ -67,16 +68,17 @@ touched_same j y z i k own agree (suc n) le =
     (touched_same j y z i k own agree n (omega arith))
     ∙ sym (touched_under-step j z k n)
 
-endorsed_same : (d : Policies) (s : State) (t u : List StateKey) (c : Candidate) → ((k : StateKey) → is_among k (operated_by c) ≡ true → is_among k t ≡ is_among k u)
-    → endorsement_by d s t c ≡ endorsement_by d s u c
-endorsed_same d s t u (flagged flag) h = refl
-endorsed_same d s t u (opened tx signers) h =
+endorsed_same : (a : Option Tree) (d : Policies) (s : State) (t u : List StateKey) (c : Candidate) → ((k : StateKey) → is_among k (operated_by c) ≡ true → is_among k t ≡ is_among k u)
+    → endorsement_by a d s t c ≡ endorsement_by a d s u c
+endorsed_same a d s t u (flagged flag) h = refl
+endorsed_same a d s t u (updates update signers) h = refl
+endorsed_same a d s t u (opened tx signers) h =
     ap (λ (b : Bool). b && (has_writes tx tx.chaincode || meets signers (get d tx.chaincode))) (
     all_same (may_write d s t signers) (may_write d s u signers) (written_keys tx) (λ k m. ap (λ (b : Bool). not b && meets signers (governing d k.0 (policy_in s k))) (h k m)))
 
 -- assignments that agree on what an endorsement depends on give it the same verdict
 pub endorsement_by_dependencies : (j : Job) (y z : Assignment) (i : ℕ) → ((h : ℕ) → EndorsementDepends j i h → y h ≡ z h) → endorsement_under j y i ≡ endorsement_under j z i
-endorsement_by_dependencies j y z i agree = endorsed_same j.definitions j.state (touched_under j y i) (touched_under j z i) (candidate_at j i) (λ k own. touched_same j y z i k own agree i (omega arith))
+endorsement_by_dependencies j y z i agree = endorsed_same j.admin j.definitions j.state (touched_under j y i) (touched_under j z i) (candidate_at j i) (λ k own. touched_same j y z i k own agree i (omega arith))
 
 -- ---- versions
 
@@ -155,6 +157,7 @@ module _ (s t : State) where
   -- give a candidate's reads one verdict
   pub reads_by_versions : (c : Candidate) → ((k : StateKey) → looks_at c k ≡ true → Agree k) → reads_by s c ≡ reads_by t c
   reads_by_versions (flagged flag) h = refl
+  reads_by_versions (updates u signers) h = refl
   reads_by_versions (opened tx signers) h = all_sets_same tx.namespaces h
 
 -- an earlier writer of a key that is looked at is one that the reads depend on

@@ -2,13 +2,14 @@
 use Rattle.std.proofs.Common.{◌≡◌, ℕ, Bool, true, false, cond, eqb, Option, Some, None, refl, sym, ap, ◌∙◌}
 use Rattle.std.proofs.lemmas.Bool.{eqb-true}
 use Rattle.rules.specs.declared.flag.Flag.{Flag}
-use Rattle.rules.specs.declared.flag.Flag.TheVariants.{Valid, BadPayload, BadCreatorSignature, BadProposalTxId, DuplicateTxId, EndorsementPolicyFailure, MvccReadConflict, PhantomReadConflict, TargetChainNotFound, BadRwset, InvalidChaincode}
+use Rattle.rules.specs.declared.flag.Flag.TheVariants.{Valid, BadPayload, BadCreatorSignature, InvalidConfigTransaction, BadProposalTxId, DuplicateTxId, EndorsementPolicyFailure, MvccReadConflict, PhantomReadConflict, TargetChainNotFound, BadRwset, InvalidChaincode}
 use Rattle.rules.specs.Flags.{number_of, flag_numbered}
 
 pub flag_back : (f : Flag) → flag_numbered (number_of f) ≡ Some f
 flag_back Valid = refl
 flag_back BadPayload = refl
 flag_back BadCreatorSignature = refl
+flag_back InvalidConfigTransaction = refl
 flag_back BadProposalTxId = refl
 flag_back DuplicateTxId = refl
 flag_back EndorsementPolicyFailure = refl
@@ -34,6 +35,7 @@ number_back n f =
     asked n f Valid _ (eqb n 0) refl
     (asked n f BadPayload _ (eqb n 2) refl
     (asked n f BadCreatorSignature _ (eqb n 4) refl
+    (asked n f InvalidConfigTransaction _ (eqb n 6) refl
     (asked n f BadProposalTxId _ (eqb n 8) refl
     (asked n f DuplicateTxId _ (eqb n 9) refl
     (asked n f EndorsementPolicyFailure _ (eqb n 10) refl
@@ -41,4 +43,4 @@ number_back n f =
     (asked n f PhantomReadConflict _ (eqb n 12) refl
     (asked n f TargetChainNotFound _ (eqb n 14) refl
     (asked n f BadRwset _ (eqb n 22) refl
-    (asked n f InvalidChaincode _ (eqb n 25) refl (none_asked n f)))))))))))
+    (asked n f InvalidChaincode _ (eqb n 25) refl (none_asked n f))))))))))))

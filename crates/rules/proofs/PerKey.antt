@@ -7,7 +7,7 @@ use Rattle.transaction.specs.declared.transaction.Version.{Version}
 use Rattle.rules.specs.declared.row.Row.{Row}
 use Rattle.rules.specs.State.{StateKey, State, is_among}
 use Rattle.rules.specs.Effect.{effect_at}
-use Rattle.rules.specs.Candidate.{Candidate, flagged, opened}
+use Rattle.rules.specs.Candidate.{Candidate, flagged, opened, updates}
 use Rattle.rules.specs.Job.{Job, candidate_at, version_of, operated_by, state_by}
 use Rattle.rules.specs.Assignment.{Assignment, state_under, version_under}
 use Rattle.rules.proofs.Changes.{with_changes-none}
@@ -16,6 +16,7 @@ use Rattle.rules.proofs.Effects.{get-effect, effect_at-unwritten}
 -- what a candidate makes of the row of a key
 abbrev pub row_by : Version → Candidate → StateKey → Option Row → Option Row
 row_by v (flagged flag) k row = row
+row_by v (updates u signers) k row = row
 row_by v (opened tx signers) k row = effect_at v tx k row
 
 -- the row of a key once the candidates before i that are called yes are applied, with no other key in sight
@@ -25,11 +26,13 @@ row_under j called k (suc i) = if called i then row_by (version_of j i) (candida
 
 pub get-state_by : (v : Version) (c : Candidate) (s : State) (k : StateKey) → get (state_by v c s) k ≡ row_by v c k (get s k)
 get-state_by v (flagged flag) s k = ap (λ (t : State). get t k) (with_changes-none s)
+get-state_by v (updates u signers) s k = ap (λ (t : State). get t k) (with_changes-none s)
 get-state_by v (opened tx signers) s k = get-effect v tx s k
 
 -- a candidate leaves the rows of keys that it doesn't write
 pub row_by-unwritten : (v : Version) (c : Candidate) (k : StateKey) (row : Option Row) → is_among k (operated_by c) ≡ false → row_by v c k row ≡ row
 row_by-unwritten v (flagged flag) k row none = refl
+row_by-unwritten v (updates u signers) k row none = refl
 row_by-unwritten v (opened tx signers) k row none = effect_at-unwritten v tx k row none
 
 get-chosen : (b : Bool) (v : Version) (c : Candidate) (s : State) (k : StateKey) → get (if b then state_by v c s else s) k ≡ (if b then row_by v c k (get s k) else get s k)

@@ -9,7 +9,7 @@ use Rattle.rules.specs.declared.read_verdict.ReadVerdict.TheVariants.{Good}
 use Rattle.rules.specs.declared.event.Event.{Event}
 use Rattle.rules.specs.declared.event.Event.TheVariants.{Endorse, Reads}
 use Rattle.rules.specs.Flags.{is_valid, flag_of}
-use Rattle.rules.specs.Candidate.{Candidate, flagged, opened}
+use Rattle.rules.specs.Candidate.{Candidate, flagged, opened, updates}
 use Rattle.rules.specs.Job.{Job, candidate_at, reads, flag_by, endorsement_by}
 use Rattle.rules.specs.Fold.{running, endorsed, flag}
 use Rattle.rules.specs.Machine.{Board, known, first_endorsement, first_flag, first_board, SureEndorsement, SureReads, SetsEndorsement, SetsFlag, EndorseStep, ReadsStep, MachineStep, Run, ShowsFold}
@@ -65,6 +65,7 @@ shows-endorse j i None b c shows (inr s) = rw s.1 shows
 pub flag_by-false : (c : Candidate) (v w : ReadVerdict) → flag_by c false v ≡ flag_by c false w
 flag_by-false (flagged flag) v w = refl
 flag_by-false (opened tx signers) v w = refl
+flag_by-false (updates u signers) v w = refl
 
 -- the flag of a candidate whose endorsement verdict is this
 flag_after : (j : Job) (i : ℕ) (p : Bool) → p ≡ endorsed j i → flag_by (candidate_at j i) p (reads j i (running j i).state) ≡ flag j i
@@ -95,19 +96,21 @@ known-first_endorsement : (cs : List Candidate) (i : ℕ) (v : Bool) → known (
 known-first_endorsement [] i v e = absurd cc
 known-first_endorsement (flagged f ∷ cs) zero v e = (f, refl, cc)
 known-first_endorsement (opened tx signers ∷ cs) zero v e = absurd cc
+known-first_endorsement (updates u signers ∷ cs) zero v e = absurd cc
 known-first_endorsement (c ∷ cs) (suc i) v e = known-first_endorsement cs i v e
 
 known-first_flag : (cs : List Candidate) (i : ℕ) (f : Flag) → known (map first_flag cs) i ≡ Some f → (g : EarlyFlag) × (get_or cs i (flagged BadPayload) ≡ flagged g) × (flag_of g ≡ f)
 known-first_flag [] i f e = absurd cc
 known-first_flag (flagged g ∷ cs) zero f e = (g, refl, some_same (flag_of g) f e)
 known-first_flag (opened tx signers ∷ cs) zero f e = absurd cc
+known-first_flag (updates u signers ∷ cs) zero f e = absurd cc
 known-first_flag (c ∷ cs) (suc i) f e = known-first_flag cs i f e
 
 pub shows-first : (j : Job) → ShowsFold j (first_board j)
 shows-first j = record {
   endorsements = λ i v e.
       let k = known-first_endorsement j.candidates i v e in
-      k.2 ∙ ap (endorsement_by j.definitions j.state (running j i).touched) (sym k.1);
+      k.2 ∙ ap (endorsement_by j.admin j.definitions j.state (running j i).touched) (sym k.1);
   flags = λ i f e.
       let k = known-first_flag j.candidates i f e in
       sym k.2 ∙ ap (λ (c : Candidate). flag_by c (endorsed j i) (reads j i (running j i).state)) (sym k.1);

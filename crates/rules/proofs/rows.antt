@@ -14,3 +14,4 @@ mod TenBlocks
 mod Answers
 mod Versions
 mod Runs
+mod Updates

@@ -1,6 +1,7 @@
 -- Answers of queries: each is a function of one world. A `Reply` adds the world's height and last header hash.
-use Rattle.std.specs.Prelude.{ℕ, nat_lt, List, length, take, Bool, Option, slice_get}
+use Rattle.std.specs.Prelude.{ℕ, nat_lt, List, length, take, Bool, Option, option_map, slice_get}
 use Rattle.std.specs.FinMap.{get}
+use Rattle.policy.specs.Text.{text_of}
 use Rattle.rules.specs.declared.committed.CommittedBlock.{CommittedBlock}
 use Rattle.rules.specs.declared.first_use.FirstUse.{FirstUse}
 use Rattle.rules.specs.declared.history.HistoryEntry.{HistoryEntry}
@@ -8,6 +9,7 @@ use Rattle.rules.specs.declared.row.Row.{Row}
 use Rattle.rules.specs.State.{StateKey}
 use Rattle.rules.specs.History.{entries_at}
 use Rattle.rules.specs.Ranges.{is_within, rows_where}
+use Rattle.policy.specs.Text.{text_of}
 use Rattle.rules.specs.World.{World, height_of, last_header_hash}
 
 pub record Reply (A : Type 0) : Type 0 where
@@ -39,6 +41,10 @@ history_answer w k = entries_at w.history k
 
 abbrev pub first_use_answer : World → List ℕ → Option FirstUse
 first_use_answer w id = get w.first_uses id
+
+-- the canonical text of a chaincode's policy
+abbrev pub definition_answer : World → List ℕ → Option (List ℕ)
+definition_answer w chaincode = option_map text_of (get w.definitions chaincode)
 
 -- the block of a number
 abbrev pub block_answer : World → ℕ → Option CommittedBlock

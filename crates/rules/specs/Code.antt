@@ -2,6 +2,7 @@
 use Rattle.std.specs.Prelude.{List, refl}
 use Rattle.std.specs.Coded.{Coded, coded×, coded_list, coded_ℕ, code_by}
 use Rattle.std.specs.FinMap as map
+use Rattle.policy.specs.Policies.{Policies, policies_code}
 use Rattle.rules.specs.contracts.row.Row as row
 use Rattle.rules.specs.contracts.history.HistoryEntry as entry
 use Rattle.rules.specs.contracts.first_use.FirstUse as first_use
@@ -11,6 +12,7 @@ use Rattle.rules.specs.declared.row.Row.{Row}
 use Rattle.rules.specs.State.{StateKey, State}
 use Rattle.rules.specs.History.{History}
 use Rattle.rules.specs.FirstUses.{FirstUses}
+use Rattle.policy.specs.Policies.{Policies, policies_code}
 use Rattle.rules.specs.World.{World}
 
 abbrev pub key_code : Coded StateKey
@@ -31,6 +33,7 @@ first_uses_code = map.code (coded_list coded_ℕ) (first_use.the_row).coded
 
 abbrev pub world_code : Coded World
 world_code =
-    code_by (State × (History × (FirstUses × List CommittedBlock)))
-    (coded× state_code (coded× history_code (coded× first_uses_code (coded_list (committed.the_row).coded))))
-    (λ w. (w.state, (w.history, (w.first_uses, w.blocks)))) (λ p. record { state = p.0; history = p.1.0; first_uses = p.1.1.0; blocks = p.1.1.1 }) (λ _. refl)
+    code_by (State × (History × (FirstUses × (Policies × List CommittedBlock))))
+    (coded× state_code (coded× history_code (coded× first_uses_code (coded× policies_code (coded_list (committed.the_row).coded)))))
+    (λ w. (w.state, (w.history, (w.first_uses, (w.definitions, w.blocks)))))
+    (λ p. record { state = p.0; history = p.1.0; first_uses = p.1.1.0; definitions = p.1.1.1.0; blocks = p.1.1.1.1 }) (λ _. refl)

@@ -3,7 +3,8 @@ use Rattle.std.specs.Prelude.{◌≡◌, ℕ, Bool, ◌||◌, IsTrue, List, [], 
 use Rattle.std.specs.FinMap.{get}
 use Rattle.std.specs.List.{list_all}
 use Rattle.std.specs.List.Sorted.{IsStrictlySortedBy}
-use Rattle.transaction.specs.declared.transaction.Tx.{Tx}
+use Rattle.transaction.specs.declared.item.Item.{Item}
+use Rattle.policy.specs.Tree.{Tree}
 use Rattle.policy_eval.specs.Accepts.{Accepts}
 use Rattle.channel.specs.Configuration.{Configuration}
 use Rattle.rules.specs.declared.committed.CommittedBlock.{CommittedBlock}
@@ -11,6 +12,7 @@ use Rattle.rules.specs.declared.delta.Change.{Change}
 use Rattle.rules.specs.declared.delta.Change.TheVariants.{Put, Remove}
 use Rattle.rules.specs.declared.delta.NewEntry.{NewEntry}
 use Rattle.rules.specs.declared.delta.NewUse.{NewUse}
+use Rattle.rules.specs.declared.delta.NewDefinition.{NewDefinition}
 use Rattle.rules.specs.declared.delta.Delta.{Delta}
 use Rattle.rules.specs.declared.first_use.FirstUse.{FirstUse}
 use Rattle.rules.specs.declared.history.HistoryEntry.{HistoryEntry}
@@ -18,6 +20,7 @@ use Rattle.rules.specs.declared.row.Row.{Row}
 use Rattle.rules.specs.State.{StateKey, State, ChangeOf, key_cmp, with_changes}
 use Rattle.rules.specs.History.{with_entries}
 use Rattle.rules.specs.FirstUses.{with_uses}
+use Rattle.rules.specs.Definitions.{with_definitions}
 use Rattle.rules.specs.World.{World}
 use Rattle.rules.specs.Commit.{committed}
 
@@ -33,6 +36,9 @@ entries_in es = map (λ e. (e.key, e.entry)) es
 
 abbrev pub uses_in : List NewUse → List (List ℕ × FirstUse)
 uses_in us = map (λ u. (u.id, u.first_use)) us
+
+abbrev pub definitions_in : List NewDefinition → List (List ℕ × Tree)
+definitions_in ds = map (λ d. (d.chaincode, d.policy)) ds
 
 -- the change puts a row, or removes one that is there
 abbrev pub is_real : State → ChangeOf Row → Bool
@@ -50,13 +56,15 @@ applied w d = record {
   state = with_changes w.state (changes_in d.changes);
   history = with_entries w.history (entries_in d.entries);
   first_uses = with_uses w.first_uses (uses_in d.uses);
+  definitions = with_definitions w.definitions (definitions_in d.definitions);
   blocks = w.blocks ++ d.block ∷ [];
 }
 
--- A delta of the block of these transactions, over this world and kept so: what it makes of the world, part by part, is
+-- A delta of the block of these items, over this world and kept so: what it makes of the world, part by part, is
 -- what the block makes of it.
-pub record IsDelta (channel : Configuration) (accepts : Accepts) (w : World) (txs : List (Option Tx)) (kept : CommittedBlock) (d : Delta) : Type 0 where
-  pub state : (applied w d).state ≡ (committed channel accepts w txs kept).state
-  pub history : (applied w d).history ≡ (committed channel accepts w txs kept).history
-  pub first_uses : (applied w d).first_uses ≡ (committed channel accepts w txs kept).first_uses
+pub record IsDelta (channel : Configuration) (accepts : Accepts) (w : World) (items : List (Option Item)) (kept : CommittedBlock) (d : Delta) : Type 0 where
+  pub state : (applied w d).state ≡ (committed channel accepts w items kept).state
+  pub history : (applied w d).history ≡ (committed channel accepts w items kept).history
+  pub first_uses : (applied w d).first_uses ≡ (committed channel accepts w items kept).first_uses
+  pub definitions : (applied w d).definitions ≡ (committed channel accepts w items kept).definitions
   pub block : d.block ≡ kept

@@ -5,7 +5,7 @@ use Rattle.std.specs.List.{list_any}
 use Rattle.transaction.specs.declared.transaction.NsSet.{NsSet}
 use Rattle.rules.specs.State.{StateKey, is_among}
 use Rattle.rules.specs.Ranges.{is_compared}
-use Rattle.rules.specs.Candidate.{Candidate, flagged, opened}
+use Rattle.rules.specs.Candidate.{Candidate, flagged, opened, updates}
 use Rattle.rules.specs.Job.{Job, candidate_at, touched_by, operated_by}
 
 abbrev pub shares_key : List StateKey → List StateKey → Bool
@@ -18,6 +18,7 @@ set_looks_at n k = bytes_eq k.0 n.name && (list_any (λ r. bytes_eq k.1 r.key) n
 abbrev pub looks_at : Candidate → StateKey → Bool
 looks_at (flagged flag) k = false
 looks_at (opened tx signers) k = list_any (λ n. set_looks_at n k) tx.namespaces
+looks_at (updates u signers) k = false
 
 -- an earlier one writes the policy of a key that this one writes
 abbrev pub EndorsementDepends : Job → ℕ → ℕ → Type 0

@@ -1,12 +1,13 @@
 -- One block: its candidates taken one by one in order.
 use Rattle.std.specs.Prelude.{ℕ, zero, suc, List, [], ◌++◌, length, map, Bool, if◌then◌else◌}
 use Rattle.std.specs.List.{range_with_len}
+use Rattle.policy.specs.Tree.{Tree}
 use Rattle.rules.specs.declared.flag.Flag.{Flag}
 use Rattle.rules.specs.declared.row.Row.{Row}
 use Rattle.rules.specs.declared.history.HistoryEntry.{HistoryEntry}
 use Rattle.rules.specs.Flags.{is_valid}
 use Rattle.rules.specs.State.{StateKey, State, ChangeOf}
-use Rattle.rules.specs.Job.{Job, candidate_at, version_of, touched_by, changes_by, entries_by, flag_by, endorsement, reads, state_after}
+use Rattle.rules.specs.Job.{Job, candidate_at, version_of, touched_by, changes_by, entries_by, definitions_by, flag_by, endorsement, reads, state_after}
 
 -- what runs along: the state now, and the keys whose policy was touched
 pub record Running : Type 0 where
@@ -55,3 +56,8 @@ changes_to j (suc i) = changes_to j i ++ (if is_valid (flag j i) then changes_by
 unfoldable pub entries_to : Job → ℕ → List (StateKey × HistoryEntry)
 entries_to j zero = []
 entries_to j (suc i) = entries_to j i ++ (if is_valid (flag j i) then entries_by (version_of j i) (candidate_at j i) else [])
+
+-- the definitions that the valid ones before i give, in order
+unfoldable pub definitions_to : Job → ℕ → List (List ℕ × Tree)
+definitions_to j zero = []
+definitions_to j (suc i) = definitions_to j i ++ (if is_valid (flag j i) then definitions_by (candidate_at j i) else [])

@@ -7,10 +7,12 @@ pub mod ReadWriteSets
 pub mod Reads
 pub mod Endorsement
 pub mod FirstUses
+pub mod Definitions
 pub mod Candidate
 pub mod Job
 pub mod Fold
 pub mod World
+pub mod Names
 pub mod Linked
 pub mod Commit
 pub mod Delta

@@ -7,7 +7,7 @@ use Rattle.rules.specs.declared.read_verdict.ReadVerdict.TheVariants.{Good}
 use Rattle.rules.specs.declared.event.Event.{Event}
 use Rattle.rules.specs.declared.event.Event.TheVariants.{Endorse, Reads}
 use Rattle.rules.specs.Flags.{is_valid, flag_of}
-use Rattle.rules.specs.Candidate.{Candidate, flagged, opened}
+use Rattle.rules.specs.Candidate.{Candidate, flagged, opened, updates}
 use Rattle.rules.specs.Job.{Job, candidate_at, flag_by}
 use Rattle.rules.specs.Fold.{endorsed, flag}
 use Rattle.rules.specs.Assignment.{endorsement_under, reads_under}
@@ -29,10 +29,12 @@ known_valid b h = option_map is_valid (known b.flags h)
 abbrev pub first_endorsement : Candidate → Option Bool
 first_endorsement (flagged flag) = Some false
 first_endorsement (opened tx signers) = None
+first_endorsement (updates u signers) = None
 
 abbrev pub first_flag : Candidate → Option Flag
 first_flag (flagged flag) = Some (flag_of flag)
 first_flag (opened tx signers) = None
+first_flag (updates u signers) = None
 
 -- at first the cells of flagged candidates are known
 abbrev pub first_board : Job → Board

@@ -9,7 +9,7 @@ use Rattle.rules.specs.declared.answer.Accepted.{Accepted}
 use Rattle.rules.specs.declared.answer.Refused.{Refused}
 use Rattle.rules.specs.World.{World}
 use Rattle.rules.specs.Linked.{IsLinked, IsRefused}
-use Rattle.rules.specs.Commit.{txs_of, job_of, world_after}
+use Rattle.rules.specs.Commit.{items_of, job_of, world_after}
 use Rattle.rules.specs.Fold.{flags}
 
 -- what is answered to a linked block
@@ -17,7 +17,7 @@ abbrev pub accepted_of : Configuration → Accepts → World → Block → Accep
 accepted_of channel accepts w b = record {
   number = b.header.number;
   header_hash = header_hash_of b.header;
-  flags = flags (job_of channel accepts w (txs_of b));
+  flags = flags (job_of channel accepts w (items_of b));
 }
 
 -- Bytes that spell a linked block are accepted, other bytes are refused for the first reason that holds. To either, want

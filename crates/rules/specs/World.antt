@@ -5,6 +5,7 @@ use Rattle.transaction.specs.declared.block_version.BlockVersion.{BlockVersion}
 use Rattle.transaction.specs.declared.block_version.BlockVersion.TheVariants.{V1}
 use Rattle.block.specs.declared.block.Previous.{Previous}
 use Rattle.block.specs.declared.block.Previous.TheVariants.{Empty, Hash}
+use Rattle.policy.specs.Policies.{Policies}
 use Rattle.rules.specs.declared.committed.CommittedBlock.{CommittedBlock}
 use Rattle.rules.specs.State.{State}
 use Rattle.rules.specs.History.{History}
@@ -14,11 +15,14 @@ pub record World : Type 0 where
   pub state : State
   pub history : History
   pub first_uses : FirstUses
+  -- the policies of chaincodes
+  pub definitions : Policies
   -- the accepted blocks in order
   pub blocks : List CommittedBlock
 
-abbrev pub empty_world : World
-empty_world = record { state = empty; history = empty; first_uses = empty; blocks = [] }
+-- of a channel with these definitions
+abbrev pub empty_world : Policies → World
+empty_world definitions = record { state = empty; history = empty; first_uses = empty; definitions = definitions; blocks = [] }
 
 -- the number of accepted blocks
 abbrev pub height_of : World → ℕ

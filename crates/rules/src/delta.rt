@@ -8,9 +8,10 @@ use crate::history::HistoryEntry;
 use crate::kept_key::KeptKey;
 use crate::keyed_row::KeyedRow;
 use crate::row::Row;
+use policy::Policy;
 use std::alloc::AllocError;
 use transaction::TxId;
-use values::{Items, KeyRef, NameRef, Shared};
+use values::{Items, KeyRef, Name, NameRef, Shared};
 
 /// What a key has from now on.
 #[derive(Drop)]
@@ -73,11 +74,19 @@ pub struct NewUse {
     pub first_use: FirstUse,
 }
 
+/// The policy that a chaincode has from now on.
+#[derive(Drop)]
+pub struct NewDefinition {
+    pub chaincode: Name,
+    pub policy: Shared<Policy>,
+}
+
 /// What one block changes, as plain data. Each list goes in order; of a key's changes the last one stands.
 #[derive(Drop)]
 pub struct Delta {
     pub changes: Items<Change>,
     pub entries: Items<Shared<NewEntry>>,
     pub uses: Items<NewUse>,
+    pub definitions: Items<NewDefinition>,
     pub block: Shared<CommittedBlock>,
 }

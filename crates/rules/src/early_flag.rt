@@ -6,7 +6,7 @@ use crate::flag::Flag;
 /// A flag that is given before the rules on the state are asked.
 #[derive(Clone, Copy, Debug, PartialEq, Eq)]
 pub enum EarlyFlag {
-    /// The bytes are no transaction.
+    /// The bytes are neither a transaction nor an update.
     BadPayload,
     /// It is for another channel.
     TargetChainNotFound,
@@ -16,6 +16,9 @@ pub enum EarlyFlag {
     BadProposalTxId,
     /// The id was used before.
     DuplicateTxId,
+    /// An update that isn't alone in its block, or is of a channel without an admin policy or a chaincode without a policy, or
+    /// whose text spells none.
+    InvalidConfigTransaction,
     /// The read and write sets aren't in form.
     BadRwset,
     /// The named chaincode, or a namespace with writes, has no definition.
@@ -33,6 +36,7 @@ impl EarlyFlag {
             EarlyFlag::BadCreatorSignature => Flag::BadCreatorSignature,
             EarlyFlag::BadProposalTxId => Flag::BadProposalTxId,
             EarlyFlag::DuplicateTxId => Flag::DuplicateTxId,
+            EarlyFlag::InvalidConfigTransaction => Flag::InvalidConfigTransaction,
             EarlyFlag::BadRwset => Flag::BadRwset,
             EarlyFlag::InvalidChaincode => Flag::InvalidChaincode,
         }

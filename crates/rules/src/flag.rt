@@ -7,10 +7,13 @@ ghost use Rattle.rules.specs.Flags.{number_of, flag_numbered, is_valid};
 pub enum Flag {
     /// Its writes are applied.
     Valid,
-    /// The bytes are no transaction.
+    /// The bytes are neither a transaction nor, in a block of version 2, an update.
     BadPayload,
     /// The verifier refuses the creator's signature.
     BadCreatorSignature,
+    /// An update of a chaincode's policy that isn't alone in its block, or is of a channel without an admin policy or a chaincode
+    /// without a policy, or whose text spells none, or whose signers don't satisfy the admin policy.
+    InvalidConfigTransaction,
     /// The id isn't that of the nonce and the creator.
     BadProposalTxId,
     /// The id was used before: by an earlier transaction for this channel, with a good creator's signature
@@ -40,6 +43,7 @@ impl Flag {
             Flag::Valid => 0,
             Flag::BadPayload => 2,
             Flag::BadCreatorSignature => 4,
+            Flag::InvalidConfigTransaction => 6,
             Flag::BadProposalTxId => 8,
             Flag::DuplicateTxId => 9,
             Flag::EndorsementPolicyFailure => 10,
@@ -59,6 +63,7 @@ impl Flag {
             0 => Some(Flag::Valid),
             2 => Some(Flag::BadPayload),
             4 => Some(Flag::BadCreatorSignature),
+            6 => Some(Flag::InvalidConfigTransaction),
             8 => Some(Flag::BadProposalTxId),
             9 => Some(Flag::DuplicateTxId),
             10 => Some(Flag::EndorsementPolicyFailure),

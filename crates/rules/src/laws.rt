@@ -1,6 +1,8 @@
-ghost use Rattle.std.specs.Prelude.{◌≡◌, ◌≢◌, ◌<◌, ℕ, suc, Bool, false, List, length, Option, Some, IsSome, Result, Err, slice_index};
+ghost use Rattle.std.specs.Prelude.{◌≡◌, ◌≢◌, ◌<◌, ◌≤◌, ℕ, suc, Bool, false, List, length, Option, Some, IsSome, Result, Err, slice_index};
+ghost use Rattle.std.specs.FinMap.{get};
+ghost use Rattle.std.specs.Option.{option_or};
 ghost use Rattle.block.specs.declared.block.Block.{Block};
-ghost use Rattle.transaction.specs.declared.transaction.Tx.{Tx};
+ghost use Rattle.transaction.specs.declared.item.Item.{Item};
 ghost use Rattle.transaction.specs.declared.transaction.Version.{Version};
 ghost use Rattle.block.specs.Grammar.{Spells};
 ghost use Rattle.header_hash.specs.Hashes.{header_hash_of};
@@ -19,9 +21,13 @@ ghost use Rattle.rules.specs.declared.read_verdict.ReadVerdict.{ReadVerdict};
 ghost use Rattle.rules.specs.Flags.{number_of, flag_numbered, is_valid};
 ghost use Rattle.rules.specs.State.{StateKey};
 ghost use Rattle.rules.specs.Job.{Job, reads};
-ghost use Rattle.rules.specs.Fold.{running, endorsed, flag, changes_to, entries_to};
+ghost use Rattle.rules.specs.Fold.{running, endorsed, flag, changes_to, entries_to, definitions_to};
 ghost use Rattle.rules.specs.World.{World};
-ghost use Rattle.rules.specs.Commit.{txs_of, job_of, committed_of, committed};
+ghost use Rattle.rules.specs.Candidate.{is_defined, candidate_of, candidates_from};
+ghost use Rattle.rules.specs.Definitions.{given};
+ghost use Rattle.rules.specs.Names.{HasNamesOf};
+ghost use Rattle.rules.specs.FirstUses.{FirstUses};
+ghost use Rattle.rules.specs.Commit.{items_of, channel_in, job_of, committed_of, committed, world_after};
 ghost use Rattle.rules.specs.Linked.{IsLinked, IsLinkedDelta};
 ghost use Rattle.rules.specs.Delta.{applied, IsDelta};
 ghost use Rattle.rules.specs.Listings.{IsListing};
@@ -60,28 +66,56 @@ pub fn invalid_transactions_change_nothing()
     ensures state { (j : Job) (i : ℕ) → flag j i ≢ Valid → (running j (suc i)).state ≡ (running j i).state }
     ensures changes { (j : Job) (i : ℕ) → flag j i ≢ Valid → changes_to j (suc i) ≡ changes_to j i }
     ensures entries { (j : Job) (i : ℕ) → flag j i ≢ Valid → entries_to j (suc i) ≡ entries_to j i }
+    ensures definitions { (j : Job) (i : ℕ) → flag j i ≢ Valid → definitions_to j (suc i) ≡ definitions_to j i }
+{}
+
+/// Laws, and no work: where the only item of a block is a valid update of a chaincode, this has the update's policy behind the
+/// block; every other chaincode, and each behind any other block, has the policy that it had.
+pub fn definitions_behind_a_block()
+    ensures valid { (channel : Configuration) (accepts : Accepts) (w : World) (bytes : List ℕ) (b : Block) (chaincode : List ℕ)
+        → flag (job_of channel accepts w (items_of b)) 0 ≡ Valid
+        → get (world_after channel accepts w bytes b).definitions chaincode ≡ option_or (given (items_of b) chaincode) (get w.definitions chaincode) }
+    ensures invalid { (channel : Configuration) (accepts : Accepts) (w : World) (bytes : List ℕ) (b : Block)
+        → flag (job_of channel accepts w (items_of b)) 0 ≢ Valid → (world_after channel accepts w bytes b).definitions ≡ w.definitions }
+{}
+
+/// Laws, and no work: no step gives a chaincode its first policy or takes its last, and a block gives one policy at most.
+pub fn steps_keep_the_names_of_definitions()
+    ensures one { (channel : Configuration) (accepts : Accepts) (w : World) (items : List (Option Item))
+        → length (definitions_to (job_of channel accepts w items) (length (job_of channel accepts w items).candidates)) ≤ 1 }
+    ensures names { (channel : Configuration) (accepts : Accepts) (old new : World) (bytes : List ℕ) (answer : Result Accepted Refused) (chaincode : List ℕ)
+        → Step channel accepts old bytes answer new → is_defined new.definitions chaincode ≡ is_defined old.definitions chaincode }
+{}
+
+/// Laws, and no work: what a place of a block is before the rules on the state are asked needs no more of the definitions than
+/// which chaincodes have one, so where those of channel and world have the same names, either serves.
+pub fn names_of_definitions_suffice()
+    ensures candidate { (channel : Configuration) (accepts : Accepts) (w : World) (alone used : Bool) (item : Option Item)
+        → HasNamesOf channel w → candidate_of (channel_in channel w) accepts alone used item ≡ candidate_of channel accepts alone used item }
+    ensures candidates { (channel : Configuration) (accepts : Accepts) (w : World) (alone : Bool) (uses : FirstUses) (earlier : List (List ℕ)) (items : List (Option Item))
+        → HasNamesOf channel w → candidates_from (channel_in channel w) accepts alone uses earlier items ≡ candidates_from channel accepts alone uses earlier items }
 {}
 
 /// A law, and no work: the world after a block is the world before it with a delta of the block applied, and whatever
 /// makes that world is a delta of the block.
 pub fn a_block_is_its_delta()
-    ensures world { (channel : Configuration) (accepts : Accepts) (w : World) (txs : List (Option Tx)) (kept : CommittedBlock) (d : Delta)
-        → IsDelta channel accepts w txs kept d → committed channel accepts w txs kept ≡ applied w d }
-    ensures delta { (channel : Configuration) (accepts : Accepts) (w : World) (txs : List (Option Tx)) (kept : CommittedBlock) (d : Delta)
-        → committed channel accepts w txs kept ≡ applied w d → IsDelta channel accepts w txs kept d }
+    ensures world { (channel : Configuration) (accepts : Accepts) (w : World) (items : List (Option Item)) (kept : CommittedBlock) (d : Delta)
+        → IsDelta channel accepts w items kept d → committed channel accepts w items kept ≡ applied w d }
+    ensures delta { (channel : Configuration) (accepts : Accepts) (w : World) (items : List (Option Item)) (kept : CommittedBlock) (d : Delta)
+        → committed channel accepts w items kept ≡ applied w d → IsDelta channel accepts w items kept d }
 {}
 
 /// A law, and no work: single changes or net changes, all ids or the new ones alone, each is a delta of the block.
 pub fn what_a_block_changes_is_its_delta()
-    ensures { (channel : Configuration) (accepts : Accepts) (w : World) (txs : List (Option Tx)) (kept : CommittedBlock) (d : Delta)
-        → IsListing channel accepts w txs kept d → IsDelta channel accepts w txs kept d }
+    ensures { (channel : Configuration) (accepts : Accepts) (w : World) (items : List (Option Item)) (kept : CommittedBlock) (d : Delta)
+        → IsListing channel accepts w items kept d → IsDelta channel accepts w items kept d }
 {}
 
 /// A law, and no work: the delta of a linked block, kept with its bytes, is linked, and what the bytes of a linked delta
 /// spell is a linked block.
 pub fn linked_deltas_keep_linked_blocks()
     ensures of_a_block { (channel : Configuration) (accepts : Accepts) (w : World) (bytes : List ℕ) (b : Block) (d : Delta)
-        → Spells bytes b → IsLinked w b → IsDelta channel accepts w (txs_of b) (committed_of bytes b (job_of channel accepts w (txs_of b))) d
+        → Spells bytes b → IsLinked w b → IsDelta channel accepts w (items_of b) (committed_of bytes b (job_of channel accepts w (items_of b))) d
         → IsLinkedDelta w d }
     ensures its_block { (w : World) (b : Block) (d : Delta) → IsLinkedDelta w d → Spells d.block.bytes b
         → IsLinked w b × (d.block.header_hash ≡ header_hash_of b.header) × (d.block.version ≡ b.version) × (length d.block.flags ≡ length b.txs) }

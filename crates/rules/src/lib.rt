@@ -17,7 +17,7 @@ mod row;
 
 pub use answer::{Accepted, Refused};
 pub use committed::CommittedBlock;
-pub use delta::{Change, Delta, NewEntry, NewUse};
+pub use delta::{Change, Delta, NewDefinition, NewEntry, NewUse};
 pub use early_flag::EarlyFlag;
 pub use event::Event;
 pub use first_use::FirstUse;
@@ -27,9 +27,10 @@ pub use kept_key::KeptKey;
 pub use keyed_row::KeyedRow;
 pub use laws::{
     a_block_is_its_delta, checks_decide_what_is_known, checks_in_order_know_everything,
-    invalid_transactions_change_nothing, known_cells_stay, known_dependencies_make_sure,
-    linked_deltas_keep_linked_blocks, numbers_tell_flags, one_step, refused_bytes_change_nothing,
-    runs_agree, runs_exist, runs_show_the_fold, the_fold_is_an_assignment,
+    definitions_behind_a_block, invalid_transactions_change_nothing, known_cells_stay,
+    known_dependencies_make_sure, linked_deltas_keep_linked_blocks, names_of_definitions_suffice,
+    numbers_tell_flags, one_step, refused_bytes_change_nothing, runs_agree, runs_exist,
+    runs_show_the_fold, steps_keep_the_names_of_definitions, the_fold_is_an_assignment,
     what_a_block_changes_is_its_delta,
 };
 pub use read_verdict::ReadVerdict;

@@ -1,5 +1,5 @@
 -- What a line says is within its limits.
-use Rattle.std.proofs.Common.{◌≡◌, ℕ, ◌<◌, ◌≤◌, ◌^◌, Bool, true, false, cond, List, [], length, Option, Some, None, refl, arith}
+use Rattle.std.proofs.Common.{◌≡◌, ℕ, ◌<◌, ◌≤◌, ◌^◌, ◌&&◌, Bool, true, false, cond, List, [], length, Option, Some, None, refl, arith}
 use Rattle.std.specs.Prelude.{IsTrue, IfSome, option_map, option_and_then, nat_le, nat_lt, codes}
 use Rattle.std.specs.Str.{bytes_eq}
 use Rattle.std.specs.Result.{result_ok}
@@ -15,8 +15,12 @@ use Rattle.transaction.specs.Grammar.{IsIdentity, IsVersion, IsRead, IsResult, I
 use Rattle.transaction.specs.Limits.{max_tx_bytes}
 use Rattle.transaction.specs.declared.identity.Identity.{Identity}
 use Rattle.transaction.specs.declared.identity.Role.{Role}
+use Rattle.transaction.specs.declared.block_version.BlockVersion.{BlockVersion}
+use Rattle.transaction.specs.declared.block_version.BlockVersion.TheVariants.{V1, V2}
 use Rattle.transaction.specs.declared.transaction.Version.{Version}
 use Rattle.key_book.specs.BookText.{identity_of, member_of, label_of, role_of, around_colon}
+use Rattle.scripts.specs.declared.draft.Content.{Content}
+use Rattle.scripts.specs.declared.draft.Content.TheVariants as content
 use Rattle.scripts.specs.declared.saying.Entry.{Entry}
 use Rattle.scripts.specs.declared.saying.Entry.TheVariants as entry
 use Rattle.scripts.specs.declared.saying.Saying.{Saying}
@@ -24,6 +28,7 @@ use Rattle.scripts.specs.declared.saying.Saying.TheVariants as saying
 use Rattle.scripts.specs.Limits.{at_most, max_nonce_bytes, max_value_bytes, max_policy_bytes}
 use Rattle.scripts.specs.Numbers.{is_number, number_of}
 use Rattle.scripts.specs.Says as spec
+use Rattle.scripts.specs.Within.{IsContent, IsOf}
 
 -- ---- choices
 
@@ -197,12 +202,13 @@ IsEntry (entry.Found found) = IsResult found
 IsEntry (entry.Write write) = IsWrite write
 IsEntry (entry.Policy write) = IsPolicyWrite write
 
-abbrev pub IsSaying : Saying → Type 0
-IsSaying (saying.Tx creator nonce chaincode) = IsIdentity creator × (length nonce ≤ max_nonce_bytes) × IsTrue (is_name chaincode)
-IsSaying (saying.Raw bytes) = length bytes ≤ max_tx_bytes
-IsSaying (saying.Namespace name) = IsTrue (is_name name)
-IsSaying (saying.Adds e) = IsEntry e
-IsSaying (saying.Endorse endorser) = IsIdentity endorser
+abbrev pub IsSaying : BlockVersion → Saying → Type 0
+IsSaying version (saying.Begins creator nonce chaincode asked) =
+    IsIdentity creator × (length nonce ≤ max_nonce_bytes) × IsTrue (is_name chaincode) × IsContent asked × IsOf version asked
+IsSaying version (saying.Raw bytes) = length bytes ≤ max_tx_bytes
+IsSaying version (saying.Namespace name) = IsTrue (is_name name)
+IsSaying version (saying.Adds e) = IsEntry e
+IsSaying version (saying.Endorse endorser) = IsIdentity endorser
 
 entry_within : (word rest : List ℕ) → IfSome (spec.entry_of word rest) IsEntry
 entry_within word rest =
@@ -215,26 +221,51 @@ entry_within word rest =
     (either (bytes_eq word (codes "nopolicy")) _ _ IsEntry (mapped entry.Policy (spec.no_policy_of rest) IsPolicyWrite IsEntry (λ x h. h) (no_policy_within rest))
     tt))))))
 
-tx_made : (creator : Option Identity) (nonce chaincode : Option (List ℕ)) → IfSome creator IsIdentity → IfSome nonce (λ n. length n ≤ max_nonce_bytes) → IfSome chaincode (λ n. IsTrue (is_name n))
-    → IfSome (creator >>= λ c. nonce >>= λ n. chaincode >>= λ cc. Some (saying.Tx c n cc)) IsSaying
-tx_made None n name in_creator in_nonce in_name = tt
-tx_made (Some creator) None name in_creator in_nonce in_name = tt
-tx_made (Some creator) (Some n) None in_creator in_nonce in_name = tt
-tx_made (Some creator) (Some n) (Some name) in_creator in_nonce in_name = (in_creator, in_nonce, in_name)
+begins_made : (version : BlockVersion) (creator : Option Identity) (nonce chaincode : Option (List ℕ)) (asked : Content) → IfSome creator IsIdentity → IfSome nonce (λ n. length n ≤ max_nonce_bytes)
+    → IfSome chaincode (λ n. IsTrue (is_name n)) → IsContent asked → IsOf version asked
+    → IfSome (creator >>= λ c. nonce >>= λ n. chaincode >>= λ cc. Some (saying.Begins c n cc asked)) (IsSaying version)
+begins_made version None nonce chaincode asked in_creator in_nonce in_name fits kind = tt
+begins_made version (Some creator) None chaincode asked in_creator in_nonce in_name fits kind = tt
+begins_made version (Some creator) (Some nonce) None asked in_creator in_nonce in_name fits kind = tt
+begins_made version (Some creator) (Some nonce) (Some name) asked in_creator in_nonce in_name fits kind = (in_creator, in_nonce, in_name, fits, kind)
 
-tx_within : (text : List ℕ) → IfSome (spec.tx_of text) IsSaying
-tx_within text =
+begins_within : (version : BlockVersion) (creator nonce name : List ℕ) (asked : Content) → IsContent asked → IsOf version asked
+    → IfSome (spec.begins_of creator nonce name asked) (IsSaying version)
+begins_within version creator nonce name asked fits kind =
+    begins_made version (identity_of creator) (spec.word_of max_nonce_bytes nonce) (spec.name_of name) asked
+    (identity_within creator) (bounded max_nonce_bytes (word_bytes nonce)) (name_within name) fits kind
+
+tx_within : (version : BlockVersion) (text : List ℕ) → IfSome (spec.tx_of text) (IsSaying version)
+tx_within version text =
     let rest = after_first_part text in
-    tx_made (identity_of (first_part text)) (spec.word_of max_nonce_bytes (first_part rest)) (spec.name_of (after_first_part rest))
-    (identity_within (first_part text)) (bounded max_nonce_bytes (word_bytes (first_part rest))) (name_within (after_first_part rest))
+    begins_within version (first_part text) (first_part rest) (after_first_part rest) (content.Tx []) (omega arith, tt) tt
 
-pub says_within : (line : List ℕ) → IfSome (spec.says line) IsSaying
-says_within line =
+update_with : (creator nonce name : List ℕ) (policy : Option (List ℕ)) → IfSome policy (λ t. length t ≤ max_policy_bytes)
+    → IfSome (policy >>= λ t. spec.begins_of creator nonce name (content.Update t)) (IsSaying V2)
+update_with creator nonce name None short = tt
+update_with creator nonce name (Some text) short = begins_within V2 creator nonce name (content.Update text) (omega (arith, short)) tt
+
+update_within : (text : List ℕ) → IfSome (spec.update_of text) (IsSaying V2)
+update_within text =
+    let rest = after_first_part text in
+    let named = after_first_part rest in
+    update_with (first_part text) (first_part rest) (first_part named) (spec.policy_text_of (after_first_part named)) (policy_text_within (after_first_part named))
+
+-- an update's line is one in version 2 alone
+update_when : (version : BlockVersion) (is_word : Bool) (text : List ℕ) (others : Option Saying) → IfSome others (IsSaying version)
+    → IfSome (cond (spec.has_updates version && is_word) (spec.update_of text) others) (IsSaying version)
+update_when V1 is_word text others rest = rest
+update_when V2 is_word text others rest = either is_word (spec.update_of text) others (IsSaying V2) (update_within text) rest
+
+pub says_within : (version : BlockVersion) (line : List ℕ) → IfSome (spec.says version line) (IsSaying version)
+says_within version line =
     let word = first_part line in
     let rest = after_first_part line in
-    either (bytes_eq word (codes "tx")) _ _ IsSaying (tx_within rest)
-    (either (bytes_eq word (codes "raw")) _ _ IsSaying
-    (mapped saying.Raw (spec.raw_of rest) (λ b. length b ≤ max_tx_bytes) IsSaying (λ x h. h) (bounded max_tx_bytes (result_ok (decode_of rest))))
-    (either (bytes_eq word (codes "ns")) _ _ IsSaying (mapped saying.Namespace (spec.name_of rest) (λ n. IsTrue (is_name n)) IsSaying (λ x h. h) (name_within rest))
-    (either (bytes_eq word (codes "endorse")) _ _ IsSaying (mapped saying.Endorse (identity_of rest) IsIdentity IsSaying (λ x h. h) (identity_within rest))
-    (mapped saying.Adds (spec.entry_of word rest) IsEntry IsSaying (λ x h. h) (entry_within word rest)))))
+    let Is = IsSaying version in
+    either (bytes_eq word (codes "tx")) _ _ Is (tx_within version rest)
+    (update_when version (bytes_eq word (codes "update")) rest _
+    (either (bytes_eq word (codes "raw")) _ _ Is
+    (mapped saying.Raw (spec.raw_of rest) (λ b. length b ≤ max_tx_bytes) Is (λ x h. h) (bounded max_tx_bytes (result_ok (decode_of rest))))
+    (either (bytes_eq word (codes "ns")) _ _ Is (mapped saying.Namespace (spec.name_of rest) (λ n. IsTrue (is_name n)) Is (λ x h. h) (name_within rest))
+    (either (bytes_eq word (codes "endorse")) _ _ Is (mapped saying.Endorse (identity_of rest) IsIdentity Is (λ x h. h) (identity_within rest))
+    (mapped saying.Adds (spec.entry_of word rest) IsEntry Is (λ x h. h) (entry_within word rest))))))

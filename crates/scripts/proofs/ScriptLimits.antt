@@ -8,12 +8,15 @@ use Rattle.text_lines.specs.Lines.{Statement, statements}
 use Rattle.values.specs.Name.{is_name}
 use Rattle.transaction.specs.Grammar.{IsIdentity, IsResult, IsRange, IsNsSet, AreItems}
 use Rattle.transaction.specs.Limits.{max_endorsements}
+use Rattle.transaction.specs.declared.block_version.BlockVersion.{BlockVersion}
 use Rattle.transaction.specs.declared.identity.Identity.{Identity}
 use Rattle.transaction.specs.declared.transaction.KeyVersion.{KeyVersion}
 use Rattle.transaction.specs.declared.transaction.Range.{Range}
 use Rattle.transaction.specs.declared.transaction.NsSet.{NsSet}
 use Rattle.block.specs.Limits.{max_txs}
 use Rattle.key_book.specs.Entry as book
+use Rattle.scripts.specs.declared.draft.Content.{Content}
+use Rattle.scripts.specs.declared.draft.Content.TheVariants as content
 use Rattle.scripts.specs.declared.saying.Entry.{Entry}
 use Rattle.scripts.specs.declared.saying.Entry.TheVariants as entry
 use Rattle.scripts.specs.declared.saying.Saying.{Saying}
@@ -26,7 +29,7 @@ use Rattle.scripts.specs.Draft.{Draft}
 use Rattle.scripts.specs.Limits.{max_list, with_one}
 use Rattle.scripts.specs.Says.{says}
 use Rattle.scripts.specs.Script as spec
-use Rattle.scripts.specs.Within.{IsDraft, IsItem, AreDrafted}
+use Rattle.scripts.specs.Within.{IsContent, IsOf, IsDraft, IsItem, AreDrafted}
 use Rattle.scripts.proofs.SayingLimits.{kept, mapped, below, IsEntry, IsSaying, says_within}
 
 -- ---- lists
@@ -67,7 +70,11 @@ as_many : {A : Type 0} (P : A → Type 0) (xs ys : List A) → AreItems P xs →
 unfolding AreAsMany
 as_many P xs ys items many = (omega arith, many.1)
 
--- ---- one transaction
+if_some : {A : Type 0} (o : Option A) (P Q : A → Type 0) → ((x : A) → P x → Q x) → IfSome o P → IfSome o Q
+if_some None P Q to h = tt
+if_some (Some x) P Q to h = to x h
+
+-- ---- one transaction, or one update
 
 with_result_within : (found : KeyVersion) (range : Range) → IsResult found → IsRange range → IfSome (spec.with_result found range) IsRange
 with_result_within found range f r =
@@ -97,122 +104,145 @@ with_entry_within (entry.Policy write) ns e n =
     (λ writes few. record { name = n.name; reads = n.reads; ranges = n.ranges; writes = n.writes; policy_writes = listed _ writes few })
     (with_one_within _ max_list ns.policy_writes write n.policy_writes.1 e)
 
-with_namespaces_within : (keys : List book.Entry) (draft : Draft) (namespaces : List NsSet) → IsDraft keys draft → AreItems IsNsSet namespaces → IsDraft keys (record draft { namespaces = namespaces })
-with_namespaces_within keys draft namespaces d n =
-    record {
-      limits = record { creator = d.limits.creator; nonce = d.limits.nonce; chaincode = d.limits.chaincode; namespaces = n; count = d.limits.count; endorsers = d.limits.endorsers };
+-- the same kind, and within the limits still
+IsLike : BlockVersion → Content → Type 0
+IsLike version asked = IsContent asked × IsOf version asked
+
+in_namespaces_within : (version : BlockVersion) (change : List NsSet → Option (List NsSet)) (asked : Content)
+    → ((namespaces : List NsSet) → AreItems IsNsSet namespaces → IfSome (change namespaces) (AreItems IsNsSet)) → IsContent asked → IfSome (spec.in_namespaces change asked) (IsLike version)
+unfolding IsLike
+in_namespaces_within version change (content.Tx namespaces) to n =
+    mapped content.Tx (change namespaces) (AreItems IsNsSet) (IsLike version) (λ changed m. (m, tt)) (to namespaces n)
+in_namespaces_within version change (content.Update policy) to n = tt
+
+with_content_within : (version : BlockVersion) (keys : List book.Entry) (change : Content → Option Content) (draft : Draft) → IfSome (change draft.content) (IsLike version)
+    → IsDraft version keys draft → IfSome (spec.with_content change draft) (IsDraft version keys)
+unfolding IsLike
+with_content_within version keys change draft like d =
+    mapped (λ changed. record draft { content = changed }) (change draft.content) (IsLike version) (IsDraft version keys)
+    (λ changed is. record {
+      limits = record { creator = d.limits.creator; nonce = d.limits.nonce; chaincode = d.limits.chaincode; content = is.0; count = d.limits.count; endorsers = d.limits.endorsers };
+      kind = is.1;
       creator_signs = d.creator_signs;
       endorsers_sign = d.endorsers_sign;
-    }
+    }) like
 
-with_namespace_within : (keys : List book.Entry) (name : List ℕ) (draft : Draft) → IsTrue (is_name name) → IsDraft keys draft → IfSome (spec.with_namespace name draft) (IsDraft keys)
-with_namespace_within keys name draft n d =
-    mapped (λ changed. record draft { namespaces = changed }) (with_one max_list draft.namespaces (spec.empty_namespace name)) (AreFew max_list IsNsSet) (IsDraft keys)
-    (λ changed few. with_namespaces_within keys draft changed d (listed IsNsSet changed few))
-    (with_one_within IsNsSet max_list draft.namespaces (spec.empty_namespace name) d.limits.namespaces.1
-    (record { name = n; reads = (omega arith, tt); ranges = (omega arith, tt); writes = (omega arith, tt); policy_writes = (omega arith, tt) }))
+with_namespace_within : (version : BlockVersion) (keys : List book.Entry) (name : List ℕ) (draft : Draft) → IsTrue (is_name name) → IsDraft version keys draft → IfSome (spec.with_namespace name draft) (IsDraft version keys)
+with_namespace_within version keys name draft n d =
+    with_content_within version keys (spec.in_namespaces (spec.one_namespace_more name)) draft
+    (in_namespaces_within version (spec.one_namespace_more name) draft.content one_more d.limits.content) d
+  where
+    one_more : (namespaces : List NsSet) → AreItems IsNsSet namespaces → IfSome (spec.one_namespace_more name namespaces) (AreItems IsNsSet)
+    one_more namespaces all =
+        if_some (spec.one_namespace_more name namespaces) (AreFew max_list IsNsSet) (AreItems IsNsSet) (listed IsNsSet)
+        (with_one_within IsNsSet max_list namespaces (spec.empty_namespace name) all.1
+        (record { name = n; reads = (omega arith, tt); ranges = (omega arith, tt); writes = (omega arith, tt); policy_writes = (omega arith, tt) }))
 
-with_addition_within : (keys : List book.Entry) (e : Entry) (draft : Draft) → IsEntry e → IsDraft keys draft → IfSome (spec.with_addition e draft) (IsDraft keys)
-with_addition_within keys e draft h d =
-    mapped (λ changed. record draft { namespaces = changed }) (spec.with_last (spec.with_entry e) draft.namespaces) (AreAsMany IsNsSet draft.namespaces) (IsDraft keys)
-    (λ changed many. with_namespaces_within keys draft changed d (as_many IsNsSet draft.namespaces changed d.limits.namespaces many))
-    (with_last_within IsNsSet (spec.with_entry e) draft.namespaces (λ ns n. with_entry_within e ns h n) d.limits.namespaces.1)
+with_addition_within : (version : BlockVersion) (keys : List book.Entry) (e : Entry) (draft : Draft) → IsEntry e → IsDraft version keys draft → IfSome (spec.with_addition e draft) (IsDraft version keys)
+with_addition_within version keys e draft h d =
+    with_content_within version keys (spec.in_namespaces (spec.one_entry_more e)) draft
+    (in_namespaces_within version (spec.one_entry_more e) draft.content one_more d.limits.content) d
+  where
+    one_more : (namespaces : List NsSet) → AreItems IsNsSet namespaces → IfSome (spec.one_entry_more e namespaces) (AreItems IsNsSet)
+    one_more namespaces all =
+        if_some (spec.one_entry_more e namespaces) (AreAsMany IsNsSet namespaces) (AreItems IsNsSet) (λ changed many. as_many IsNsSet namespaces changed all many)
+        (with_last_within IsNsSet (spec.with_entry e) namespaces (λ ns n. with_entry_within e ns h n) all.1)
 
 both : {A : Type 0} (o : Option A) (P Q : A → Type 0) → IfSome o P → IfSome o Q → IfSome o (λ x. P x × Q x)
 both None P Q p q = tt
 both (Some x) P Q p q = (p, q)
 
-with_endorser_within : (keys : List book.Entry) (endorser : Identity) (draft : Draft) → IsIdentity endorser → IsTrue (spec.can_sign keys endorser) → IsDraft keys draft → IfSome (spec.with_endorser endorser draft) (IsDraft keys)
+with_endorser_within : (version : BlockVersion) (keys : List book.Entry) (endorser : Identity) (draft : Draft) → IsIdentity endorser → IsTrue (spec.can_sign keys endorser) → IsDraft version keys draft → IfSome (spec.with_endorser endorser draft) (IsDraft version keys)
 unfolding AreFew
-with_endorser_within keys endorser draft e signs d =
+with_endorser_within version keys endorser draft e signs d =
     let Signs = λ (i : Identity). IsTrue (spec.can_sign keys i) in
     let longer = with_one max_endorsements draft.endorsers endorser in
     let few = AreFew max_endorsements IsIdentity in
     let signing = AreFew max_endorsements Signs in
-    mapped (λ endorsers. record draft { endorsers = endorsers }) longer (λ es. few es × signing es) (IsDraft keys)
-    (λ endorsers all. record { limits = record { creator = d.limits.creator; nonce = d.limits.nonce; chaincode = d.limits.chaincode; namespaces = d.limits.namespaces; count = all.0.0; endorsers = all.0.1 }; creator_signs = d.creator_signs; endorsers_sign = all.1.1 })
+    mapped (λ endorsers. record draft { endorsers = endorsers }) longer (λ es. few es × signing es) (IsDraft version keys)
+    (λ endorsers all. record { limits = record { creator = d.limits.creator; nonce = d.limits.nonce; chaincode = d.limits.chaincode; content = d.limits.content; count = all.0.0; endorsers = all.0.1 }; kind = d.kind; creator_signs = d.creator_signs; endorsers_sign = all.1.1 })
     (both longer few signing (with_one_within IsIdentity max_endorsements draft.endorsers endorser d.limits.endorsers e)
     (with_one_within Signs max_endorsements draft.endorsers endorser d.endorsers_sign signs))
 
 -- ---- all of them
 
-record IsSoFar (keys : List book.Entry) (so_far : SoFar) : Type 0 where
+record IsSoFar (version : BlockVersion) (keys : List book.Entry) (so_far : SoFar) : Type 0 where
   count : length so_far.items + length (option_to_list so_far.drafting) ≤ max_txs
-  each : AllByRecursion (IsItem keys) so_far.items
-  drafting : IfSome so_far.drafting (IsDraft keys)
+  each : AllByRecursion (IsItem version keys) so_far.items
+  drafting : IfSome so_far.drafting (IsDraft version keys)
 
-in_open_within : (keys : List book.Entry) (change : Draft → Option Draft) (items : List Item) (drafting : Option Draft) → ((d : Draft) → IsDraft keys d → IfSome (change d) (IsDraft keys))
-    → IsSoFar keys (record { items = items; drafting = drafting }) → IfSome (spec.in_open change (record { items = items; drafting = drafting })) (IsSoFar keys)
-in_open_within keys change items None to s = tt
-in_open_within keys change items (Some draft) to s =
-    mapped (λ d. record { items = items; drafting = Some d }) (change draft) (IsDraft keys) (IsSoFar keys) (λ d h. record { count = s.count; each = s.each; drafting = h }) (to draft s.drafting)
+in_open_within : (version : BlockVersion) (keys : List book.Entry) (change : Draft → Option Draft) (items : List Item) (drafting : Option Draft) → ((d : Draft) → IsDraft version keys d → IfSome (change d) (IsDraft version keys))
+    → IsSoFar version keys (record { items = items; drafting = drafting }) → IfSome (spec.in_open change (record { items = items; drafting = drafting })) (IsSoFar version keys)
+in_open_within version keys change items None to s = tt
+in_open_within version keys change items (Some draft) to s =
+    mapped (λ d. record { items = items; drafting = Some d }) (change draft) (IsDraft version keys) (IsSoFar version keys) (λ d h. record { count = s.count; each = s.each; drafting = h }) (to draft s.drafting)
 
-ended_within : (keys : List book.Entry) (items : List Item) (drafting : Option Draft) → IsSoFar keys (record { items = items; drafting = drafting }) → IsSoFar keys (spec.ended (record { items = items; drafting = drafting }))
-ended_within keys items None s = record { count = omega (arith, s.count, length-append items []); each = all_append (IsItem keys) items [] s.each tt; drafting = tt }
-ended_within keys items (Some draft) s =
-    record { count = omega (arith, s.count, length-append items (Drafted draft ∷ [])); each = all_append (IsItem keys) items (Drafted draft ∷ []) s.each (s.drafting, tt); drafting = tt }
+ended_within : (version : BlockVersion) (keys : List book.Entry) (items : List Item) (drafting : Option Draft) → IsSoFar version keys (record { items = items; drafting = drafting }) → IsSoFar version keys (spec.ended (record { items = items; drafting = drafting }))
+ended_within version keys items None s = record { count = omega (arith, s.count, length-append items []); each = all_append (IsItem version keys) items [] s.each tt; drafting = tt }
+ended_within version keys items (Some draft) s =
+    record { count = omega (arith, s.count, length-append items (Drafted draft ∷ [])); each = all_append (IsItem version keys) items (Drafted draft ∷ []) s.each (s.drafting, tt); drafting = tt }
 
-before_within : (keys : List book.Entry) (ends : Bool) (so_far : SoFar) → IsSoFar keys so_far → IsSoFar keys (cond ends (spec.ended so_far) so_far)
-before_within keys true so_far s = ended_within keys so_far.items so_far.drafting s
-before_within keys false so_far s = s
+before_within : (version : BlockVersion) (keys : List book.Entry) (ends : Bool) (so_far : SoFar) → IsSoFar version keys so_far → IsSoFar version keys (cond ends (spec.ended so_far) so_far)
+before_within version keys true so_far s = ended_within version keys so_far.items so_far.drafting s
+before_within version keys false so_far s = s
 
-with_tx_within : (keys : List book.Entry) (draft : Draft) (so_far : SoFar) → (IsTrue (spec.can_sign keys draft.creator) → IsDraft keys draft) → IsSoFar keys so_far → IfSome (spec.with_tx keys draft so_far) (IsSoFar keys)
-with_tx_within keys draft so_far d s =
+with_draft_within : (version : BlockVersion) (keys : List book.Entry) (draft : Draft) (so_far : SoFar) → (IsTrue (spec.can_sign keys draft.creator) → IsDraft version keys draft) → IsSoFar version keys so_far → IfSome (spec.with_draft keys draft so_far) (IsSoFar version keys)
+with_draft_within version keys draft so_far d s =
     let signs = spec.can_sign keys draft.creator in
     let fits = nat_lt (length so_far.items) max_txs in
-    kept (signs && fits) (record { items = so_far.items; drafting = Some draft }) (IsSoFar keys)
+    kept (signs && fits) (record { items = so_far.items; drafting = Some draft }) (IsSoFar version keys)
     (λ test. with_room (d (and_parts signs fits test).0) s (below (length so_far.items) max_txs (and_parts signs fits test).1))
   where
-    with_room : IsDraft keys draft → IsSoFar keys so_far → length so_far.items < max_txs → IsSoFar keys (record { items = so_far.items; drafting = Some draft })
+    with_room : IsDraft version keys draft → IsSoFar version keys so_far → length so_far.items < max_txs → IsSoFar version keys (record { items = so_far.items; drafting = Some draft })
     with_room d s few = record { count = omega arith; each = s.each; drafting = d }
 
-with_raw_within : (keys : List book.Entry) (bytes : List ℕ) (so_far : SoFar) → IsItem keys (Raw bytes) → IsSoFar keys so_far → IfSome (spec.with_raw bytes so_far) (IsSoFar keys)
+with_raw_within : (version : BlockVersion) (keys : List book.Entry) (bytes : List ℕ) (so_far : SoFar) → IsItem version keys (Raw bytes) → IsSoFar version keys so_far → IfSome (spec.with_raw bytes so_far) (IsSoFar version keys)
 unfolding AreFew
-with_raw_within keys bytes so_far b s =
-    mapped (λ items. record { items = items; drafting = None }) (with_one max_txs so_far.items (Raw bytes)) (AreFew max_txs (IsItem keys)) (IsSoFar keys)
-    (λ items few. record { count = omega (arith, few.0); each = few.1; drafting = tt }) (with_one_within (IsItem keys) max_txs so_far.items (Raw bytes) s.each b)
+with_raw_within version keys bytes so_far b s =
+    mapped (λ items. record { items = items; drafting = None }) (with_one max_txs so_far.items (Raw bytes)) (AreFew max_txs (IsItem version keys)) (IsSoFar version keys)
+    (λ items few. record { count = omega (arith, few.0); each = few.1; drafting = tt }) (with_one_within (IsItem version keys) max_txs so_far.items (Raw bytes) s.each b)
 
 when : {A : Type 0} (b : Bool) (x : Option A) (P : A → Type 0) → (b ≡ true → IfSome x P) → IfSome (cond b x None) P
 when true x P holds = holds refl
 when false x P holds = tt
 
-said_by_within : (keys : List book.Entry) (n : ℕ) (so_far : SoFar) (saying : Saying) → IsSaying saying → IsSoFar keys so_far → IfSome (spec.said_by keys n so_far saying) (IsSoFar keys)
-said_by_within keys n so_far (saying.Tx creator nonce chaincode) h s =
-    with_tx_within keys _ so_far
-    (λ signs. record { limits = record { creator = h.0; nonce = omega (arith, h.1); chaincode = h.2; namespaces = (omega arith, tt); count = omega arith; endorsers = tt }; creator_signs = signs; endorsers_sign = tt }) s
-said_by_within keys n so_far (saying.Raw bytes) h s = with_raw_within keys bytes so_far h s
-said_by_within keys n so_far (saying.Namespace name) h s =
-    in_open_within keys (spec.with_namespace name) so_far.items so_far.drafting (λ d dh. with_namespace_within keys name d h dh) s
-said_by_within keys n so_far (saying.Adds e) h s =
-    in_open_within keys (spec.with_addition e) so_far.items so_far.drafting (λ d dh. with_addition_within keys e d h dh) s
-said_by_within keys n so_far (saying.Endorse endorser) h s =
-    when (spec.can_sign keys endorser) (spec.in_open (spec.with_endorser endorser) so_far) (IsSoFar keys)
-    (λ signs. in_open_within keys (spec.with_endorser endorser) so_far.items so_far.drafting (λ d dh. with_endorser_within keys endorser d h signs dh) s)
+said_by_within : (version : BlockVersion) (keys : List book.Entry) (n : ℕ) (so_far : SoFar) (saying : Saying) → IsSaying version saying → IsSoFar version keys so_far → IfSome (spec.said_by keys n so_far saying) (IsSoFar version keys)
+said_by_within version keys n so_far (saying.Begins creator nonce chaincode asked) h s =
+    with_draft_within version keys _ so_far
+    (λ signs. record { limits = record { creator = h.0; nonce = omega (arith, h.1); chaincode = h.2; content = h.3; count = omega arith; endorsers = tt }; kind = h.4; creator_signs = signs; endorsers_sign = tt }) s
+said_by_within version keys n so_far (saying.Raw bytes) h s = with_raw_within version keys bytes so_far h s
+said_by_within version keys n so_far (saying.Namespace name) h s =
+    in_open_within version keys (spec.with_namespace name) so_far.items so_far.drafting (λ d dh. with_namespace_within version keys name d h dh) s
+said_by_within version keys n so_far (saying.Adds e) h s =
+    in_open_within version keys (spec.with_addition e) so_far.items so_far.drafting (λ d dh. with_addition_within version keys e d h dh) s
+said_by_within version keys n so_far (saying.Endorse endorser) h s =
+    when (spec.can_sign keys endorser) (spec.in_open (spec.with_endorser endorser) so_far) (IsSoFar version keys)
+    (λ signs. in_open_within version keys (spec.with_endorser endorser) so_far.items so_far.drafting (λ d dh. with_endorser_within version keys endorser d h signs dh) s)
 
-said_with_within : (keys : List book.Entry) (n : ℕ) (so_far : SoFar) (o : Option Saying) → IfSome o IsSaying → IsSoFar keys so_far → IfSome (option_and_then (spec.said_by keys n so_far) o) (IsSoFar keys)
-said_with_within keys n so_far None h s = tt
-said_with_within keys n so_far (Some saying) h s = said_by_within keys n so_far saying h s
+said_with_within : (version : BlockVersion) (keys : List book.Entry) (n : ℕ) (so_far : SoFar) (o : Option Saying) → IfSome o (IsSaying version) → IsSoFar version keys so_far → IfSome (option_and_then (spec.said_by keys n so_far) o) (IsSoFar version keys)
+said_with_within version keys n so_far None h s = tt
+said_with_within version keys n so_far (Some saying) h s = said_by_within version keys n so_far saying h s
 
-drafted : (keys : List book.Entry) (so_far : SoFar) → IsSoFar keys so_far → AreDrafted keys so_far.items
-drafted keys so_far s = record { count = omega (arith, s.count); each = s.each }
+drafted : (version : BlockVersion) (keys : List book.Entry) (so_far : SoFar) → IsSoFar version keys so_far → AreDrafted version keys so_far.items
+drafted version keys so_far s = record { count = omega (arith, s.count); each = s.each }
 
-or_stops_within : (keys : List book.Entry) (go : SoFar → Script) (n : ℕ) (items : List Item) (o : Option SoFar) → AreDrafted keys items → ((s : SoFar) → IsSoFar keys s → AreDrafted keys (go s).items) → IfSome o (IsSoFar keys)
-    → AreDrafted keys (spec.or_stops go n items o).items
-or_stops_within keys go n items None i to h = i
-or_stops_within keys go n items (Some s) i to h = to s h
+or_stops_within : (version : BlockVersion) (keys : List book.Entry) (go : SoFar → Script) (n : ℕ) (items : List Item) (o : Option SoFar) → AreDrafted version keys items → ((s : SoFar) → IsSoFar version keys s → AreDrafted version keys (go s).items) → IfSome o (IsSoFar version keys)
+    → AreDrafted version keys (spec.or_stops go n items o).items
+or_stops_within version keys go n items None i to h = i
+or_stops_within version keys go n items (Some s) i to h = to s h
 
-script_from_within : (keys : List book.Entry) (so_far : SoFar) (text : List Statement) → IsSoFar keys so_far → AreDrafted keys (spec.script_from keys so_far text).items
-script_from_within keys so_far [] s = drafted keys (spec.ended so_far) (ended_within keys so_far.items so_far.drafting s)
-script_from_within keys so_far (line ∷ more) s =
-    let before = spec.before line.bytes so_far in
-    let b : IsSoFar keys before = before_within keys (spec.ends_before line.bytes) so_far s in
-    or_stops_within keys (λ next. spec.script_from keys next more) line.line before.items (spec.said_with keys line.line before line.bytes) (drafted keys before b)
-    (λ next h. script_from_within keys next more h) (said_with_within keys line.line before (says line.bytes) (says_within line.bytes) b)
+script_from_within : (version : BlockVersion) (keys : List book.Entry) (so_far : SoFar) (text : List Statement) → IsSoFar version keys so_far → AreDrafted version keys (spec.script_from version keys so_far text).items
+script_from_within version keys so_far [] s = drafted version keys (spec.ended so_far) (ended_within version keys so_far.items so_far.drafting s)
+script_from_within version keys so_far (line ∷ more) s =
+    let before = spec.before version line.bytes so_far in
+    let b : IsSoFar version keys before = before_within version keys (spec.ends_before version line.bytes) so_far s in
+    or_stops_within version keys (λ next. spec.script_from version keys next more) line.line before.items (spec.said_with version keys line.line before line.bytes) (drafted version keys before b)
+    (λ next h. script_from_within version keys next more h) (said_with_within version keys line.line before (says version line.bytes) (says_within version line.bytes) b)
 
-pub script_within : (keys : List book.Entry) (text : List ℕ) → AreDrafted keys (spec.script_of keys text).items
-script_within keys text = script_from_within keys spec.nothing_said (statements text) (record { count = omega arith; each = tt; drafting = tt })
+pub script_within : (version : BlockVersion) (keys : List book.Entry) (text : List ℕ) → AreDrafted version keys (spec.script_of version keys text).items
+script_within version keys text = script_from_within version keys spec.nothing_said (statements text) (record { count = omega arith; each = tt; drafting = tt })
 
-pub read_within : {E : Type 0} (r : Result Script E) (keys : List book.Entry) (text : List ℕ) → IfOk r (λ script. script ≡ spec.script_of keys text)
-    → IfOk r (λ script. AreDrafted keys script.items)
-read_within (Ok script) keys text is = subst (λ (s : Script). AreDrafted keys s.items) (sym is) (script_within keys text)
-read_within (Err e) keys text is = tt
+pub read_within : {E : Type 0} (r : Result Script E) (version : BlockVersion) (keys : List book.Entry) (text : List ℕ) → IfOk r (λ script. script ≡ spec.script_of version keys text)
+    → IfOk r (λ script. AreDrafted version keys script.items)
+read_within (Ok script) version keys text is = subst (λ (s : Script). AreDrafted version keys s.items) (sym is) (script_within version keys text)
+read_within (Err e) version keys text is = tt

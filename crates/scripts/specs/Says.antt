@@ -1,5 +1,5 @@
--- What one line of a script says, whatever stands before it.
-use Rattle.std.specs.Prelude.{ℕ, nat_lt, Bool, true, false, if◌then◌else◌, List, [], length, codes, Option, Some, None, option_map}
+-- What one line of a script says, whatever stands before it, where its block has this version.
+use Rattle.std.specs.Prelude.{ℕ, ◌&&◌, nat_lt, Bool, true, false, if◌then◌else◌, List, [], length, codes, Option, Some, None, option_map}
 use Rattle.std.specs.Result.{result_ok}
 use Rattle.std.specs.Str.{bytes_eq}
 use Rattle.hex.specs.Hex.{decode_of}
@@ -9,6 +9,8 @@ use Rattle.text_lines.specs.Lines.{first_part, after_first_part}
 use Rattle.text_lines.specs.Words.{word_bytes}
 use Rattle.transaction.specs.Limits.{max_tx_bytes}
 use Rattle.transaction.specs.Combined.{◌>>=◌}
+use Rattle.transaction.specs.declared.block_version.BlockVersion.{BlockVersion}
+use Rattle.transaction.specs.declared.block_version.BlockVersion.TheVariants.{V1, V2}
 use Rattle.transaction.specs.declared.transaction.Version.{Version}
 use Rattle.transaction.specs.declared.transaction.Read.{Read}
 use Rattle.transaction.specs.declared.transaction.KeyVersion.{KeyVersion}
@@ -16,6 +18,8 @@ use Rattle.transaction.specs.declared.transaction.Range.{Range}
 use Rattle.transaction.specs.declared.transaction.Write.{Write}
 use Rattle.transaction.specs.declared.transaction.PolicyWrite.{PolicyWrite}
 use Rattle.key_book.specs.BookText.{identity_of}
+use Rattle.scripts.specs.declared.draft.Content.{Content}
+use Rattle.scripts.specs.declared.draft.Content.TheVariants as content
 use Rattle.scripts.specs.declared.saying.Entry.{Entry}
 use Rattle.scripts.specs.declared.saying.Entry.TheVariants as entry
 use Rattle.scripts.specs.declared.saying.Saying.{Saying}
@@ -116,19 +120,40 @@ no_policy_of text = do
   key ← key_of text
   Some (record { key = key; policy = None })
 
+-- the parts IDENTITY, NONCE and NAME, and what the transaction or update has beside them
+abbrev pub begins_of : List ℕ → List ℕ → List ℕ → Content → Option Saying
+begins_of creator nonce name asked = do
+  creator ← identity_of creator
+  nonce ← word_of max_nonce_bytes nonce
+  chaincode ← name_of name
+  Some (saying.Begins creator nonce chaincode asked)
+
 -- `IDENTITY NONCE NAME`
 abbrev pub tx_of : List ℕ → Option Saying
-tx_of text = do
-  creator ← identity_of (first_part text)
-  nonce ← word_of max_nonce_bytes (first_part (after_first_part text))
-  chaincode ← name_of (after_first_part (after_first_part text))
-  Some (saying.Tx creator nonce chaincode)
+tx_of text =
+    begins_of (first_part text) (first_part (after_first_part text)) (after_first_part (after_first_part text)) (content.Tx [])
+
+-- `IDENTITY NONCE NAME TEXT`; whether the text is a policy isn't asked
+abbrev pub update_of : List ℕ → Option Saying
+update_of text = do
+  policy ← policy_text_of (after_first_part (after_first_part (after_first_part text)))
+  begins_of (first_part text) (first_part (after_first_part text)) (first_part (after_first_part (after_first_part text)))
+      (content.Update policy)
 
 -- hexadecimal digits, two for each byte, or nothing where there is no byte
 abbrev pub raw_of : List ℕ → Option (List ℕ)
 raw_of digits = result_ok (decode_of digits) >>= at_most max_tx_bytes
 
 -- ---- lines
+
+-- a block of version 1 has transactions alone
+abbrev pub has_updates : BlockVersion → Bool
+has_updates V1 = false
+has_updates V2 = true
+
+-- the first word of an update's line
+abbrev pub is_update : BlockVersion → List ℕ → Bool
+is_update version word = has_updates version && bytes_eq word (codes "update")
 
 -- a line of a namespace
 abbrev pub entry_of : List ℕ → List ℕ → Option Entry
@@ -143,9 +168,10 @@ entry_of word rest =
     else None
 
 -- what a line says, or none where it has no form of the table, or a part over its limit
-abbrev pub says : List ℕ → Option Saying
-says line =
+abbrev pub says : BlockVersion → List ℕ → Option Saying
+says version line =
     if bytes_eq (first_part line) (codes "tx") then tx_of (after_first_part line)
+    else if is_update version (first_part line) then update_of (after_first_part line)
     else if bytes_eq (first_part line) (codes "raw") then option_map saying.Raw (raw_of (after_first_part line))
     else if bytes_eq (first_part line) (codes "ns") then option_map saying.Namespace (name_of (after_first_part line))
     else if bytes_eq (first_part line) (codes "endorse") then option_map saying.Endorse (identity_of (after_first_part line))

@@ -1,16 +1,26 @@
-//! What a script says of one transaction.
+//! What a script says of one transaction, or of one update of a definition.
 ghost use Rattle.std.specs.Prelude.{◌≡◌, []};
 ghost use Rattle.scripts.specs.Script as spec;
 ghost use Rattle.scripts.specs.Taking.{Changes};
 
-use crate::namespace::{MAX_LIST, OwnedNsSet, add_one, push_one};
+use crate::namespace::add_one;
+use crate::namespaces::Namespaces;
 use crate::saying::Entry;
 use std::alloc::{AllocError, Global};
 use std::marker::Model;
 use transaction::{Identity, MAX_ENDORSEMENTS, OwnedIdentity};
 use values::{Bytes, Items, Name, NameRef};
 
-/// A transaction as a script says it: all but its channel, its id and its signatures, which are
+/// What a transaction or an update has beside creator, nonce and chaincode.
+#[derive(Drop)]
+pub enum Content {
+    /// What a transaction read and wrote.
+    Tx(Namespaces),
+    /// The text of the policy that an update gives its chaincode; it may be no policy.
+    Update(Bytes),
+}
+
+/// A transaction or an update as a script says it: all but its channel, its id and its signatures, which are
 /// computed.
 #[derive(Drop)]
 pub struct Draft {
@@ -18,7 +28,7 @@ pub struct Draft {
     creator: OwnedIdentity,
     nonce: Bytes,
     chaincode: Name,
-    namespaces: Vec<OwnedNsSet>,
+    content: Content,
     endorsers: Items<OwnedIdentity>,
 }
 
@@ -27,52 +37,65 @@ impl Model for Draft {
 
     ghost Value = { spec.Draft };
 
-    ghost view = { λ d. record { line = d.line; creator = d.creator; nonce = d.nonce; chaincode = d.chaincode; namespaces = d.namespaces.items; endorsers = d.endorsers } };
+    ghost view = { λ d. record { line = d.line; creator = d.creator; nonce = d.nonce; chaincode = d.chaincode; content = d.content; endorsers = d.endorsers } };
 }
 
-// Adds a line to the last namespace, or answers no where it can't stand there.
-fn add_to_last(namespaces: &mut Vec<OwnedNsSet>, entry: Entry) -> Result<bool, AllocError>
-    ensures { Changes result namespaces.new.items (spec.with_last (spec.with_entry entry) namespaces.old.items) }
-{
-    match namespaces.last_mut() {
-        Some(last) => last.add(entry),
-        None => Ok(false),
+impl Content {
+    // Adds a namespace, or answers no where there are the most, or where it is an update's.
+    fn add_namespace(&mut self, alloc: Global, name: Name) -> Result<bool, AllocError>
+        ensures { Changes result self.new (spec.in_namespaces (spec.one_namespace_more name) self.old) }
+    {
+        match self {
+            Content::Tx(namespaces) => namespaces.add(alloc, name),
+            Content::Update(_) => Ok(false),
+        }
+    }
+
+    // Adds a line to the last namespace, or answers no where it can't stand there.
+    fn add_entry(&mut self, entry: Entry) -> Result<bool, AllocError>
+        ensures { Changes result self.new (spec.in_namespaces (spec.one_entry_more entry) self.old) }
+    {
+        match self {
+            Content::Tx(namespaces) => namespaces.add_entry(entry),
+            Content::Update(_) => Ok(false),
+        }
     }
 }
 
 impl Draft {
-    /// A transaction without namespaces and endorsers, from the `tx` line of this number.
+    /// One without endorsers, from the `tx` or `update` line of this number.
     pub fn new(
         alloc: Global,
         line: u64,
         creator: OwnedIdentity,
         nonce: Bytes,
         chaincode: Name,
+        content: Content,
     ) -> Draft
-        ensures { result ≡ record { line = line; creator = creator; nonce = nonce; chaincode = chaincode; namespaces = []; endorsers = [] } }
+        ensures { result ≡ record { line = line; creator = creator; nonce = nonce; chaincode = chaincode; content = content; endorsers = [] } }
     {
         Draft {
             line,
             creator,
             nonce,
             chaincode,
-            namespaces: Vec::new(alloc),
+            content,
             endorsers: Items::new(alloc),
         }
     }
 
-    // Adds a namespace, which is open from then on, or answers no where there are the most.
+    // Adds a namespace, which is open from then on, or answers no where it can't stand there.
     pub(crate) fn add_namespace(&mut self, alloc: Global, name: Name) -> Result<bool, AllocError>
         ensures { Changes result self.new (spec.with_namespace name self.old) }
     {
-        push_one(&mut self.namespaces, MAX_LIST, OwnedNsSet::new(alloc, name))
+        self.content.add_namespace(alloc, name)
     }
 
     // Adds a line to the last namespace, or answers no where it can't stand there.
     pub(crate) fn add_entry(&mut self, entry: Entry) -> Result<bool, AllocError>
         ensures { Changes result self.new (spec.with_addition entry self.old) }
     {
-        add_to_last(&mut self.namespaces, entry)
+        self.content.add_entry(entry)
     }
 
     // Adds an endorser, or answers no where there are the most.
@@ -82,7 +105,7 @@ impl Draft {
         add_one(&mut self.endorsers, MAX_ENDORSEMENTS, endorser)
     }
 
-    /// The number of its `tx` line.
+    /// The number of its `tx` or `update` line.
     pub fn line(&self) -> u64
         ensures { result ≡ self.now.line }
     {
@@ -101,17 +124,17 @@ impl Draft {
         &self.nonce
     }
 
-    /// The named chaincode.
+    /// The chaincode that a transaction names, or whose definition an update changes.
     pub fn chaincode(&self) -> NameRef<'_>
         ensures { result ≡ self.now.chaincode }
     {
         self.chaincode.lend()
     }
 
-    pub fn namespaces(&self) -> &[OwnedNsSet]
-        ensures { result.now ≡ self.now.namespaces }
+    pub fn content(&self) -> &Content
+        ensures { result.now ≡ self.now.content }
     {
-        self.namespaces.as_slice()
+        &self.content
     }
 
     pub fn endorsers(&self) -> &[OwnedIdentity]

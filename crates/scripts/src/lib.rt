@@ -1,4 +1,4 @@
-//! Draft scripts: what a user writes of the transactions of a block.
+//! Draft scripts: what a user writes of the transactions and updates of a block.
 #![tactic(auto)]
 
 mod draft;
@@ -6,14 +6,16 @@ mod keyed;
 mod laws;
 mod lines;
 mod namespace;
+mod namespaces;
 mod numbers;
 mod parts;
 mod saying;
 mod script;
 mod so_far;
 
-pub use draft::Draft;
+pub use draft::{Content, Draft};
 pub use keyed::{OwnedKeyVersion, OwnedPolicyWrite, OwnedRead, OwnedWrite};
 pub use laws::limits_are_the_definitions;
 pub use namespace::{OwnedNsSet, OwnedRange};
+pub use namespaces::Namespaces;
 pub use script::{Item, Script, read};

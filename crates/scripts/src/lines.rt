@@ -2,8 +2,10 @@
 ghost use Rattle.std.specs.Prelude.{◌≡◌, IfOk, option_map};
 ghost use Rattle.scripts.specs.Says as spec;
 
+use crate::draft::Content;
 use crate::keyed::{OwnedKeyVersion, OwnedPolicyWrite, OwnedRead, OwnedWrite};
 use crate::namespace::OwnedRange;
+use crate::namespaces::Namespaces;
 use crate::parts::{
     MAX_NONCE, MAX_VALUE, read_bound, read_bytes, read_key, read_name, read_policy_text, read_raw,
     read_version,
@@ -12,7 +14,7 @@ use crate::saying::{Entry, Saying};
 use key_book::read_identity;
 use std::alloc::{AllocError, Global};
 use text_lines::first_part;
-use transaction::Version;
+use transaction::{BlockVersion, Version};
 
 fn read_version_or_absent(text: &[u8]) -> Option<Option<Version>>
     ensures { result ≡ spec.read_version_of text.now }
@@ -145,30 +147,77 @@ fn read_entry(alloc: Global, word: &[u8], rest: &[u8]) -> Result<Option<Entry>, 
     }
 }
 
-fn read_tx(alloc: Global, text: &[u8]) -> Result<Option<Saying>, AllocError>
-    ensures { IfOk result (λ saying. saying ≡ spec.tx_of text.now) }
+// What a transaction or an update begins with, where each part has its form.
+fn read_begins(
+    alloc: Global,
+    creator: &[u8],
+    nonce: &[u8],
+    name: &[u8],
+    content: Content,
+) -> Result<Option<Saying>, AllocError>
+    ensures { IfOk result (λ saying. saying ≡ spec.begins_of creator.now nonce.now name.now content) }
 {
-    let (creator, rest) = first_part(text);
-    let (nonce, chaincode) = first_part(rest);
     let Some(creator) = read_identity(alloc, creator)? else {
         return Ok(None);
     };
     let Some(nonce) = read_bytes(alloc, MAX_NONCE, nonce)? else {
         return Ok(None);
     };
-    let Some(chaincode) = read_name(alloc, chaincode)? else {
+    let Some(chaincode) = read_name(alloc, name)? else {
         return Ok(None);
     };
-    Ok(Some(Saying::Tx(creator, nonce, chaincode)))
+    Ok(Some(Saying::Begins(creator, nonce, chaincode, content)))
+}
+
+fn read_tx(alloc: Global, text: &[u8]) -> Result<Option<Saying>, AllocError>
+    ensures { IfOk result (λ saying. saying ≡ spec.tx_of text.now) }
+{
+    let (creator, rest) = first_part(text);
+    let (nonce, name) = first_part(rest);
+    let content = Content::Tx(Namespaces::new(alloc));
+    read_begins(alloc, creator, nonce, name, content)
+}
+
+fn read_update(alloc: Global, text: &[u8]) -> Result<Option<Saying>, AllocError>
+    ensures { IfOk result (λ saying. saying ≡ spec.update_of text.now) }
+{
+    let (creator, rest) = first_part(text);
+    let (nonce, rest) = first_part(rest);
+    let (name, policy) = first_part(rest);
+    let Some(policy) = read_policy_text(alloc, policy)? else {
+        return Ok(None);
+    };
+    read_begins(alloc, creator, nonce, name, Content::Update(policy))
+}
+
+fn has_updates(version: BlockVersion) -> bool
+    ensures { result ≡ spec.has_updates version }
+{
+    match version {
+        BlockVersion::V1 => false,
+        BlockVersion::V2 => true,
+    }
+}
+
+pub(crate) fn is_update(version: BlockVersion, word: &[u8]) -> bool
+    ensures { result ≡ spec.is_update version word.now }
+{
+    has_updates(version) && word == b"update".as_slice()
 }
 
 // What the line says, or none where it has no form of the table, or a part over its limit.
-pub(crate) fn read_line(alloc: Global, line: &[u8]) -> Result<Option<Saying>, AllocError>
-    ensures { IfOk result (λ saying. saying ≡ spec.says line.now) }
+pub(crate) fn read_line(
+    alloc: Global,
+    version: BlockVersion,
+    line: &[u8],
+) -> Result<Option<Saying>, AllocError>
+    ensures { IfOk result (λ saying. saying ≡ spec.says version line.now) }
 {
     let (word, rest) = first_part(line);
     if word == b"tx".as_slice() {
         read_tx(alloc, rest)
+    } else if is_update(version, word) {
+        read_update(alloc, rest)
     } else if word == b"raw".as_slice() {
         Ok(read_raw(alloc, rest)?.map(Saying::Raw))
     } else if word == b"ns".as_slice() {

@@ -1,5 +1,6 @@
 //! What one line says, whatever stands before it.
 
+use crate::draft::Content;
 use crate::keyed::{OwnedKeyVersion, OwnedPolicyWrite, OwnedRead, OwnedWrite};
 use crate::namespace::OwnedRange;
 use transaction::OwnedIdentity;
@@ -19,8 +20,8 @@ pub(crate) enum Entry {
 /// A line, by its form.
 #[derive(Drop)]
 pub(crate) enum Saying {
-    /// A transaction begins: creator, nonce, named chaincode.
-    Tx(OwnedIdentity, Bytes, Name),
+    /// A transaction or an update begins: creator, nonce, chaincode, and what it has beside them.
+    Begins(OwnedIdentity, Bytes, Name, Content),
     /// The bytes of a whole transaction.
     Raw(Bytes),
     /// A namespace begins.

@@ -1,20 +1,20 @@
 //! What a script says so far.
-ghost use Rattle.std.specs.Prelude.{◌≡◌, [], OnOk};
+ghost use Rattle.std.specs.Prelude.{◌≡◌, Ok, OnOk};
 ghost use Rattle.scripts.specs.Script as spec;
 ghost use Rattle.scripts.specs.Taking.{Takes};
 
 use crate::draft::Draft;
-use crate::lines::read_line;
+use crate::lines::{is_update, read_line};
 use crate::saying::{Entry, Saying};
 use crate::script::Item;
 use block::MAX_TXS;
 use key_book::KeyBook;
 use std::alloc::{AllocError, Global};
 use text_lines::first_part;
-use transaction::{Identity, OwnedIdentity};
+use transaction::{BlockVersion, Identity, OwnedIdentity};
 use values::{Bytes, Items, Name};
 
-// The items that ended, and the transaction that is open.
+// The items that ended, and the transaction or update that is open.
 #[derive(Drop)]
 pub(crate) struct SoFar {
     pub(crate) items: Items<Item>,
@@ -27,11 +27,11 @@ fn can_sign(keys: &KeyBook, identity: &Identity<'_>) -> bool
     keys.contains(identity)
 }
 
-fn ends_before(line: &[u8]) -> bool
-    ensures { result ≡ spec.ends_before line.now }
+fn ends_before(version: BlockVersion, line: &[u8]) -> bool
+    ensures { result ≡ spec.ends_before version line.now }
 {
     let (word, _) = first_part(line);
-    word == b"tx".as_slice() || word == b"raw".as_slice()
+    word == b"tx".as_slice() || word == b"raw".as_slice() || is_update(version, word)
 }
 
 impl SoFar {
@@ -53,32 +53,25 @@ impl SoFar {
         Ok(())
     }
 
-    // Ends the open transaction where the line does so.
-    pub(crate) fn go_before(&mut self, line: &[u8]) -> Result<(), AllocError>
-        ensures { OnOk result (self.new ≡ spec.before line.now self.old) }
+    // Ends the one that is open where the line does so.
+    pub(crate) fn go_before(&mut self, version: BlockVersion, line: &[u8]) -> Result<(), AllocError>
+        ensures { OnOk result (self.new ≡ spec.before version line.now self.old) }
     {
-        if ends_before(line) {
+        if ends_before(version, line) {
             self.end_open()?;
         }
         Ok(())
     }
 
-    fn open_tx(
-        &mut self,
-        alloc: Global,
-        keys: &KeyBook,
-        line: u64,
-        creator: OwnedIdentity,
-        nonce: Bytes,
-        chaincode: Name,
-    ) -> Result<bool, AllocError>
-        ensures { Takes result self.old self.new (spec.with_tx keys.now (record { line = line; creator = creator; nonce = nonce; chaincode = chaincode; namespaces = []; endorsers = [] }) self.old) }
+    // The draft is open from then on, where its creator is in the book and there is room for it.
+    fn open_draft(&mut self, keys: &KeyBook, draft: Draft) -> bool
+        ensures { Takes (Ok result) self.old self.new (spec.with_draft keys.now draft self.old) }
     {
-        if !can_sign(keys, &creator.lend()) || self.items.len() >= MAX_TXS {
-            return Ok(false);
+        if !can_sign(keys, &draft.creator()) || self.items.len() >= MAX_TXS {
+            return false;
         }
-        self.drafting = Some(Draft::new(alloc, line, creator, nonce, chaincode));
-        Ok(true)
+        self.drafting = Some(draft);
+        true
     }
 
     fn add_raw(&mut self, bytes: Bytes) -> Result<bool, AllocError>
@@ -133,8 +126,9 @@ impl SoFar {
         ensures { Takes result self.old self.new (spec.said_by keys.now line self.old saying) }
     {
         match saying {
-            Saying::Tx(creator, nonce, chaincode) => {
-                self.open_tx(alloc, keys, line, creator, nonce, chaincode)
+            Saying::Begins(creator, nonce, chaincode, content) => {
+                let draft = Draft::new(alloc, line, creator, nonce, chaincode, content);
+                Ok(self.open_draft(keys, draft))
             }
             Saying::Raw(bytes) => self.add_raw(bytes),
             Saying::Namespace(name) => self.add_namespace(alloc, name),
@@ -147,13 +141,14 @@ impl SoFar {
     pub(crate) fn say(
         &mut self,
         alloc: Global,
+        version: BlockVersion,
         keys: &KeyBook,
         line: u64,
         bytes: &[u8],
     ) -> Result<bool, AllocError>
-        ensures { Takes result self.old self.new (spec.said_with keys.now line self.old bytes.now) }
+        ensures { Takes result self.old self.new (spec.said_with version keys.now line self.old bytes.now) }
     {
-        let Some(saying) = read_line(alloc, bytes)? else {
+        let Some(saying) = read_line(alloc, version, bytes)? else {
             return Ok(false);
         };
         self.take_in(alloc, keys, line, saying)

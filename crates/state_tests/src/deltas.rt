@@ -1,13 +1,17 @@
 //! Deltas: at random, noted as they are made, and one of 600 puts.
 
 use crate::fixture::{key, name};
-use crate::noted::{IDS, KEYS, NAMESPACE, Noted, has_policy, id_of, key_of, use_at, version_of};
+use crate::noted::{
+    CHAINCODES, IDS, KEYS, NAMESPACE, Noted, POLICIES, has_policy, id_of, key_of, use_at,
+    version_of,
+};
 use crate::pages::{numbered, row};
 use failing::Failed;
 use policy::Policy;
 use random_numbers::Random;
 use rules::{
-    Change, CommittedBlock, Delta, HistoryEntry, KeptKey, KeyedRow, NewEntry, NewUse, Row,
+    Change, CommittedBlock, Delta, HistoryEntry, KeptKey, KeyedRow, NewDefinition, NewEntry,
+    NewUse, Row,
 };
 use std::alloc::Global;
 use transaction::BlockVersion;
@@ -47,14 +51,36 @@ impl Drawing {
     }
 }
 
+fn parsed(alloc: Global, text: &str) -> Result<Shared<Policy>, Failed> {
+    match Policy::parse(alloc, text) {
+        Ok(policy) => Ok(Shared::new(alloc, policy)?),
+        Err(_) => Err(Failed::Missing("a policy")),
+    }
+}
+
 fn policy(alloc: Global, number: u32) -> Result<Option<Shared<Policy>>, Failed> {
     if !has_policy(number) {
         return Ok(None);
     }
-    match Policy::parse(alloc, "'A.peer'") {
-        Ok(policy) => Ok(Some(Shared::new(alloc, policy)?)),
-        Err(_) => Err(Failed::Missing("a policy")),
-    }
+    Ok(Some(parsed(alloc, "'A.peer'")?))
+}
+
+// Gives a chaincode another policy, or its first one.
+fn definition(
+    alloc: Global,
+    drawing: &mut Drawing,
+    noted: &mut Noted,
+) -> Result<NewDefinition, Failed> {
+    let chaincode = drawing.up_to(2);
+    let place = drawing.up_to(2);
+    noted.define(chaincode, place);
+    let (Some(bytes), Some(text)) = (CHAINCODES.get(chaincode), POLICIES.get(place)) else {
+        return Err(Failed::Missing("a chaincode"));
+    };
+    Ok(NewDefinition {
+        chaincode: name(alloc, bytes)?,
+        policy: parsed(alloc, text)?,
+    })
 }
 
 fn change(alloc: Global, drawing: &mut Drawing, noted: &mut Noted) -> Result<Change, Failed> {
@@ -124,6 +150,7 @@ pub fn six_hundred_puts(alloc: Global) -> Result<Delta, Failed> {
         changes,
         entries: Items::new(alloc),
         uses: Items::new(alloc),
+        definitions: Items::new(alloc),
         block: block_of(alloc, [0; 32])?,
     })
 }
@@ -154,10 +181,15 @@ pub fn delta(
             first_use: use_at(number),
         })?;
     }
+    let mut definitions = Items::new(alloc);
+    for _ in 0..drawing.up_to(most.min(2)) {
+        definitions.push(definition(alloc, drawing, noted)?)?;
+    }
     Ok(Delta {
         changes,
         entries,
         uses,
+        definitions,
         block: block_of(alloc, hash)?,
     })
 }

@@ -13,6 +13,12 @@ pub const KEYS: usize = 12;
 
 pub const IDS: usize = 40;
 
+/// Chaincodes whose policies change.
+pub const CHAINCODES: [&[u8]; 3] = [b"cc", b"dd", b"ee"];
+
+/// The policies that they are given.
+pub const POLICIES: [&str; 3] = ["'A.peer'", "OR('A.peer','B.peer')", "'C.admin'"];
+
 /// Keys of 31 and 32 bytes whose order is that of their numbers.
 pub fn key_of(alloc: Global, number: usize) -> Result<Key, Failed> {
     let mut bytes = Vec::from_slice(alloc, &[b'a'; 30])?;
@@ -59,6 +65,8 @@ pub struct Noted {
     // the key's number, and the entry's
     pub entries: Vec<(usize, u32)>,
     pub uses: Vec<Option<u32>>,
+    // the place of each chaincode's policy
+    pub definitions: [Option<usize>; 3],
 }
 
 impl Noted {
@@ -75,6 +83,7 @@ impl Noted {
             rows,
             entries: Vec::new(alloc),
             uses,
+            definitions: [None; 3],
         })
     }
 
@@ -83,6 +92,7 @@ impl Noted {
             rows: Vec::from_slice(alloc, &self.rows)?,
             entries: Vec::from_slice(alloc, &self.entries)?,
             uses: Vec::from_slice(alloc, &self.uses)?,
+            definitions: self.definitions,
         })
     }
 
@@ -97,6 +107,12 @@ impl Noted {
             if slot.is_none() {
                 *slot = Some(number);
             }
+        }
+    }
+
+    pub fn define(&mut self, chaincode: usize, policy: usize) {
+        if let Some(slot) = self.definitions.get_mut(chaincode) {
+            *slot = Some(policy);
         }
     }
 

@@ -1,8 +1,11 @@
 use crate::deltas::{Drawing, delta, six_hundred_puts};
 use crate::fixture::{bound, name};
-use crate::noted::{KEYS, NAMESPACE, Noted, has_policy, id_of, key_of, use_at, version_of};
+use crate::noted::{
+    CHAINCODES, KEYS, NAMESPACE, Noted, POLICIES, has_policy, id_of, key_of, use_at, version_of,
+};
 use crate::pages::numbered;
 use failing::{Failed, Outcome, begins};
+use policy::Definitions;
 use rules::Row;
 use std::alloc::{AllocError, Global};
 use values::Key;
@@ -86,13 +89,45 @@ fn ids_are_noted(world: &World, noted: &Noted) -> bool {
     true
 }
 
+// Whether the chaincode has the policy of this place.
+fn has_definition(
+    alloc: Global,
+    world: &World,
+    chaincode: &[u8],
+    place: Option<usize>,
+) -> Result<bool, Failed> {
+    match (
+        place,
+        world.definitions().of(&name(alloc, chaincode)?.lend()),
+    ) {
+        (None, None) => Ok(true),
+        (Some(place), Some(policy)) => {
+            let text = policy.text(alloc)?;
+            match POLICIES.get(place) {
+                Some(noted) => Ok(*noted == text.as_str()),
+                None => Ok(false),
+            }
+        }
+        _ => Ok(false),
+    }
+}
+
+fn definitions_are_noted(alloc: Global, world: &World, noted: &Noted) -> Result<bool, Failed> {
+    for (chaincode, place) in CHAINCODES.iter().zip(noted.definitions.iter()) {
+        if !has_definition(alloc, world, chaincode, *place)? {
+            return Ok(false);
+        }
+    }
+    Ok(true)
+}
+
 fn is_noted(alloc: Global, world: &World, noted: &Noted) -> Result<bool, Failed> {
     for at in 0..KEYS {
         if !key_is_noted(alloc, world, noted, at)? {
             return Ok(false);
         }
     }
-    Ok(ids_are_noted(world, noted))
+    Ok(ids_are_noted(world, noted) && definitions_are_noted(alloc, world, noted)?)
 }
 
 fn is_behind(world: &World, block: u32) -> bool {
@@ -129,7 +164,7 @@ impl Worlds {
         Ok(Worlds {
             drawing: Drawing::new(),
             noted: Noted::new(alloc)?,
-            world: World::new(alloc),
+            world: World::new(alloc, Definitions::new(alloc)),
         })
     }
 
@@ -204,6 +239,7 @@ impl Worlds {
         Ok(
             is_behind(&self.world, block)
                 && ids_are_noted(&self.world, &self.noted)
+                && definitions_are_noted(alloc, &self.world, &self.noted)?
                 && key_is_noted(alloc, &self.world, &self.noted, at)?
                 && ranges_are_noted(alloc, &mut self.drawing, &self.world, &self.noted)?,
         )
@@ -267,7 +303,7 @@ fn a_delta_at_last(rt: HostRuntime) -> Result<(), Failed> {
 #[test]
 fn one_batch_serves_two_worlds(rt: HostRuntime) -> Result<(), Failed> {
     let mut worlds = Worlds::new(rt.alloc())?;
-    let mut second = World::new(rt.alloc());
+    let mut second = World::new(rt.alloc(), Definitions::new(rt.alloc()));
     for block in 0..200 {
         worlds.apply_to_both(rt.alloc(), &mut second, block)?;
         assert!(rt;
@@ -308,7 +344,7 @@ fn is_first_half(answer: &RangeAnswer<'_>) -> bool {
 
 #[test]
 fn a_range_of_300(rt: HostRuntime) -> Result<(), Failed> {
-    let mut world = World::new(rt.alloc());
+    let mut world = World::new(rt.alloc(), Definitions::new(rt.alloc()));
     let delta = six_hundred_puts(rt.alloc())?;
     world.apply(&delta)?;
     let namespace = name(rt.alloc(), NAMESPACE)?;

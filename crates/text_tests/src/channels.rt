@@ -1,7 +1,7 @@
 //! The expected values were worked out by hand from the rules of a channel text and of policies.
 
 use channel::{Channel, ChannelFault};
-use policy::{Policy, PolicyFault};
+use policy::{Definitions, Policy, PolicyFault};
 use std::alloc::{AllocError, Global};
 use std::process::Abort;
 use std::test::Fail;
@@ -24,13 +24,26 @@ fn is_text(alloc: Global, policy: Option<&Policy>, canonical: &str) -> Result<bo
 // Whether the chaincode is defined with a policy of this canonical text.
 fn is_defined(
     rt: &(impl Abort + AllocGlobal),
-    channel: &Channel,
+    definitions: &Definitions,
     chaincode: &str,
     canonical: &str,
 ) -> Result<bool, AllocError> {
     assert!(rt; is_name(chaincode.as_bytes()));
     let name = NameRef::new(chaincode.as_bytes());
-    is_text(rt.alloc(), channel.definitions().of(&name), canonical)
+    is_text(rt.alloc(), definitions.of(&name), canonical)
+}
+
+// That these chaincodes are defined so, and no other.
+fn expect_definitions(
+    rt: &(impl Abort + AllocGlobal),
+    found: &Definitions,
+    definitions: &[(&str, &str)],
+) -> Result<(), AllocError> {
+    assert!(rt; found.len() == definitions.len());
+    for (chaincode, canonical) in definitions {
+        assert!(rt; is_defined(rt, found, chaincode, canonical)?, "{chaincode}");
+    }
+    Ok(())
 }
 
 fn expect_channel(
@@ -38,16 +51,13 @@ fn expect_channel(
     text: &str,
     name: &str,
     definitions: &[(&str, &str)],
-) -> Result<(), Fail> {
+) -> Result<(), ChannelFault> {
     let channel = Channel::read(rt.alloc(), text)?;
     assert!(rt; channel.name().as_slice() == name.as_bytes());
-    assert!(rt; channel.definitions().len() == definitions.len());
-    for (chaincode, canonical) in definitions {
-        assert!(rt;
-            is_defined(rt, &channel, chaincode, canonical)?,
-            "{chaincode}"
-        );
-    }
+    let (configuration, copied) = channel.into_parts();
+    assert!(rt; configuration.name().as_slice() == name.as_bytes());
+    expect_definitions(rt, configuration.definitions(), definitions)?;
+    expect_definitions(rt, &copied, definitions)?;
     Ok(())
 }
 
@@ -77,16 +87,74 @@ fn channels(rt: HostRuntime) -> Result<(), Fail> {
         "a",
         &[("c", "'B.peer'"), ("cc", "'A.peer'"), ("CC", "'C.peer'")],
     )?;
-    let channel = Channel::read(rt.alloc(), "channel ch\nchaincode cc 'A.peer'\n")?;
-    assert!(rt; !is_defined(&rt, &channel, "ch", "'A.peer'")?);
     Ok(())
+}
+
+// Texts, and the admin policy's canonical text where there is one.
+fn admins() -> &'static [(&'static str, Option<&'static str>)] {
+    &ADMINS
+}
+
+static ADMINS: [(&str, Option<&str>); 8] = [
+    ("channel ch\n", None),
+    // a comment, and a chaincode of that name
+    (
+        "channel ch\n# admin 'A.admin'\nchaincode admin 'A.peer'\n",
+        None,
+    ),
+    // in front of the others, between them, behind them
+    (
+        "admin OR('Org1.admin')\nchannel ch\nchaincode cc 'A.peer'\n",
+        Some("OR('Org1.admin')"),
+    ),
+    (
+        "channel ch\nadmin 'A.admin'\nchaincode cc 'A.peer'\n",
+        Some("'A.admin'"),
+    ),
+    (
+        "channel ch\nchaincode cc 'A.peer'\nadmin 'A.admin'",
+        Some("'A.admin'"),
+    ),
+    ("channel admin\nadmin  'A.admin'\n", Some("'A.admin'")),
+    (
+        "  admin   And( 'A.admin' ,  \"B.admin\" )  \r\nchannel ch\n",
+        Some("AND('A.admin','B.admin')"),
+    ),
+    // any role may update
+    (
+        "channel ch\nadmin OutOf(2,'A.peer','B.client','C.orderer')\n",
+        Some("OutOf(2,'A.peer','B.client','C.orderer')"),
+    ),
+];
+
+fn has_admin(alloc: Global, text: &str, admin: Option<&str>) -> Result<bool, ChannelFault> {
+    let channel = Channel::read(alloc, text)?;
+    let found = channel.configuration().admin();
+    match admin {
+        Some(canonical) => Ok(is_text(alloc, found, canonical)?),
+        None => Ok(found.is_none()),
+    }
+}
+
+#[test]
+fn admin_policies(rt: HostRuntime) -> Result<(), ChannelFault> {
+    for &(text, admin) in admins() {
+        assert!(rt; has_admin(rt.alloc(), text, admin)?, "{text:?}");
+    }
+    // The others' lines say what they say without it.
+    expect_channel(
+        &rt,
+        "chaincode cc 'A.peer'\nadmin 'A.admin'\nchannel ch\nchaincode dd 'B.peer'\n",
+        "ch",
+        &[("cc", "'A.peer'"), ("dd", "'B.peer'")],
+    )
 }
 
 fn forms() -> &'static [(&'static str, ChannelFault)] {
     &FAULTS_OF_FORM
 }
 
-static FAULTS_OF_FORM: [(&str, ChannelFault); 25] = [
+static FAULTS_OF_FORM: [(&str, ChannelFault); 39] = [
     ("", ChannelFault::NoChannel),
     ("\n# channel ch\n", ChannelFault::NoChannel),
     ("chaincode cc 'A.peer'\n", ChannelFault::NoChannel),
@@ -123,6 +191,30 @@ static FAULTS_OF_FORM: [(&str, ChannelFault); 25] = [
         ChannelFault::Repeated(2),
     ),
     ("nonsense\nchannel ch\nchannel ch\n", ChannelFault::Line(1)),
+    ("admin 'A.admin'\n", ChannelFault::NoChannel),
+    ("channel ch\nadmin\n", ChannelFault::Line(2)),
+    ("channel ch\nadmin   \n", ChannelFault::Line(2)),
+    ("channel ch\nadmin", ChannelFault::Line(2)),
+    ("channel ch\nAdmin 'A.admin'\n", ChannelFault::Line(2)),
+    ("channel ch\nadmins 'A.admin'\n", ChannelFault::Line(2)),
+    ("channel ch\nadmin'A.admin'\n", ChannelFault::Line(2)),
+    ("channel ch\nadmin\t'A.admin'\n", ChannelFault::Line(2)),
+    ("\tadmin 'A.admin'\n", ChannelFault::Line(1)),
+    (
+        "admin 'A.admin'\nadmin 'A.admin'\n",
+        ChannelFault::Repeated(2),
+    ),
+    (
+        "admin 'A.admin'\nchannel ch\nchaincode cc 'A.peer'\nadmin 'B.admin'\n",
+        ChannelFault::Repeated(4),
+    ),
+    // a repetition goes before its policy, and a missing policy before the repetition
+    ("admin 'A.admin'\nadmin AND(\n", ChannelFault::Repeated(2)),
+    ("admin 'A.admin'\nadmin\n", ChannelFault::Line(2)),
+    (
+        "channel ch\nadmin 'A.admin'\nadmin 'B.admin'\nnonsense\n",
+        ChannelFault::Repeated(3),
+    ),
 ];
 
 #[test]
@@ -137,7 +229,7 @@ fn policies() -> &'static [(&'static str, u64, PolicyFault)] {
     &FAULTS_OF_POLICIES
 }
 
-static FAULTS_OF_POLICIES: [(&str, u64, PolicyFault); 13] = [
+static FAULTS_OF_POLICIES: [(&str, u64, PolicyFault); 20] = [
     (
         "channel ch\nchaincode cc AND(\n",
         2,
@@ -189,6 +281,25 @@ static FAULTS_OF_POLICIES: [(&str, u64, PolicyFault); 13] = [
     ),
     (
         "channel ch\nchaincode cc AND(\nchannel ch\n",
+        2,
+        PolicyFault::Syntax { at: 4 },
+    ),
+    ("channel ch\nadmin AND(\n", 2, PolicyFault::Syntax { at: 4 }),
+    ("admin   AND(   \n", 1, PolicyFault::Syntax { at: 4 }),
+    ("admin 'A.admin' # x\n", 1, PolicyFault::Syntax { at: 10 }),
+    ("admin 'A.admin'\t\n", 1, PolicyFault::Syntax { at: 9 }),
+    (
+        "#\n\nadmin OR('A.admin', 'A.boss')",
+        3,
+        PolicyFault::Role { at: 14 },
+    ),
+    (
+        "admin OutOf(3,'A.admin','B.admin')\n",
+        1,
+        PolicyFault::Threshold { at: 27 },
+    ),
+    (
+        "channel ch\nadmin AND(\nadmin 'A.admin'\n",
         2,
         PolicyFault::Syntax { at: 4 },
     ),
@@ -252,7 +363,7 @@ fn behind_256() -> &'static [(&'static str, ChannelFault)] {
     &BEHIND_256
 }
 
-static BEHIND_256: [(&str, ChannelFault); 9] = [
+static BEHIND_256: [(&str, ChannelFault); 11] = [
     ("chaincode one 'A.peer'\n", ChannelFault::TooMany(258)),
     ("chaincode c7 'A.peer'\n", ChannelFault::Repeated(258)),
     ("chaincode c7 AND(\n", ChannelFault::Repeated(258)),
@@ -267,6 +378,15 @@ static BEHIND_256: [(&str, ChannelFault); 9] = [
     ("chaincode one\n", ChannelFault::Line(258)),
     ("chaincode o/e 'A.peer'\n", ChannelFault::Line(258)),
     ("channel ch\n", ChannelFault::Repeated(258)),
+    (
+        "admin AND(\n",
+        ChannelFault::Policy(258, PolicyFault::Syntax { at: 4 }),
+    ),
+    // an admin policy is none of a chaincode
+    (
+        "admin 'A.admin'\nchaincode one 'A.peer'\n",
+        ChannelFault::TooMany(259),
+    ),
     (
         "\n# x\n chaincode one 'A.peer'\nnonsense\n",
         ChannelFault::TooMany(260),
@@ -285,10 +405,12 @@ fn full(alloc: Global) -> Result<String, AllocError> {
 
 #[test]
 fn many_chaincodes(rt: HostRuntime) -> Result<(), ChannelFault> {
-    let text = full(rt.alloc())?;
+    let mut text = full(rt.alloc())?;
+    text.push_str("admin 'A.admin'\n")?;
     let channel = Channel::read(rt.alloc(), text.as_str())?;
-    assert!(rt; channel.definitions().len() == 256);
-    assert!(rt; is_defined(&rt, &channel, "c255", "'O255.peer'")?);
+    let definitions = channel.configuration().definitions();
+    assert!(rt; definitions.len() == 256);
+    assert!(rt; is_defined(&rt, definitions, "c255", "'O255.peer'")?);
     Ok(())
 }
 
@@ -303,11 +425,38 @@ fn one_chaincode_more(rt: HostRuntime) -> Result<(), AllocError> {
     Ok(())
 }
 
+// Texts, and the fault that each has with memory enough.
+fn read_with_memory() -> &'static [(&'static str, Option<ChannelFault>)] {
+    &READ_WITH_MEMORY
+}
+
+static READ_WITH_MEMORY: [(&str, Option<ChannelFault>); 4] = [
+    (
+        "channel ch\nadmin AND('A.admin','B.admin')\nchaincode cc OR('A.peer','B.peer')\nchaincode dd 'A.peer'",
+        None,
+    ),
+    (
+        "channel ch\nchaincode cc OR('A.peer','B.peer')\nchaincode dd AND('A.peer',",
+        Some(ChannelFault::Policy(3, PolicyFault::Syntax { at: 13 })),
+    ),
+    (
+        "channel ch\nadmin AND('A.peer',",
+        Some(ChannelFault::Policy(2, PolicyFault::Syntax { at: 13 })),
+    ),
+    (
+        "admin OR('A.admin')\nadmin OR('A.admin')",
+        Some(ChannelFault::Repeated(2)),
+    ),
+];
+
 // To be run with memory that is refused at any one call.
 #[test]
 fn refused_memory_is_no_fault_of_the_text(rt: HostRuntime) {
-    let text = "channel ch\nchaincode cc OR('A.peer','B.peer')\nchaincode dd AND('A.peer',";
-    let expected = ChannelFault::Policy(3, PolicyFault::Syntax { at: 13 });
-    let fault = Channel::read(rt.alloc(), text).err();
-    assert!(rt; fault == Some(expected) || fault == Some(ChannelFault::Memory));
+    for &(text, expected) in read_with_memory() {
+        let fault = Channel::read(rt.alloc(), text).err();
+        assert!(rt;
+            fault == expected || fault == Some(ChannelFault::Memory),
+            "{text:?}"
+        );
+    }
 }

@@ -10,11 +10,11 @@ fn of_channels() -> &'static [(ChannelFault, &'static str)] {
 static OF_CHANNELS: [(ChannelFault, &str); 6] = [
     (
         ChannelFault::Line(7),
-        "line 7: neither `channel NAME` nor `chaincode NAME POLICY`",
+        "line 7: none of `channel NAME`, `chaincode NAME POLICY` and `admin POLICY`",
     ),
     (
         ChannelFault::Repeated(300),
-        "line 300: repeats an earlier line's channel or chaincode",
+        "line 300: repeats an earlier line's channel, chaincode or admin",
     ),
     (
         ChannelFault::Policy(2, PolicyFault::Syntax { at: 4 }),

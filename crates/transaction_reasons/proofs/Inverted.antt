@@ -1,9 +1,10 @@
 -- Which reason a flag has.
 use Rattle.std.proofs.Common.{◌≡◌, ℕ, List, refl, subst}
 use Rattle.rules.specs.declared.flag.Flag.{Flag}
-use Rattle.rules.specs.declared.flag.Flag.TheVariants.{Valid, BadPayload, BadCreatorSignature, BadProposalTxId, DuplicateTxId, EndorsementPolicyFailure, MvccReadConflict, PhantomReadConflict, TargetChainNotFound, BadRwset, InvalidChaincode}
+use Rattle.rules.specs.declared.flag.Flag.TheVariants.{Valid, BadPayload, BadCreatorSignature, InvalidConfigTransaction, BadProposalTxId, DuplicateTxId, EndorsementPolicyFailure, MvccReadConflict, PhantomReadConflict, TargetChainNotFound, BadRwset, InvalidChaincode}
 use Rattle.reasons.specs.declared.reason.Reason.{Reason}
-use Rattle.reasons.specs.declared.reason.Reason.TheVariants.{NoFault, NoTransaction, BadSignature, OtherId, UsedId, NotEndorsed, ReadConflict, PhantomConflict, OtherChannel, NotInForm, Undefined}
+use Rattle.reasons.specs.declared.reason.Reason.TheVariants.{NoFault, NoTransaction, BadSignature, InvalidUpdate, OtherId, UsedId, NotEndorsed, ReadConflict, PhantomConflict, OtherChannel, NotInForm, Undefined}
+use Rattle.reasons.specs.declared.update_fault.UpdateFault.{UpdateFault}
 use Rattle.reasons.specs.declared.id_use.IdUse.{IdUse}
 use Rattle.reasons.specs.declared.form_fault.FormFault.{FormFault}
 use Rattle.reasons.specs.declared.endorsement_fault.EndorsementFault.{EndorsementFault}
@@ -15,6 +16,7 @@ abbrev pub IsOfFlag : Flag → Reason → Type 0
 IsOfFlag Valid r = r ≡ NoFault
 IsOfFlag BadPayload r = r ≡ NoTransaction
 IsOfFlag BadCreatorSignature r = r ≡ BadSignature
+IsOfFlag InvalidConfigTransaction r = (f : UpdateFault) × (r ≡ InvalidUpdate f)
 IsOfFlag BadProposalTxId r = (id : List ℕ) × (r ≡ OtherId id)
 IsOfFlag DuplicateTxId r = (place : IdUse) × (r ≡ UsedId place)
 IsOfFlag EndorsementPolicyFailure r = (f : EndorsementFault) × (r ≡ NotEndorsed f)
@@ -28,6 +30,7 @@ own_flag : (r : Reason) → IsOfFlag (flag_of r) r
 own_flag NoFault = refl
 own_flag NoTransaction = refl
 own_flag BadSignature = refl
+own_flag (InvalidUpdate f) = (f, refl)
 own_flag (OtherId id) = (id, refl)
 own_flag (UsedId place) = (place, refl)
 own_flag (NotEndorsed f) = (f, refl)

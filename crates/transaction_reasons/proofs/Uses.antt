@@ -5,7 +5,7 @@ use Rattle.std.specs.List.{list_any, prefix_len}
 use Rattle.std.specs.Str.{bytes_eq}
 use Rattle.std.specs.FinMap.{get}
 use Rattle.std.proofs.lemmas.List.{length-map}
-use Rattle.transaction.specs.declared.transaction.Tx.{Tx}
+use Rattle.transaction.specs.declared.item.Item.{Item}
 use Rattle.policy_eval.specs.Accepts.{Accepts}
 use Rattle.channel.specs.Configuration.{Configuration}
 use Rattle.rules.specs.declared.first_use.FirstUse.{FirstUse}
@@ -27,14 +27,14 @@ take-map f zero xs = refl
 take-map f (suc n) [] = refl
 take-map f (suc n) (x ∷ xs) = ap (λ (ys : _). f x ∷ ys) (take-map f n xs)
 
-module _ (channel : Configuration) (accepts : Accepts) (w : World) (ids : List (Option (List ℕ))) (txs : List (Option Tx)) (same : ids ≡ map (used_id channel accepts) txs) (id : List ℕ) (i : ℕ) where
-  place_is : position (λ used. list_any (bytes_eq id) (option_to_list used)) (take i ids) ≡ position (uses_id channel accepts id) (take i txs)
+module _ (channel : Configuration) (accepts : Accepts) (w : World) (ids : List (Option (List ℕ))) (items : List (Option Item)) (same : ids ≡ map (used_id channel accepts) items) (id : List ℕ) (i : ℕ) where
+  place_is : position (λ used. list_any (bytes_eq id) (option_to_list used)) (take i ids) ≡ position (uses_id channel accepts id) (take i items)
   place_is =
       ap (λ (l : List (Option (List ℕ))). position (λ used. list_any (bytes_eq id) (option_to_list used)) (take i l)) same
-      ∙ ap (λ (l : List (Option (List ℕ))). position (λ used. list_any (bytes_eq id) (option_to_list used)) l) (take-map (used_id channel accepts) i txs)
-      ∙ position-map (used_id channel accepts) (λ used. list_any (bytes_eq id) (option_to_list used)) (take i txs)
+      ∙ ap (λ (l : List (Option (List ℕ))). position (λ used. list_any (bytes_eq id) (option_to_list used)) l) (take-map (used_id channel accepts) i items)
+      ∙ position-map (used_id channel accepts) (λ used. list_any (bytes_eq id) (option_to_list used)) (take i items)
 
-  pub earlier_use : (first : FirstUse) → get w.first_uses id ≡ Some first → (used_at : IdUse) → IsFirstUse channel accepts w (take i txs) id used_at → Some (Earlier first.block first.place) ≡ Some used_at
+  pub earlier_use : (first : FirstUse) → get w.first_uses id ≡ Some first → (used_at : IdUse) → IsFirstUse channel accepts w (take i items) id used_at → Some (Earlier first.block first.place) ≡ Some used_at
   earlier_use first is (Earlier block place) used = ap (λ (f : FirstUse). Some (Earlier f.block f.place)) (some_same (get w.first_uses id) first (record { block = block; place = place; flag = used.0 }) is used.1)
     where
       some_same : {X : Type 0} (o : Option X) (x y : X) → o ≡ Some x → o ≡ Some y → x ≡ y
@@ -42,7 +42,7 @@ module _ (channel : Configuration) (accepts : Accepts) (w : World) (ids : List (
       some_same (Some z) x y e f = cc
   earlier_use first is (Here place) used = absurd (cc (is, used.0))
 
-  pub use_here : get w.first_uses id ≡ None → (found : Option ℕ) → found ≡ position (λ used. list_any (bytes_eq id) (option_to_list used)) (take i ids) → (used_at : IdUse) → IsFirstUse channel accepts w (take i txs) id used_at
+  pub use_here : get w.first_uses id ≡ None → (found : Option ℕ) → found ≡ position (λ used. list_any (bytes_eq id) (option_to_list used)) (take i ids) → (used_at : IdUse) → IsFirstUse channel accepts w (take i items) id used_at
       → (place : ℕ) × (found ≡ Some place) × (used_at ≡ Here place)
   use_here none found is (Earlier block place) used = absurd (cc (none, used.1))
   use_here none found is (Here place) used = (place, is ∙ place_is ∙ used.1, refl)

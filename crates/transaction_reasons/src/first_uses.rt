@@ -4,7 +4,7 @@ ghost use Rattle.std.specs.List.{list_any};
 ghost use Rattle.std.specs.Prelude.{option_to_list};
 ghost use Rattle.std.specs.Str.{bytes_eq};
 ghost use Rattle.block.specs.Limits.{max_txs};
-ghost use Rattle.transaction.specs.declared.transaction.Tx.{Tx};
+ghost use Rattle.transaction.specs.declared.item.Item.{Item};
 ghost use Rattle.policy_eval.specs.Accepts.{Accepts};
 ghost use Rattle.channel.specs.Configuration.{Configuration};
 ghost use Rattle.rules.specs.Candidate.{used_id};
@@ -40,8 +40,8 @@ fn place_of(ids: &[Option<TxId>], id: &TxId) -> Option<usize>
 pub(crate) fn first_use(world: &World, ids: &[Option<TxId>], id: &TxId, i: usize) -> Option<IdUse>
     requires few { length ids.now ≤ max_txs }
     requires place { i ≤ length ids.now }
-    ensures { (channel : Configuration) (accepts : Accepts) (txs : List (Option Tx)) → ids.now ≡ map (used_id channel accepts) txs
-        → (first : use_of.IdUse) → IsFirstUse channel accepts world.now (take i txs) id.now first → result ≡ Some first }
+    ensures { (channel : Configuration) (accepts : Accepts) (items : List (Option Item)) → ids.now ≡ map (used_id channel accepts) items
+        → (first : use_of.IdUse) → IsFirstUse channel accepts world.now (take i items) id.now first → result ≡ Some first }
 {
     if let Some(first) = world.first_use(id) {
         return Some(IdUse::Earlier {

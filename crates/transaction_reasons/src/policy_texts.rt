@@ -1,4 +1,4 @@
-//! Policies that are written and can't be read.
+//! Texts that are no policy.
 ghost use Rattle.std.specs.Prelude.{◌≡◌, map, option_map, option_and_then, IfOk};
 ghost use Rattle.std.specs.Result.{result_err};
 ghost use Rattle.policy.specs.Meaning.{policy_or_fault};
@@ -12,7 +12,7 @@ use transaction::PolicyWrite;
 use values::NameRef;
 
 /// Why the text is no policy, if it is none.
-fn text_fault(alloc: Global, text: &[u8]) -> Result<Option<PolicyTextFault>, AllocError>
+pub(crate) fn text_fault(alloc: Global, text: &[u8]) -> Result<Option<PolicyTextFault>, AllocError>
     ensures { IfOk result (λ fault. fault ≡ option_map text_fault (result_err (policy_or_fault text.now))) }
 {
     match Policy::parse_bytes(alloc, text) {

@@ -11,7 +11,7 @@ use std::alloc::{AllocError, Global};
 use transaction::Tx;
 use values::{Name, NameRef};
 
-fn is_defined(definitions: &Definitions, name: &NameRef<'_>) -> bool
+pub(crate) fn is_defined(definitions: &Definitions, name: &NameRef<'_>) -> bool
     ensures { result ≡ is_defined definitions.now name.now }
 {
     definitions.of(name).is_some()

@@ -1,21 +1,26 @@
 //! From a script to the job of its block.
+ghost use Rattle.transaction.specs.Items.{IsSpelledItem};
+ghost use Rattle.transaction.specs.Spelled.{IsSpelledUpdate};
 
-use block::{BlockVersion, Header, MAX_TXS, Previous, decode_block};
+use block::{Header, MAX_TXS, Previous, decode_block};
+use candidates::OpenUpdate;
 use drafts::draft;
 use failing::Failed;
 use key_book::KeyBook;
 use key_chains::{Candidate, Job};
 use policy::{Definitions, Policy};
-use policy_eval::signers;
+use policy_eval::{signers, update_signers};
 use rules::{EarlyFlag, Row};
 use state_db::{Batch, StateDb};
 use std::alloc::{AllocError, Global};
-use transaction::{TxFault, Version, decode_tx};
+use transaction::{BlockVersion, Item, TxFault, Update, Version, decode_item};
 use values::{Bytes, Key, Name, Part, Shared, is_key, is_name};
 
 const KEYS: &str = "Org1:client:c0 11\nOrg1:peer:p0 22\nOrg2:peer:q0 33\n";
 
 const POLICY: &[u8] = b"OR('Org1.peer','Org2.peer')";
+
+const ADMIN: &[u8] = b"AND('Org1.peer','Org2.peer')";
 
 /// The number of the block.
 pub const BLOCK: u64 = 1;
@@ -155,10 +160,39 @@ fn block_of(alloc: Global, keys: &KeyBook, script: &str) -> Result<Bytes, Failed
         alloc,
         &channel,
         keys,
-        BlockVersion::V1,
+        BlockVersion::V2,
         Some(PREVIOUS),
         script,
     )?)
+}
+
+fn open_update<'a>(
+    alloc: Global,
+    keys: &KeyBook,
+    update: Update<'a>,
+) -> Result<Candidate<'a>, Failed>
+    requires { IsSpelledUpdate update }
+{
+    let signers = update_signers(alloc, &update, keys)?;
+    let policy = Policy::parse_bytes(alloc, update.policy.as_slice())?;
+    Ok(Candidate::Updates(OpenUpdate::new(update, signers, policy)))
+}
+
+fn open_item<'a>(
+    alloc: Global,
+    definitions: &Definitions,
+    keys: &KeyBook,
+    item: Item<'a>,
+) -> Result<Candidate<'a>, Failed>
+    requires { IsSpelledItem item }
+{
+    match item {
+        Item::Tx(tx) => {
+            let signers = signers(alloc, &tx, keys)?;
+            Ok(Candidate::open(alloc, tx, signers, definitions)?)
+        }
+        Item::Update(update) => open_update(alloc, keys, update),
+    }
 }
 
 fn candidate_of<'a>(
@@ -166,15 +200,11 @@ fn candidate_of<'a>(
     definitions: &Definitions,
     keys: &KeyBook,
     bytes: &'a [u8],
-) -> Result<Candidate<'a>, AllocError> {
-    match decode_tx(alloc, bytes) {
-        Ok(tx) => {
-            let tx = tx.into_tx();
-            let signers = signers(alloc, &tx, keys)?;
-            Candidate::open(alloc, tx, signers, definitions)
-        }
+) -> Result<Candidate<'a>, Failed> {
+    match decode_item(alloc, BlockVersion::V2, bytes) {
+        Ok(item) => open_item(alloc, definitions, keys, item.into_item()),
         Err(TxFault::Form) => Ok(Candidate::Flagged(EarlyFlag::BadPayload)),
-        Err(TxFault::Memory) => Err(AllocError),
+        Err(TxFault::Memory) => Err(Failed::from(AllocError)),
     }
 }
 
@@ -198,6 +228,7 @@ pub struct Ground {
     keys: KeyBook,
     block: Bytes,
     definitions: Definitions,
+    admin: Policy,
     state: StateDb,
 }
 
@@ -208,6 +239,7 @@ impl Ground {
             block: block_of(alloc, &keys, script)?,
             keys,
             definitions: definitions(alloc)?,
+            admin: Policy::parse_bytes(alloc, ADMIN)?,
             state: applied(alloc, rows)?,
         })
     }
@@ -235,6 +267,13 @@ impl Ground {
         if candidates.as_slice().len() > MAX_TXS {
             return Err(Failed::Missing("a job"));
         }
-        Ok(Job::build(alloc, BLOCK, &self.state, &self.definitions, candidates)?)
+        Ok(Job::build(
+            alloc,
+            BLOCK,
+            &self.state,
+            &self.definitions,
+            Some(&self.admin),
+            candidates,
+        )?)
     }
 }

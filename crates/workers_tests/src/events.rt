@@ -16,7 +16,8 @@ fn found_on(alloc: Global, ground: &Ground, events: &[Event]) -> Result<Numbers,
     found(alloc, &job, events)
 }
 
-fn found_in(alloc: Global, case: &BlockCase, events: &[Event]) -> Result<Numbers, Failed> {
+/// The flags that these checks of a block find.
+pub fn found_in(alloc: Global, case: &BlockCase, events: &[Event]) -> Result<Numbers, Failed> {
     let ground = Ground::of(alloc, case.rows, case.script)?;
     found_on(alloc, &ground, events)
 }

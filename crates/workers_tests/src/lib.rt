@@ -20,3 +20,5 @@ mod random_jobs;
 mod rows;
 #[cfg(test)]
 mod schedules;
+#[cfg(test)]
+mod updates;

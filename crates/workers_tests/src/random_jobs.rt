@@ -89,7 +89,8 @@ fn is_found<R: Threads + Wait + Sync>(
     Ok(is_same(&checked, flags))
 }
 
-fn are_flags_found<R: Threads + Wait + Sync>(
+/// Whether so many workers find these flags, each number of them.
+pub fn are_flags_found<R: Threads + Wait + Sync>(
     rt: &R,
     alloc: Global,
     job: &Job<'_>,

@@ -171,12 +171,38 @@ endorse Org1:peer:p0
     flags: &[2, 25, 0],
 };
 
+// The admin policy asks for a peer of each organization.
+const UPDATE: BlockCase = BlockCase {
+    rows: &[],
+    script: "
+update Org1:client:c0 n0 cc 'Org2.peer'
+endorse Org1:peer:p0
+endorse Org2:peer:q0
+",
+    flags: &[0],
+};
+
+// The policy of its chaincode is satisfied, and the admin policy isn't.
+const REFUSED_UPDATE: BlockCase = BlockCase {
+    rows: &[],
+    script: "
+update Org1:client:c0 n0 cc 'Org2.peer'
+endorse Org1:peer:p0
+",
+    flags: &[6],
+};
+
 pub fn readers_and_writers() -> &'static BlockCase {
     &blocks()[0]
 }
 
 pub fn flagged() -> &'static BlockCase {
     &blocks()[5]
+}
+
+/// Updates, each alone in its block.
+pub fn updates() -> &'static [BlockCase; 2] {
+    &UPDATES
 }
 
 /// Blocks in which checks wait for one another.
@@ -192,3 +218,5 @@ static BLOCKS: [BlockCase; 6] = [
     PHANTOM,
     FLAGGED,
 ];
+
+static UPDATES: [BlockCase; 2] = [UPDATE, REFUSED_UPDATE];

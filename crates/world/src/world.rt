@@ -7,10 +7,11 @@ ghost use Rattle.rules.specs.Answers.{row_answer, range_answer, history_answer, 
 ghost use Rattle.state_db.specs.Batch.{changed};
 ghost use Rattle.txid_index.specs.Marks.{marks};
 
-use crate::deltas::{add_entries, add_uses, batch_of, make_room};
+use crate::deltas::{add_entries, add_uses, batch_of, make_room, replace};
 use crate::range::{RangeAnswer, up_to};
 use crate::ready::ReadyDelta;
 use history_index::{Entries, HistoryIndex};
+use policy::Definitions;
 use rules::{CommittedBlock, Delta, FirstUse, Row};
 use state_db::{Batch, StateDb};
 use std::alloc::{AllocError, Global};
@@ -26,6 +27,7 @@ pub struct World {
     state: StateDb,
     history: HistoryIndex,
     ids: TxIds,
+    definitions: Definitions,
     blocks: Vec<Shared<CommittedBlock>>,
 }
 
@@ -37,19 +39,20 @@ impl Model for World {
 
     ghost coded = { world_code };
 
-    ghost view = { λ w. record { state = w.state.state; history = w.history.history; first_uses = w.ids.uses; blocks = w.blocks.items } };
+    ghost view = { λ w. record { state = w.state.state; history = w.history.history; first_uses = w.ids.uses; definitions = w.definitions; blocks = w.blocks.items } };
 }
 
 impl World {
-    /// The world of height 0. Takes no memory.
-    pub fn new(alloc: Global) -> World
-        ensures { result ≡ empty_world }
+    /// The world of height 0, where chaincodes have these policies. Takes no memory.
+    pub fn new(alloc: Global, definitions: Definitions) -> World
+        ensures { result ≡ empty_world definitions }
     {
         World {
             alloc,
             state: StateDb::new(alloc),
             history: HistoryIndex::new(alloc),
             ids: TxIds::new(alloc),
+            definitions,
             blocks: Vec::new(alloc),
         }
     }
@@ -89,6 +92,13 @@ impl World {
             None => None,
             Some(block) => Some(block.get()),
         }
+    }
+
+    /// The policies of chaincodes.
+    pub fn definitions(&self) -> &Definitions
+        ensures { result.now ≡ self.now.definitions }
+    {
+        &self.definitions
     }
 
     /// The rows in their pages.
@@ -194,6 +204,7 @@ impl World {
             &mut self.history,
             &mut self.ids,
             &mut self.blocks,
+            &self.definitions,
             delta,
         );
         let Ok(kept) = room else {
@@ -203,6 +214,7 @@ impl World {
         // from here on nothing does
         add_entries(&mut self.history, kept.entries);
         add_uses(&mut self.ids, delta.uses.as_slice());
+        replace(&mut self.definitions, kept.definitions);
         self.blocks.push_reserved(kept.block);
         Ok(())
     }

@@ -1,4 +1,4 @@
-//! Two scripts, their blocks, and what is answered of these, made by vectors/drafted.py.
+//! Three scripts, their blocks, and what is answered of these, made by vectors/drafted.py.
 
 use crate::fixture::Row;
 
@@ -18,6 +18,13 @@ static SECOND_SCRIPT: &[u8] =
     b"tx Org1:client:c0 n1 cc\x0aendorse Org2:peer:p0\x0ans cc\x0awrite a%20%25 deleted\x0awrite b\
     \x20%\x0awrite k3 de%6c%FF\x0atx Org1:client:c0 n2 cc\x0ans cc\x0adelete a%20%25\x0anopolicy\
     \x20b\x0aendorse Org2:peer:p0\x0a";
+
+pub(crate) fn third_script() -> &'static [u8] {
+    THIRD_SCRIPT
+}
+
+static THIRD_SCRIPT: &[u8] =
+    b"update Org1:client:c0 n3 cc AND('Org1.peer', 'Org1.admin')\x0aendorse Org1:admin:a0\x0a";
 
 pub(crate) fn first_block() -> &'static [u8] {
     FIRST_BLOCK
@@ -50,12 +57,25 @@ static SECOND_BLOCK: &[u8] =
     \xb9\xc2\x7fK\x9bf\x03\x95\x1d\xa6\0 \xad\xa2?N{\x8d\x175\xf0q\xd5j\xcb\xcd\x82Y\x01Qx\xf4\
     \xf3\x97\x1f3\x17X}\x97HO\xf6s";
 
+pub(crate) fn third_block() -> &'static [u8] {
+    THIRD_BLOCK
+}
+
+static THIRD_BLOCK: &[u8] =
+    b"FBK2\0\0\0\0\0\0\0\x02 \x16\xbb\x8d\xe3M[\x80kn\xae\xbe\x03UG`\xffPB\x82=\xc0\xa3\x88h\x8f\
+    \xe8\x1ar\xe1j\xdd\xbc\xd0PH\xd1:\xca\x1b8\xff\xa6\x9f<\xc4\x80i\xde\x9e^~p\x92G\"\x0f\x06q\
+    \xf4\xf4mZ\xcf\x1c\0\0\0\x01\0\0\0\xc1\0\x02chdf9ae39a69c858c1a7bd54294d1c59f242892a6ba27625\
+    5f2d18b918f5f6da6f\x04Org1\x01\x02c0\x02n3\x02cc\0\x1eAND('Org1.peer', 'Org1.admin')\x01\x04\
+    Org1\0\x02a0\0 \xec~j]00\xb9\xdb\xb3\xa5\x98?9\x85Q\xd3\x0e*\xa2\x0a\xe9\xa9\xae\xa1\x1d\xb5\
+    \xac\x02;f\xb8m\0 \x97\xee\x11z~\xb7.\x90\xa4\x1ej\xcd\x07H=Z\xa5\x0a\x10<\xaf\x84Z\xf2\x15\
+    \x98`\x85\xa2\x19L\x81";
+
 /// Words behind those of the channel and the keys.
 pub(crate) fn answers() -> &'static [Row<'static>] {
     &ANSWERS
 }
 
-static ANSWERS: [Row<'static>; 31] = [
+static ANSWERS: [Row<'static>; 39] = [
     (
         "run b0",
         0,
@@ -107,6 +127,26 @@ static ANSWERS: [Row<'static>; 31] = [
         "history --ns cc --key k1 b0 k",
         1,
         "height 1\nentry 0 0 459475528dc038f899a89dddf066c78d533138cdcf2fd4efe1a99d8c9cadfaed v1\n",
+        "",
+    ),
+    (
+        "definition --ns cc",
+        0,
+        "height 0\ndefinition OR('Org1.peer','Org2.peer')\n",
+        "",
+    ),
+    (
+        "definition --ns cc b0",
+        0,
+        "height 1\ndefinition OR('Org1.peer','Org2.peer')\n",
+        "",
+    ),
+    ("definition --ns dd", 0, "height 0\nabsent\n", ""),
+    ("definition --ns dd b0", 0, "height 1\nabsent\n", ""),
+    (
+        "definition --ns cc b0 k",
+        1,
+        "height 1\ndefinition OR('Org1.peer','Org2.peer')\n",
         "",
     ),
     (
@@ -210,6 +250,24 @@ static ANSWERS: [Row<'static>; 31] = [
         "scan --ns cc --start k3 --end b --limit 1 b0 b1",
         0,
         "height 2\n",
+        "",
+    ),
+    (
+        "definition --ns cc b0 b1",
+        0,
+        "height 2\ndefinition OR('Org1.peer','Org2.peer')\n",
+        "",
+    ),
+    (
+        "run b0 b1 b2",
+        0,
+        "accepted 0 3cb144bec4df02fe7692bec3a61fd9854ab76719525cb5a05c503649c91e4ae3 0\naccepted 1 16bb8de34d5b806b6eaebe03554760ff5042823dc0a388688fe81a72e16addbc 0 0\naccepted 2 e1cd3e60e400f3e75313f0f525939bd55253cf7b0048a236745f9dc785269d1f 0\n",
+        "",
+    ),
+    (
+        "definition --ns cc b0 b1 b2",
+        0,
+        "height 3\ndefinition AND('Org1.peer','Org1.admin')\n",
         "",
     ),
 ];

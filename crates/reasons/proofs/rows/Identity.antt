@@ -1,4 +1,5 @@
 -- Channels, ids and definitions.
+use Rattle.transaction.specs.declared.item.Item.TheVariants as item
 use Rattle.std.proofs.Common.{◌≡◌, [], ◌∷◌, Some, None, refl}
 use Rattle.std.specs.Prelude.{codes}
 use Rattle.std.specs.FinMap.{empty}
@@ -18,29 +19,29 @@ abbrev elsewhere : Tx
 elsewhere = record writes_k { channel = codes "other" }
 
 -- the channel that is named, and not the ledger's
-pub channel_that_is_named : Explains channel any empty_world (None ∷ Some elsewhere ∷ []) 1 (OtherChannel (codes "other"))
-channel_that_is_named = (elsewhere, refl, refl)
+pub channel_that_is_named : Explains channel any (empty_world channel.definitions) (None ∷ Some (item.Tx elsewhere) ∷ []) 1 (OtherChannel (codes "other"))
+channel_that_is_named = (item.Tx elsewhere, refl, refl)
 
 abbrev misnamed : Tx
 misnamed = record writes_k { id = codes "x" }
 
 -- the id that it should have, and not its own
-pub id_that_it_should_have : Explains channel any empty_world (Some misnamed ∷ []) 0 (OtherId an_id)
-id_that_it_should_have = (misnamed, refl, refl)
+pub id_that_it_should_have : Explains channel any (empty_world channel.definitions) (Some (item.Tx misnamed) ∷ []) 0 (OtherId an_id)
+id_that_it_should_have = (item.Tx misnamed, refl, refl)
 
 -- ---- first uses
 
 -- of height 2
 abbrev used_before : World
-used_before = record { state = empty; history = empty; first_uses = with_uses empty ((an_id, record { block = 1; place = 7; flag = BadRwset }) ∷ []); blocks = kept ∷ kept ∷ [] }
+used_before = record { state = empty; history = empty; first_uses = with_uses empty ((an_id, record { block = 1; place = 7; flag = BadRwset }) ∷ []); definitions = channel.definitions; blocks = kept ∷ kept ∷ [] }
 
 -- and not the place in this block
-pub used_in_an_accepted_block : IsFirstUse channel any used_before (Some writes_k ∷ Some writes_k ∷ []) an_id (Earlier 1 7)
+pub used_in_an_accepted_block : IsFirstUse channel any used_before (Some (item.Tx writes_k) ∷ Some (item.Tx writes_k) ∷ []) an_id (Earlier 1 7)
 unfolding with_uses
 used_in_an_accepted_block = (BadRwset, simp uses refl)
 
 -- one without an id that counts, and the first of three with it
-pub used_in_the_same_block : IsFirstUse channel any empty_world (None ∷ Some elsewhere ∷ Some writes_k ∷ Some writes_k ∷ Some writes_k ∷ []) an_id (Here 2)
+pub used_in_the_same_block : IsFirstUse channel any (empty_world channel.definitions) (None ∷ Some (item.Tx elsewhere) ∷ Some (item.Tx writes_k) ∷ Some (item.Tx writes_k) ∷ Some (item.Tx writes_k) ∷ []) an_id (Here 2)
 used_in_the_same_block = (simp uses refl, simp uses refl)
 
 -- ---- definitions

@@ -1,4 +1,6 @@
 -- Reasons as a whole.
+use Rattle.transaction.specs.declared.item.Item.{Item}
+use Rattle.transaction.specs.declared.item.Item.TheVariants as item
 use Rattle.std.proofs.Common.{[], ◌∷◌, Some, None, List, Option, refl, arith}
 use Rattle.transaction.specs.declared.transaction.Tx.{Tx}
 use Rattle.rules.specs.State.{with_changes}
@@ -20,20 +22,20 @@ use Rattle.rules.proofs.rows.Shared.{p0, q0, both_peers, chaincode, k, channel, 
 use Rattle.reasons.proofs.rows.Shared.{writes_k}
 use Rattle.reasons.proofs.rows.Looks.{uses}
 
-abbrev three : List (Option Tx)
-three = Some writes_k ∷ None ∷ Some writes_k ∷ []
+abbrev three : List (Option Item)
+three = Some (item.Tx writes_k) ∷ None ∷ Some (item.Tx writes_k) ∷ []
 
-pub nothing_is_wrong : IsReason channel any empty_world three 0 NoFault
+pub nothing_is_wrong : IsReason channel any (empty_world channel.definitions) three 0 NoFault
 unfolding running with_changes
 nothing_is_wrong = record { place = omega arith; flag_is = simp uses refl; why = tt }
 
-pub no_transaction : IsReason channel any empty_world three 1 NoTransaction
+pub no_transaction : IsReason channel any (empty_world channel.definitions) three 1 NoTransaction
 unfolding running with_changes
 no_transaction = record { place = omega arith; flag_is = refl; why = tt }
 
-pub id_was_used : IsReason channel any empty_world three 2 (UsedId (Here 0))
+pub id_was_used : IsReason channel any (empty_world channel.definitions) three 2 (UsedId (Here 0))
 unfolding running with_changes
-id_was_used = record { place = omega arith; flag_is = simp uses refl; why = (writes_k, refl, (simp uses refl, simp uses refl)) }
+id_was_used = record { place = omega arith; flag_is = simp uses refl; why = (item.Tx writes_k, refl, (simp uses refl, simp uses refl)) }
 
 -- ---- signers
 
@@ -46,9 +48,9 @@ abbrev badly_endorsed : Tx
 badly_endorsed = record writes_k { endorsements = record { endorser = p0; signature = [] } ∷ record { endorser = q0; signature = 1 ∷ [] } ∷ record { endorser = p0; signature = [] } ∷ [] }
 
 abbrev channel_of_both : Configuration
-channel_of_both = record { name = codes "ch"; definitions = from_entries {R = bytes_cmp} ((chaincode, both_peers) ∷ []) }
+channel_of_both = record { name = codes "ch"; definitions = from_entries {R = bytes_cmp} ((chaincode, both_peers) ∷ []); admin = None }
 
-pub signers_that_there_were : IsReason channel_of_both accepts_none empty_world (Some badly_endorsed ∷ []) 0 (NotEndorsed (Unsatisfied chaincode k OfChaincode both_peers (p0 ∷ [])))
+pub signers_that_there_were : IsReason channel_of_both accepts_none (empty_world channel_of_both.definitions) (Some (item.Tx badly_endorsed) ∷ []) 0 (NotEndorsed (Unsatisfied chaincode k OfChaincode both_peers (p0 ∷ [])))
 unfolding running with_changes first_below
 signers_that_there_were = record { place = omega arith; flag_is = simp uses refl; why = (badly_endorsed, refl, (simp uses refl, refl, (simp uses refl, simp uses refl), refl)) }
 
@@ -57,5 +59,5 @@ signers_that_there_were = record { place = omega arith; flag_is = simp uses refl
 abbrev badly_signed : Tx
 badly_signed = record writes_k { signature = 1 ∷ [] }
 
-pub signature_of_the_creator : IsReason channel accepts_none empty_world (Some badly_signed ∷ []) 0 BadSignature
+pub signature_of_the_creator : IsReason channel accepts_none (empty_world channel.definitions) (Some (item.Tx badly_signed) ∷ []) 0 BadSignature
 signature_of_the_creator = record { place = omega arith; flag_is = refl; why = tt }

@@ -1,8 +1,10 @@
 -- Answers of queries over one small world.
+use Rattle.transaction.specs.declared.block_version.BlockVersion.TheVariants.{V1}
 use Rattle.std.proofs.Common.{◌≡◌, ℕ, true, false, List, [], ◌∷◌, Some, None, refl}
 use Rattle.std.specs.Prelude.{codes, replicate}
 use Rattle.std.specs.FinMap.{from_entries, empty}
 use Rattle.transaction.specs.declared.block_version.BlockVersion.TheVariants.{V1, V2}
+use Rattle.policy.specs.Policies.{Policies}
 use Rattle.rules.specs.declared.committed.CommittedBlock.{CommittedBlock}
 use Rattle.rules.specs.declared.first_use.FirstUse.{FirstUse}
 use Rattle.rules.specs.declared.flag.Flag.TheVariants.{Valid, MvccReadConflict}
@@ -12,8 +14,8 @@ use Rattle.rules.specs.State.{StateKey, State, key_cmp}
 use Rattle.rules.specs.History.{with_entries}
 use Rattle.rules.specs.FirstUses.{with_uses}
 use Rattle.rules.specs.World.{World, empty_world}
-use Rattle.rules.specs.Answers.{reply, row_answer, range_answer, history_answer, first_use_answer, block_answer, height_answer}
-use Rattle.rules.proofs.rows.Shared.{both_peers, chaincode, at, a, c, dd, entry}
+use Rattle.rules.specs.Answers.{reply, row_answer, range_answer, history_answer, first_use_answer, definition_answer, block_answer, height_answer}
+use Rattle.rules.proofs.rows.Shared.{either_peer, both_peers, definitions_with, chaincode, at, a, c, dd, entry}
 use Rattle.rules.proofs.rows.Looks.{looks, uses, entry_looks, scans}
 
 -- ---- the world
@@ -67,8 +69,11 @@ block_0 = record { bytes = codes "0"; header_hash = replicate 32 1; version = V1
 abbrev block_1 : CommittedBlock
 block_1 = record { bytes = codes "1"; header_hash = replicate 32 2; version = V2; flags = [] }
 
+abbrev definitions : Policies
+definitions = definitions_with either_peer
+
 abbrev world_of : List CommittedBlock → World
-world_of blocks = record { state = state; history = with_entries empty entries; first_uses = with_uses empty new_uses; blocks = blocks }
+world_of blocks = record { state = state; history = with_entries empty entries; first_uses = with_uses empty new_uses; definitions = definitions; blocks = blocks }
 
 abbrev world_1 : World
 world_1 = world_of (block_0 ∷ [])
@@ -168,6 +173,12 @@ use_that_is_not_there = simp uses refl
 
 -- ---- blocks and heights
 
+pub text_of_a_definition : definition_answer world_1 chaincode ≡ Some (codes "OR('Org1.peer','Org2.peer')")
+text_of_a_definition = simp looks refl
+
+pub no_definition : definition_answer world_1 dd ≡ None
+no_definition = simp looks refl
+
 pub first_block : block_answer world_2 0 ≡ Some block_0
 first_block = refl
 
@@ -177,10 +188,10 @@ last_block = refl
 pub no_block_at_the_height : block_answer world_2 2 ≡ None
 no_block_at_the_height = refl
 
-pub no_block_at_height_0 : block_answer empty_world 0 ≡ None
+pub no_block_at_height_0 : block_answer (empty_world definitions) 0 ≡ None
 no_block_at_height_0 = refl
 
-pub height_0 : height_answer empty_world ≡ 0
+pub height_0 : height_answer (empty_world definitions) ≡ 0
 height_0 = refl
 
 pub height_2 : height_answer world_2 ≡ 2
@@ -188,7 +199,7 @@ height_2 = refl
 
 -- ---- replies
 
-pub reply_at_height_0 : reply empty_world (height_answer empty_world) ≡ record { height = 0; header_hash = None; answer = 0 }
+pub reply_at_height_0 : reply (empty_world definitions) (height_answer (empty_world definitions)) ≡ record { height = 0; header_hash = None; answer = 0 }
 reply_at_height_0 = refl
 
 pub reply_at_height_1 : reply world_1 (block_answer world_1 0) ≡ record { height = 1; header_hash = Some (replicate 32 1); answer = Some block_0 }

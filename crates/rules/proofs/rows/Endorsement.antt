@@ -1,5 +1,5 @@
 -- Policies of chaincodes.
-use Rattle.std.proofs.Common.{◌≡◌, ℕ, List, [], ◌∷◌, refl}
+use Rattle.std.proofs.Common.{None, ◌≡◌, ℕ, List, [], ◌∷◌, refl}
 use Rattle.std.specs.Prelude.{codes}
 use Rattle.rules.specs.declared.flag.Flag.TheVariants.{Valid, EndorsementPolicyFailure, InvalidChaincode}
 use Rattle.policy.specs.Tree.{Tree, principal}
@@ -16,7 +16,7 @@ use Rattle.rules.proofs.rows.Looks.{looks}
 
 -- block 1 over no keys, where the policy of cc is this one
 abbrev under_policy : Tree → List Candidate → Job
-under_policy policy candidates = record { number = 1; state = state_with []; definitions = definitions_with policy; candidates = candidates }
+under_policy policy candidates = record { number = 1; state = state_with []; definitions = definitions_with policy; admin = None; candidates = candidates }
 
 pub endorsing_twice_counts_once : flags (under_policy (both_of (peer_of (codes "Org1")) (peer_of (codes "Org1"))) (signed_by (p0 ∷ p0 ∷ []) writes_k ∷ signed_by (p0 ∷ p1 ∷ []) writes_k ∷ [])) ≡ EndorsementPolicyFailure ∷ Valid ∷ []
 unfolding running with_changes
@@ -47,7 +47,7 @@ named_chaincode_wants_its_policy = simp looks refl
 
 -- block 1 over no keys, where cc and dd have these policies
 abbrev under_policies : Tree → Tree → List Candidate → Job
-under_policies first second candidates = record { number = 1; state = state_with []; definitions = from_entries {R = bytes_cmp} ((chaincode, first) ∷ (dd, second) ∷ []); candidates = candidates }
+under_policies first second candidates = record { number = 1; state = state_with []; definitions = from_entries {R = bytes_cmp} ((chaincode, first) ∷ (dd, second) ∷ []); admin = None; candidates = candidates }
 
 abbrev writes_in : List ℕ → NsSet
 writes_in name = set_of name [] [] (put k ∷ []) []

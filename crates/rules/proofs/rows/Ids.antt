@@ -1,4 +1,6 @@
 -- Transaction ids.
+use Rattle.transaction.specs.declared.item.Item.{Item}
+use Rattle.transaction.specs.declared.item.Item.TheVariants as item
 use Rattle.std.proofs.Common.{◌≡◌, List, [], ◌∷◌, Option, Some, None, refl}
 use Rattle.std.specs.Prelude.{codes}
 use Rattle.std.specs.FinMap.{empty}
@@ -16,23 +18,23 @@ use Rattle.rules.proofs.rows.Looks.{uses}
 
 -- of height 1
 abbrev world_1 : World
-world_1 = record { state = empty; history = empty; first_uses = empty; blocks = kept ∷ [] }
+world_1 = record { state = empty; history = empty; first_uses = empty; definitions = channel.definitions; blocks = kept ∷ [] }
 
-abbrev block_in : World → List (Option Tx) → Job
+abbrev block_in : World → List (Option Item) → Job
 block_in w txs = job_of channel any w txs
 
-abbrev after : World → List (Option Tx) → World
+abbrev after : World → List (Option Item) → World
 after w txs = committed channel any w txs kept
 
 -- the same nonce and creator, so one id
-abbrev with_one : Tx → Option Tx
-with_one t = Some (endorsed_by (p0 ∷ []) t)
+abbrev with_one : Tx → Option Item
+with_one t = Some (item.Tx (endorsed_by (p0 ∷ []) t))
 
-abbrev with_none : Tx → Option Tx
-with_none t = Some t
+abbrev with_none : Tx → Option Item
+with_none t = Some (item.Tx t)
 
 -- the first one isn't endorsed
-abbrev used_twice : List (Option Tx)
+abbrev used_twice : List (Option Item)
 used_twice = with_none writes_k ∷ with_one writes_k ∷ []
 
 pub invalid_one_uses_its_id : flags (block_in world_1 used_twice) ≡ EndorsementPolicyFailure ∷ DuplicateTxId ∷ []
@@ -57,16 +59,16 @@ no_use = simp uses refl
 
 -- ---- which faults leave an id unused
 
-abbrev out_of_form : Option Tx
+abbrev out_of_form : Option Item
 out_of_form = with_one (writing (put k ∷ put k ∷ []))
 
-abbrev undefined : Option Tx
+abbrev undefined : Option Item
 undefined = with_one (over (set_of zz [] [] (put k ∷ []) [] ∷ []))
 
-abbrev stale : Option Tx
+abbrev stale : Option Item
 stale = with_one (reading (read_at k (at 7 7) ∷ []))
 
-abbrev of_another_channel : Option Tx
+abbrev of_another_channel : Option Item
 of_another_channel = with_one (record writes_k { channel = codes "other" })
 
 pub use_by_one_out_of_form : flags (block_in world_1 (out_of_form ∷ with_one writes_k ∷ [])) ≡ BadRwset ∷ DuplicateTxId ∷ []

@@ -161,6 +161,7 @@ open_key = record {
   number = 1;
   state = from_entries {R = key_cmp} (((chaincode, k), record { value = codes "v"; version = at 0 0; policy = Some (peer_of (codes "Org1")) }) ∷ []);
   definitions = definitions_with both_peers;
+  admin = None;
   candidates = one (writing_policy (policy_removed k)) ∷ one (over []) ∷ [];
 }
 

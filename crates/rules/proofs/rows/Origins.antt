@@ -1,4 +1,6 @@
 -- Where a transaction comes from: faults that go before all others and leave the id unused.
+use Rattle.transaction.specs.declared.item.Item.{Item}
+use Rattle.transaction.specs.declared.item.Item.TheVariants as item
 use Rattle.std.proofs.Common.{◌≡◌, ℕ, Bool, true, false, List, [], ◌∷◌, ◌++◌, length, Option, Some, refl, ap, length-append, arith}
 use Rattle.std.specs.Prelude.{codes}
 use Rattle.std.specs.Str.{bytes_eq}
@@ -20,8 +22,8 @@ use Rattle.rules.proofs.rows.Looks.{uses}
 abbrev accepts_none : Accepts
 accepts_none who message signature = bytes_eq signature []
 
-abbrev first_block : List (Option Tx) → Job
-first_block txs = job_of channel accepts_none empty_world txs
+abbrev first_block : List (Option Item) → Job
+first_block txs = job_of channel accepts_none (empty_world channel.definitions) txs
 
 -- with one nonce and creator, so one id
 abbrev good : Tx
@@ -30,20 +32,20 @@ good = endorsed_by (p0 ∷ []) (writing (put k ∷ []))
 abbrev badly_signed : Tx
 badly_signed = record good { signature = 1 ∷ [] }
 
-pub bad_signature_uses_no_id : flags (first_block (Some badly_signed ∷ Some good ∷ [])) ≡ BadCreatorSignature ∷ Valid ∷ []
+pub bad_signature_uses_no_id : flags (first_block (Some (item.Tx badly_signed) ∷ Some (item.Tx good) ∷ [])) ≡ BadCreatorSignature ∷ Valid ∷ []
 unfolding running with_changes
 bad_signature_uses_no_id = simp uses refl
 
-pub channel_goes_before_signature : flags (first_block (Some (record badly_signed { channel = codes "other" }) ∷ [])) ≡ TargetChainNotFound ∷ []
+pub channel_goes_before_signature : flags (first_block (Some (item.Tx (record badly_signed { channel = codes "other" })) ∷ [])) ≡ TargetChainNotFound ∷ []
 unfolding running with_changes
 channel_goes_before_signature = refl
 
-pub signature_goes_before_id : flags (first_block (Some (record badly_signed { id = codes "x" }) ∷ [])) ≡ BadCreatorSignature ∷ []
+pub signature_goes_before_id : flags (first_block (Some (item.Tx (record badly_signed { id = codes "x" })) ∷ [])) ≡ BadCreatorSignature ∷ []
 unfolding running with_changes
 signature_goes_before_id = refl
 
 -- given that `x` isn't the id
-pub another_id_uses_none : bytes_eq (codes "x") an_id ≡ false → flags (first_block (Some (record good { id = codes "x" }) ∷ Some good ∷ [])) ≡ BadProposalTxId ∷ Valid ∷ []
+pub another_id_uses_none : bytes_eq (codes "x") an_id ≡ false → flags (first_block (Some (item.Tx (record good { id = codes "x" })) ∷ Some (item.Tx good) ∷ [])) ≡ BadProposalTxId ∷ Valid ∷ []
 unfolding running with_changes
 another_id_uses_none apart = simp (apart, uses) refl
 
@@ -73,18 +75,18 @@ endorsed_with signature = record (writing (put k ∷ [])) { endorsements = recor
 abbrev well_endorsed : Tx
 well_endorsed = endorsed_with (body ++ identity_bytes q0)
 
-abbrev signed_whole : Tx → Option Tx
-signed_whole t = Some (record t { signature = signed_bytes t })
+abbrev signed_whole : Tx → Option Item
+signed_whole t = Some (item.Tx (record t { signature = signed_bytes t }))
 
-abbrev flags_of : Option Tx → List Flag
-flags_of t = flags (job_of channel repeats empty_world (t ∷ []))
+abbrev flags_of : Option Item → List Flag
+flags_of t = flags (job_of channel repeats (empty_world channel.definitions) (t ∷ []))
 
 -- the creator the body and the endorsements, an endorser the body and its identity
 pub each_signs_its_bytes : flags_of (signed_whole well_endorsed) ≡ Valid ∷ []
 unfolding running with_changes
 each_signs_its_bytes = simp (same_bytes, uses) refl
 
-pub creator_signs_more_than_the_body : flags_of (Some (record well_endorsed { signature = body })) ≡ BadCreatorSignature ∷ []
+pub creator_signs_more_than_the_body : flags_of (Some (item.Tx (record well_endorsed { signature = body }))) ≡ BadCreatorSignature ∷ []
 unfolding running with_changes
 creator_signs_more_than_the_body = simp (longer_bytes, uses) refl
 

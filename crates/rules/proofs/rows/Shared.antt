@@ -1,4 +1,6 @@
 -- What the worked rows are made of: identities, policies, transactions, candidates, and blocks over a state.
+use Rattle.transaction.specs.declared.item.Item.TheVariants as item
+use Rattle.transaction.specs.declared.block_version.BlockVersion.TheVariants.{V1}
 use Rattle.std.proofs.Common.{◌≡◌, ℕ, true, false, List, [], ◌∷◌, map, Option, Some, None, Ok, Err, refl}
 use Rattle.std.specs.Prelude.{codes, replicate}
 use Rattle.std.specs.FinMap.{from_entries}
@@ -201,11 +203,11 @@ abbrev pub definitions_with : Tree → Policies
 definitions_with policy = from_entries {R = bytes_cmp} ((chaincode, policy) ∷ [])
 
 abbrev pub channel : Configuration
-channel = record { name = codes "ch"; definitions = definitions_with either_peer }
+channel = record { name = codes "ch"; definitions = definitions_with either_peer; admin = None }
 
 -- as the tests before the state leave it, where its id is new
 abbrev pub judged : Tx → Candidate
-judged t = candidate_of channel any false (Some (endorsed_by (p0 ∷ []) t))
+judged t = candidate_of channel any true false (Some (item.Tx (endorsed_by (p0 ∷ []) t)))
 
 -- ---- blocks
 
@@ -224,7 +226,7 @@ abbrev pub guarded_state : State
 guarded_state = from_entries {R = key_cmp} (((chaincode, k), record { value = codes "v"; version = at 0 0; policy = Some both_peers }) ∷ [])
 
 abbrev pub block_on : ℕ → State → List Candidate → Job
-block_on number state candidates = record { number = number; state = state; definitions = definitions_with either_peer; candidates = candidates }
+block_on number state candidates = record { number = number; state = state; definitions = definitions_with either_peer; admin = None; candidates = candidates }
 
 -- block 1 over these keys
 abbrev pub block_over : List (List ℕ) → List Candidate → Job

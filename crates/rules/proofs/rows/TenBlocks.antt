@@ -1,4 +1,7 @@
 -- Ten small blocks over one world of height 1, worked out from the rules by hand.
+use Rattle.transaction.specs.declared.item.Item.{Item}
+use Rattle.transaction.specs.declared.item.Item.TheVariants as item
+use Rattle.transaction.specs.declared.block_version.BlockVersion.TheVariants.{V1}
 use Rattle.std.proofs.Common.{◌≡◌, ℕ, true, false, List, [], ◌∷◌, ◌++◌, length, Option, Some, None, Err, refl, arith}
 use Rattle.std.specs.Prelude.{codes, replicate}
 use Rattle.std.specs.FinMap.{from_entries, get, empty}
@@ -60,14 +63,14 @@ abbrev definitions : Policies
 definitions = from_entries {R = bytes_cmp} ((chaincode, either_peer) ∷ (dd, both_peers) ∷ [])
 
 abbrev channel : Configuration
-channel = record { name = codes "ch"; definitions = definitions }
+channel = record { name = codes "ch"; definitions = definitions; admin = None }
 
 abbrev world_1 : World
-world_1 = record { state = before; history = empty; first_uses = empty; blocks = kept ∷ [] }
+world_1 = record { state = before; history = empty; first_uses = empty; definitions = definitions; blocks = kept ∷ [] }
 
 -- with an id that is new
 abbrev endorsed : List Identity → Tx → Candidate
-endorsed endorsers t = candidate_of channel any false (Some (endorsed_by endorsers t))
+endorsed endorsers t = candidate_of channel any true false (Some (item.Tx (endorsed_by endorsers t)))
 
 abbrev by_first : Tx → Candidate
 by_first t = endorsed (p0 ∷ []) t
@@ -76,7 +79,7 @@ abbrev by_both : Tx → Candidate
 by_both t = endorsed (p0 ∷ q0 ∷ []) t
 
 abbrev block_1 : List Candidate → Job
-block_1 candidates = record { number = 1; state = before; definitions = definitions; candidates = candidates }
+block_1 candidates = record { number = 1; state = before; definitions = definitions; admin = None; candidates = candidates }
 
 -- another value than any key has before
 abbrev put_new : List ℕ → Write
@@ -175,10 +178,10 @@ insert_before_the_range_comes_first = simp scans refl
 -- ---- one id three times
 
 -- by nobody, by Org1, and by Org1 for another channel
-abbrev one_id : List (Option Tx)
+abbrev one_id : List (Option Item)
 one_id =
     let t = writing (put k ∷ []) in
-    Some t ∷ Some (endorsed_by (p0 ∷ []) t) ∷ Some (endorsed_by (p0 ∷ []) (record t { channel = codes "other" })) ∷ []
+    Some (item.Tx t) ∷ Some (item.Tx (endorsed_by (p0 ∷ []) t)) ∷ Some (item.Tx (endorsed_by (p0 ∷ []) (record t { channel = codes "other" }))) ∷ []
 
 pub other_channel_goes_before_duplicate : flags (job_of channel any world_1 one_id) ≡ EndorsementPolicyFailure ∷ DuplicateTxId ∷ TargetChainNotFound ∷ []
 unfolding running with_changes

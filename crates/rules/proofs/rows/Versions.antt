@@ -23,11 +23,11 @@ abbrev hash_1 : List ℕ
 hash_1 = replicate 32 2
 
 abbrev behind : List CommittedBlock → World
-behind blocks = record { state = empty; history = empty; first_uses = empty; blocks = blocks }
+behind blocks = record { state = empty; history = empty; first_uses = empty; definitions = empty; blocks = blocks }
 
 -- ---- the version of a world
 
-version_at_height_0 : last_version empty_world ≡ V1
+version_at_height_0 : last_version (empty_world empty) ≡ V1
 version_at_height_0 = refl
 
 version_behind_1 : last_version (behind (kept V1 hash_0 ∷ [])) ≡ V1

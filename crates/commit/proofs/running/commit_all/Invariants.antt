@@ -1,6 +1,6 @@
 use Rattle.std.proofs.Common.{◌≡◌, ◌≤◌, ◌+◌, take, drop, vec_len, vec_capacity}
 use Rattle.commit.specs.Prepared.{IsAhead}
-use Rattle.commit.specs.Running.{RunsOn}
+use Rattle.commit.specs.Running.{BelongsTo, RunsOn}
 use Rattle.commit.proofs.running.commit_all.Given as goal
 
 -- so many are committed, and the others wait
@@ -10,4 +10,5 @@ invariant-loop-bytes g l = record {
   ahead : IsAhead l.means.channel.now (g.V.Verify.accepts l.means.verifier.now) (drop l.bytes-index l.blocks) l.ahead;
   count : vec_len l.answers ≡ vec_len l.fn.answers + l.bytes-index;
   room : vec_capacity l.fn.answers ≤ vec_capacity l.answers;
+  belongs : BelongsTo l.means.channel.now l.published;
 }

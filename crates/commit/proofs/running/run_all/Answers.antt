@@ -22,4 +22,5 @@ loop-end-preserved g c =
       ahead = step.ensures.ahead;
       count = omega (arith, before.order, before.within, before.count, step.ensures.count, length-take (end - start) (drop start blocks), length-drop start blocks);
       room = omega (arith, before.room, step.ensures.room);
+      belongs = step.ensures.belongs;
     }

@@ -1,6 +1,6 @@
 use Rattle.std.proofs.Common.{◌≡◌, ◌≤◌, ◌-◌, length, take, drop, vec_len, vec_capacity}
 use Rattle.commit.specs.Prepared.{IsAhead}
-use Rattle.commit.specs.Running.{RunsTo}
+use Rattle.commit.specs.Running.{BelongsTo, RunsTo}
 use Rattle.commit.proofs.running.run_all.Given as goal
 
 -- blocks up to a place are committed, and some behind it are taken in
@@ -12,6 +12,7 @@ invariant-loop-end g l = record {
   ahead : IsAhead l.means.channel.now (g.V.Verify.accepts l.means.verifier.now) (take (l.end - l.start) (drop l.start l.blocks)) l.ahead;
   count : vec_len l.answers ≡ l.start;
   room : length l.blocks ≤ vec_capacity l.answers;
+  belongs : BelongsTo l.means.channel.now l.published;
 }
 
 abbrev pub decreases-loop-end : goal.decreases-loop-end

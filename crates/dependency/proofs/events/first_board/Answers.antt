@@ -15,7 +15,7 @@ loop-i-preserved c =
     elim c.match-flagged.branch [
       | in-Some w ↦ begun-flagged c.args.job.now c.loop-i.i w.in-Some.flag c.loop-i.board w.set.new.self c.match-flagged.board c.loop-i.invariant lt w.in-Some.ensures
           (w.set.ensures ∙ ap (λ (f : Flag). slice_set c.loop-i.board c.loop-i.i (cells f)) w.flag.ensures) w.board-is
-      | in_default w ↦ begun-open c.args.job.now c.loop-i.i c.loop-i.board c.match-flagged.board w.in_default.ensures.0 w.in_default.ensures.1 c.loop-i.invariant w.in_default.ensures.2 w.board-is
+      | in_default w ↦ begun-open c.args.job.now c.loop-i.i c.loop-i.board c.match-flagged.board c.loop-i.invariant w.in_default.ensures w.board-is
     ]
 
 pub returns : goal.returns

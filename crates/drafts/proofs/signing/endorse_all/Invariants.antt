@@ -2,7 +2,7 @@ use Rattle.std.proofs.Common.{◌≡◌, ◌++◌, drop}
 use Rattle.std.specs.Prelude.{map}
 use Rattle.std.specs.List.{AllByRecursion}
 use Rattle.transaction.specs.Grammar.{IsIdentity}
-use Rattle.drafts.specs.DraftTx.{endorsement_by}
+use Rattle.drafts.specs.DraftItem.{endorsement_by}
 use Rattle.drafts.proofs.signing.endorse_all.Given as goal
 
 abbrev pub invariant-loop-endorser : goal.invariant-loop-endorser

@@ -1,7 +1,7 @@
 use Rattle.std.proofs.Common.{sym, ap, ◌∙◌}
 use Rattle.std.proofs.lemmas.Result.{IfOk-weaker}
 use Rattle.rules.specs.Flags.{is_valid}
-use Rattle.effects.proofs.NextStates.{shows-invalid, shows-flagged, shows-opened, makes-invalid, makes-flagged, makes-opened}
+use Rattle.effects.proofs.NextStates.{shows-invalid, shows-nothing, shows-opened, makes-invalid, makes-nothing, makes-opened}
 use Rattle.effects.proofs.writing.take.Goals as goal
 
 pub returns-then-not-is_valid-clause-rows : goal.returns-then-not-is_valid-clause-rows
@@ -10,7 +10,7 @@ returns-then-not-is_valid-clause-rows c =
 
 pub returns-in-None-clause-rows : goal.returns-in-None-clause-rows
 returns-in-None-clause-rows c =
-    shows-flagged c.args.job.now c.args.i c.args.rows.now.items (ap is_valid (sym c.requires.flag) ∙ sym c.is_valid.ensures ∙ c.if-not-is_valid.false) c.in-None.ensures.tx
+    shows-nothing c.args.job.now c.args.i c.args.rows.now.items (ap is_valid (sym c.requires.flag) ∙ sym c.is_valid.ensures ∙ c.if-not-is_valid.false) c.in-None.ensures.tx
 
 pub returns-in-Some-clause-rows : goal.returns-in-Some-clause-rows
 returns-in-Some-clause-rows c =
@@ -24,7 +24,7 @@ returns-then-not-is_valid-clause-entries c =
 
 pub returns-in-None-clause-entries : goal.returns-in-None-clause-entries
 returns-in-None-clause-entries c =
-    makes-flagged c.args.job.now c.args.i c.args.entries.now.items (ap is_valid (sym c.requires.flag) ∙ sym c.is_valid.ensures ∙ c.if-not-is_valid.false) c.in-None.ensures.tx
+    makes-nothing c.args.job.now c.args.i c.args.entries.now.items (ap is_valid (sym c.requires.flag) ∙ sym c.is_valid.ensures ∙ c.if-not-is_valid.false) c.in-None.ensures.tx
 
 pub returns-in-Some-clause-entries : goal.returns-in-Some-clause-entries
 returns-in-Some-clause-entries c =

@@ -1,27 +1,24 @@
-use Rattle.std.proofs.Common.{List, Result, Ok, Err, IfOk, not, find, refl, sym, ap, ◌∙◌}
+use Rattle.std.proofs.Common.{List, not, find, refl, sym, ap, ◌∙◌}
+use Rattle.std.proofs.lemmas.Result.{IfOk-weaker}
 use Rattle.rules.specs.State.{StateKey}
 use Rattle.rules.specs.Fold.{running}
 use Rattle.rules.specs.Endorsement.{may_write}
 use Rattle.explanations.proofs.endorsement.endorsement_fault.Goals as goal
 
-where_ok : {T E : Type 0} (r : Result T E) (P Q : T → Type 0) → ((x : T) → P x → Q x) → IfOk r P → IfOk r Q
-where_ok (Ok x) P Q more h = more x h
-where_ok (Err e) P Q more h = h
-
 pub returns-in-Some-clause-found : goal.returns-in-Some-clause-found
 returns-in-Some-clause-found c =
     let j = c.args.job.now in
     let barred = ap (λ (ks : List StateKey). find (λ k. not (may_write j.definitions j.state (running j c.args.i).touched c.args.signers.now k)) ks) (sym (c.as_slice.ensures.value ∙ c.in_ok-keys.ensures)) ∙ c.in-Some.ensures.0 in
-    where_ok c.key_fault.result _ _ (λ x h. h c.args.tx.now barred) c.key_fault.ensures.found
+    IfOk-weaker c.key_fault.result _ _ (λ x h. h c.args.tx.now barred) c.key_fault.ensures.found
 
 pub returns-in-Some-clause-none : goal.returns-in-Some-clause-none
 returns-in-Some-clause-none c =
     let j = c.args.job.now in
     let barred = ap (λ (ks : List StateKey). find (λ k. not (may_write j.definitions j.state (running j c.args.i).touched c.args.signers.now k)) ks) (sym (c.as_slice.ensures.value ∙ c.in_ok-keys.ensures)) ∙ c.in-Some.ensures.0 in
-    where_ok c.key_fault.result _ _ (λ x h none f. h none c.args.tx.now f barred) c.key_fault.ensures.none
+    IfOk-weaker c.key_fault.result _ _ (λ x h none f. h none c.args.tx.now f barred) c.key_fault.ensures.none
 
 pub returns-clause-none : goal.returns-clause-none
 returns-clause-none c =
     let j = c.args.job.now in
     let barred = ap (λ (ks : List StateKey). find (λ k. not (may_write j.definitions j.state (running j c.args.i).touched c.args.signers.now k)) ks) (sym (c.as_slice.ensures.value ∙ c.in_ok-keys.ensures)) ∙ c.in-None.ensures in
-    where_ok c.chaincode_fault.result _ _ (λ x h none f. h none c.args.i c.args.tx.now f refl barred) c.chaincode_fault.ensures.none
+    IfOk-weaker c.chaincode_fault.result _ _ (λ x h none f. h none c.args.i c.args.tx.now f refl barred) c.chaincode_fault.ensures.none

@@ -7,4 +7,4 @@ pub returns-clause-step : goal.returns-clause-step
 returns-clause-step c = step_as_before
 
 pub returns-clause-chain : goal.returns-clause-chain
-returns-clause-chain c = λ channel new submissions answers each chain. chain_as_before channel submissions answers empty_world new refl each chain
+returns-clause-chain c = λ channel new submissions answers each chain. chain_as_before channel submissions answers (empty_world channel.definitions) new refl refl each chain

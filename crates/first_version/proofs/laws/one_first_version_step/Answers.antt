@@ -7,6 +7,6 @@ returns c =
     let laws : ReadsOnce = record { one_block = first.one_block; one_fault = first.one_fault; block_or_fault = first.block_or_fault } in
     record {
       some_answer = λ channel accepts old bytes fits.
-          some_step_by channel accepts old bytes (c.one_reading.ensures.some_reading bytes fits) (c.one_step.ensures.some_answer (channel_of channel) accepts (world_of old) bytes fits);
+          some_step_by channel accepts old bytes (c.one_reading.ensures.some_reading bytes fits) (c.one_step.ensures.some_answer (channel_of channel) accepts (world_of channel.definitions old) bytes fits);
       one_answer = one_step_by laws;
     }

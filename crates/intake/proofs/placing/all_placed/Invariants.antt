@@ -8,5 +8,5 @@ use Rattle.intake.proofs.placing.all_placed.Given as goal
 
 abbrev pub invariant-loop-place : goal.invariant-loop-place
 invariant-loop-place l =
-    map (λ p. placed p.0 p.1) (zip l.fn.taken.items l.used)
-    ≡ l.candidates.items ++ map (λ p. placed p.0 p.1) (zip (into_iter_items (zip_first l.place-iterator)) (iter_rest (zip_second l.place-iterator)))
+    map (λ p. placed l.alone p.0 p.1) (zip l.fn.taken.items l.used)
+    ≡ l.candidates.items ++ map (λ p. placed l.alone p.0 p.1) (zip (into_iter_items (zip_first l.place-iterator)) (iter_rest (zip_second l.place-iterator)))

@@ -1,7 +1,7 @@
 use Rattle.std.proofs.Common.{◌≡◌, map, take}
-use Rattle.transaction.specs.Decoded.{tx_of}
+use Rattle.transaction.specs.Items.{item_of}
 use Rattle.intake.specs.Place.{taken_of, shown}
 use Rattle.intake_workers.proofs.taking.take_piece.Given as goal
 
 abbrev pub invariant-loop-bytes : goal.invariant-loop-bytes
-invariant-loop-bytes g l = map shown l.all.items ≡ map (taken_of l.channel (g.V.Verify.accepts l.verifier)) (map tx_of (take l.bytes-index l.txs))
+invariant-loop-bytes g l = map shown l.all.items ≡ map (taken_of l.channel (g.V.Verify.accepts l.verifier)) (map (item_of l.version) (take l.bytes-index l.txs))

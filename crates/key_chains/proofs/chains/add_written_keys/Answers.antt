@@ -10,3 +10,7 @@ use Rattle.key_chains.proofs.chains.add_written_keys.Goals as goal
 pub returns-in-Flagged : goal.returns-in-Flagged
 returns-in-Flagged c =
     sym (append-nil c.args.keys.now.items) ∙ ap (λ (ks : List StateKey). c.args.keys.now.items ++ ks) (sym (ap (λ (x : Candidate). written_by (seen x)) c.in-Flagged.is ∙ no_keys))
+
+pub returns-in-Updates : goal.returns-in-Updates
+returns-in-Updates c =
+    sym (append-nil c.args.keys.now.items) ∙ ap (λ (ks : List StateKey). c.args.keys.now.items ++ ks) (sym (ap (λ (x : Candidate). written_by (seen x)) c.in-Updates.is ∙ no_keys))

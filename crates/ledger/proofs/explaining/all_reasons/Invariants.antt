@@ -1,6 +1,6 @@
 use Rattle.std.proofs.Common.{◌≡◌, ℕ, map, length, Some}
 use Rattle.std.specs.Prelude.{slice_get}
-use Rattle.transaction.specs.Decoded.{tx_of}
+use Rattle.transaction.specs.Items.{item_of}
 use Rattle.policy_eval.specs.Accepts.{Accepts}
 use Rattle.rules.specs.Candidate.{used_id}
 use Rattle.rules.specs.Commit.{job_of}
@@ -12,6 +12,6 @@ abbrev pub invariant-loop-i : goal.invariant-loop-i
 invariant-loop-i l = record {
   board : l.board ≡ l.initial.board;
   count : length l.reasons.items ≡ l.i;
-  each : (accepts : Accepts) → l.job ≡ job_of l.channel accepts l.world (map tx_of l.txs) → l.ids ≡ map (used_id l.channel accepts) (map tx_of l.txs)
-      → (n : ℕ) (r : Reason) → slice_get l.reasons.items n ≡ Some r → IsReason l.channel accepts l.world (map tx_of l.txs) n r;
+  each : (accepts : Accepts) → l.job ≡ job_of l.channel accepts l.world (map (item_of l.version) l.txs) → l.ids ≡ map (used_id l.channel accepts) (map (item_of l.version) l.txs)
+      → (n : ℕ) (r : Reason) → slice_get l.reasons.items n ≡ Some r → IsReason l.channel accepts l.world (map (item_of l.version) l.txs) n r;
 }

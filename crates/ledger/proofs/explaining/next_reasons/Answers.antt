@@ -1,10 +1,10 @@
 use Rattle.std.proofs.Common.{length, map, is_some, ap, sym, subst, refl, ◌∙◌}
 use Rattle.std.proofs.lemmas.List.{length-map}
 use Rattle.std.proofs.lemmas.Result.{IfOk-weaker, IfOk-at_ok, MatchResult-weaker}
-use Rattle.transaction.specs.Decoded.{tx_of}
+use Rattle.transaction.specs.Items.{item_of}
 use Rattle.rules.specs.declared.answer.Refused.{Refused}
 use Rattle.rules.specs.Candidate.{used_id}
-use Rattle.rules.specs.Commit.{txs_of}
+use Rattle.rules.specs.Commit.{items_of}
 use Rattle.rules.specs.Linked.{IsRefused}
 use Rattle.ledger.proofs.Found.{are_there, are_found}
 use Rattle.ledger.proofs.NextDeltas.{count-job}
@@ -20,8 +20,8 @@ found_reasons-requires-clause-count g c =
     let accepts = g.V.Verify.accepts c.args.verifier.now in
     let b = c.in_ok-block.block in
     let taken = c.in_ok-block.ensures.is_taken.taken in
-    ap length c.txs.ensures ∙ sym (length-map b.txs tx_of) ∙ sym (length-map (txs_of b) (used_id channel accepts))
-    ∙ count-job channel accepts c.args.world.now b c.in_ok-job.job (map (used_id channel accepts) (txs_of b)) (c.in_ok-job.ensures.job accepts (txs_of b) taken) refl
+    ap length c.txs.ensures ∙ sym (length-map b.txs (item_of b.version)) ∙ sym (length-map (items_of b) (used_id channel accepts))
+    ∙ count-job channel accepts c.args.world.now b c.in_ok-job.job (map (used_id channel accepts) (items_of b)) (c.in_ok-job.ensures.job c.requires accepts (items_of b) taken) refl
 
 pub found_reasons-requires-clause-ids : goal.found_reasons-requires-clause-ids
 found_reasons-requires-clause-ids g c =
@@ -29,8 +29,8 @@ found_reasons-requires-clause-ids g c =
     let accepts = g.V.Verify.accepts c.args.verifier.now in
     let b = c.in_ok-block.block in
     let taken = c.in_ok-block.ensures.is_taken.taken in
-    count-job channel accepts c.args.world.now b c.in_ok-job.job c.as_slice.result.now (c.in_ok-job.ensures.job accepts (txs_of b) taken)
-    (c.as_slice.ensures.value ∙ c.in_ok-job.ensures.ids accepts (txs_of b) taken)
+    count-job channel accepts c.args.world.now b c.in_ok-job.job c.as_slice.result.now (c.in_ok-job.ensures.job c.requires accepts (items_of b) taken)
+    (c.as_slice.ensures.value ∙ c.in_ok-job.ensures.ids accepts (items_of b) taken)
 
 pub there-requires : goal.there-requires
 there-requires g c =
@@ -39,8 +39,8 @@ there-requires g c =
     let b = c.in_ok-block.block in
     let taken = c.in_ok-block.ensures.is_taken.taken in
     IfOk-weaker c.found_reasons.result _ _
-    (λ x found. ap is_some (are_there channel accepts c.args.world.now b c.txs.result.now c.in_ok-job.job c.as_slice.result.now c.txs.ensures
-    (c.in_ok-job.ensures.job accepts (txs_of b) taken) (c.as_slice.ensures.value ∙ c.in_ok-job.ensures.ids accepts (txs_of b) taken) x found).1)
+    (λ x found. ap is_some (are_there channel accepts c.args.world.now b c.version.result c.txs.result.now c.in_ok-job.job c.as_slice.result.now c.version.ensures c.txs.ensures
+    (c.in_ok-job.ensures.job c.requires accepts (items_of b) taken) (c.as_slice.ensures.value ∙ c.in_ok-job.ensures.ids accepts (items_of b) taken) x found).1)
     c.found_reasons.ensures
 
 pub returns : goal.returns
@@ -56,7 +56,7 @@ returns g c =
       block = b;
       spelled = next.is_taken.spelled;
       linked = next.linked;
-      are_reasons = are_found channel accepts w b c.txs.result.now c.in_ok-job.job c.as_slice.result.now c.txs.ensures
-          (c.in_ok-job.ensures.job accepts (txs_of b) taken) (c.as_slice.ensures.value ∙ c.in_ok-job.ensures.ids accepts (txs_of b) taken) reasons (IfOk-at_ok _ is c.found_reasons.ensures);
+      are_reasons = are_found channel accepts w b c.version.result c.txs.result.now c.in_ok-job.job c.as_slice.result.now c.version.ensures c.txs.ensures
+          (c.in_ok-job.ensures.job c.requires accepts (items_of b) taken) (c.as_slice.ensures.value ∙ c.in_ok-job.ensures.ids accepts (items_of b) taken) reasons (IfOk-at_ok _ is c.found_reasons.ensures);
     })
     (λ refused memory. subst (λ (r : Refused). IsRefused w c.args.bytes.now r) (sym memory) tt)

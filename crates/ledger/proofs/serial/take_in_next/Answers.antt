@@ -1,5 +1,5 @@
-use Rattle.std.proofs.Common.{map, ap, ◌∙◌}
-use Rattle.transaction.specs.Decoded.{tx_of}
+use Rattle.std.proofs.Common.{map, ◌∙◌}
+use Rattle.transaction.specs.Items.{item_of}
 use Rattle.intake.specs.Place.{taken_of}
 use Rattle.ledger.proofs.serial.take_in_next.Goals as goal
 
@@ -10,7 +10,7 @@ returns g c =
     record {
       is_taken = record {
         spelled = c.in_ok-block.ensures.0;
-        taken = c.in_ok-taken.ensures ∙ ap (λ txs. map (taken_of channel accepts) (map tx_of txs)) c.txs.ensures;
+        taken = c.in_ok-taken.ensures ∙ (λ i. map (taken_of channel accepts) (map (item_of (c.version.ensures i)) (c.txs.ensures i)));
       };
       linked = c.in_ok-block.ensures.1;
     }

@@ -1,13 +1,14 @@
 use Rattle.reasons.specs.Identity.{uses_id}
 use Rattle.reasons.specs.Endorsement.{touches}
 use Rattle.rules.specs.Commit.{job_of}
+use Rattle.rules.specs.Candidate.{origin_of}
 use Rattle.reasons.proofs.Below.{first_below-lt}
 use Rattle.reasons.proofs.Conflicts.{stale_read_comes_after}
 use Rattle.reasons.proofs.Identity.{place_before}
 use Rattle.reasons.proofs.laws.named_places_come_before.Goals as goal
 
 pub returns-clause-of_a_use : goal.returns-clause-of_a_use
-returns-clause-of_a_use c = λ channel accepts w txs i h r. place_before (uses_id channel accepts r.why.0.id) txs i h r.why.2.1
+returns-clause-of_a_use c = λ channel accepts w txs i h r. place_before (uses_id channel accepts (origin_of r.why.0).id) txs i h r.why.2.1
 
 pub returns-clause-of_a_policy : goal.returns-clause-of_a_policy
 returns-clause-of_a_policy c = λ channel accepts w txs i h namespace key r. first_below-lt (touches (job_of channel accepts w txs) (namespace, key)) i h r.why.2.1

@@ -2,10 +2,11 @@ use Rattle.std.proofs.Common.{List, refl, sym, subst, ap, ◌∙◌, length, All
 use Rattle.std.specs.Prelude.{IsSome}
 use Rattle.candidates.specs.declared.written_key.WrittenKey.{WrittenKey}
 use Rattle.candidates.specs.Seen.{seen}
+use Rattle.rules.specs.Candidate.{flagged, updates}
 use Rattle.key_chains.specs.Numbers.{number_in}
 use Rattle.key_chains.specs.Built.{AreNext}
 use Rattle.key_chains.proofs.OpenWrites.{each_numbered, all_next}
-use Rattle.key_chains.proofs.Passing.{flagged_passes, reads_pass, writes_pass}
+use Rattle.key_chains.proofs.Passing.{nothing_passes, reads_pass, writes_pass}
 use Rattle.key_chains.proofs.chains.Chains.add.Goals as goal
 
 pub add_written-requires-clause-numbers : goal.add_written-requires-clause-numbers
@@ -15,7 +16,12 @@ add_written-requires-clause-numbers c =
 
 pub returns-in-Flagged : goal.returns-in-Flagged
 returns-in-Flagged c = record {
-  built = λ cs is b. flagged_passes cs c.args.i (length c.as_slice.result.now) (length c.as_slice-2.result.now) c.in-Flagged.field-0 c.args.self.now _ (is ∙ ap seen c.in-Flagged.is) b (ap length c.as_slice.ensures.value) (ap length c.as_slice-2.ensures.value) c.in_ok-push.ensures.items c.in_ok-push-2.ensures.items refl refl refl refl refl;
+  built = λ cs is b. nothing_passes cs c.args.i (length c.as_slice.result.now) (length c.as_slice-2.result.now) (flagged c.in-Flagged.field-0) c.args.self.now _ (is ∙ ap seen c.in-Flagged.is) refl refl b (ap length c.as_slice.ensures.value) (ap length c.as_slice-2.ensures.value) c.in_ok-push.ensures.items c.in_ok-push-2.ensures.items refl refl refl refl refl;
+}
+
+pub returns-in-Updates : goal.returns-in-Updates
+returns-in-Updates c = record {
+  built = λ cs is b. nothing_passes cs c.args.i (length c.as_slice.result.now) (length c.as_slice-2.result.now) (updates c.in-Updates.field-0.update c.in-Updates.field-0.signers) c.args.self.now _ (is ∙ ap seen c.in-Updates.is) refl refl b (ap length c.as_slice.ensures.value) (ap length c.as_slice-2.ensures.value) c.in_ok-push.ensures.items c.in_ok-push-2.ensures.items refl refl refl refl refl;
 }
 
 pub returns-in_ok-add_written-in-Opened : goal.returns-in_ok-add_written-in-Opened

@@ -1,14 +1,6 @@
-use Rattle.std.proofs.Common.{sym, ap, arith}
-use Rattle.rules.specs.Job.{Job}
-use Rattle.key_chains.proofs.JobLists.{reads_are_few}
+use Rattle.std.proofs.Common.{inr, sym, ap, ◌∙◌}
+use Rattle.candidates.specs.Seen.{seen}
 use Rattle.key_chains.proofs.job.Job.open_tx.Goals as goal
 
-pub returns-in-Flagged-clause-reads : goal.returns-in-Flagged-clause-reads
-returns-in-Flagged-clause-reads c =
-    let few = reads_are_few c.args.self.now c.self.inside.candidates.items c.self.inside.chains (record { candidates = ap (λ (j : Job). j.candidates) (sym c.self.view_is); built = c.self.invariant.1 }) c.args.i c.self.inside.chains.reads.cap c.requires (omega (arith, c.self.inside.chains.reads.ok)) in
-    omega (arith, few, c.self.inside.chains.reads.small)
-
-pub returns-in-Opened-clause-reads : goal.returns-in-Opened-clause-reads
-returns-in-Opened-clause-reads c =
-    let few = reads_are_few c.args.self.now c.self.inside.candidates.items c.self.inside.chains (record { candidates = ap (λ (j : Job). j.candidates) (sym c.self.view_is); built = c.self.invariant.1 }) c.args.i c.self.inside.chains.reads.cap c.requires (omega (arith, c.self.inside.chains.reads.ok)) in
-    omega (arith, few, c.self.inside.chains.reads.small)
+pub returns-in-Updates-clause-tx : goal.returns-in-Updates-clause-tx
+returns-in-Updates-clause-tx c = inr (c.in-Updates.field-0.update, c.in-Updates.field-0.signers, sym c.candidate.ensures.value ∙ ap seen c.in-Updates.is)

@@ -1,0 +1,36 @@
+use crate::fault::Fault;
+use crate::files::Files;
+use crate::question::{Question, answer};
+use answer_lines::write_definition;
+use command_words::DefinitionQuery;
+use std::alloc::Global;
+use std::io::Write;
+use values::Name;
+use world::World;
+
+// The policy of a chaincode.
+#[derive(Drop)]
+struct DefinitionOf(Name);
+
+impl Question for DefinitionOf {
+    fn write<'a, W: Write>(
+        &self,
+        alloc: Global,
+        out: &mut W,
+        world: &World,
+    ) -> Result<(), Fault<'a>> {
+        Ok(write_definition(alloc, out, world.definitions().of(&self.0.lend()))?)
+    }
+}
+
+/// Reads the name and the files, hands the blocks in, and writes the chaincode's policy. Beside what the blocks take, the
+/// memory is the name, the policy's text and a buffer of a fixed size.
+pub fn print_definition<'a, F: Files, W: Write>(
+    alloc: Global,
+    files: &F,
+    words: &DefinitionQuery<'a>,
+    out: &mut W,
+) -> Result<u8, Fault<'a>> {
+    let question = DefinitionOf(words.chaincode(alloc)?);
+    answer(alloc, files, &words.paths, &question, out)
+}

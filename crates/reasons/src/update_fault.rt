@@ -1,0 +1,24 @@
+use crate::policy_text_fault::PolicyTextFault;
+use policy::Policy;
+use transaction::OwnedIdentity;
+use values::{Items, Name};
+
+/// Why an update isn't valid: the first of these that holds.
+#[derive(Drop)]
+pub enum UpdateFault {
+    /// Its block has more places than its own.
+    NotAlone,
+    /// The channel has no admin policy.
+    NoAdminPolicy,
+    /// The chaincode whose policy it gives has no definition.
+    NoDefinition {
+        chaincode: Name,
+    },
+    /// Its text is no policy.
+    NoPolicy(PolicyTextFault),
+    /// Its signers don't satisfy the admin policy.
+    AdminUnsatisfied {
+        policy: Policy,
+        signers: Items<OwnedIdentity>,
+    },
+}
