@@ -28,13 +28,15 @@ BLOCKS = 1_000
 PROGRAM = r"""
 #![tactic(auto)]
 
-ghost use Rattle.std.specs.Prelude.{◌≡◌, IsTrue, IfOk};
+ghost use Rattle.std.specs.Prelude.{◌≡◌, length, IsTrue, IfOk};
+ghost use Rattle.header_hash.specs.Hashes.{header_hash_of};
 ghost use Rattle.rules.specs.Linked.{IsLinkedDelta};
 
 use anyhow::bail;
 use block::{Block, Header, Previous, encode_block};
-use block_steps::{check_data_hash, check_place, decoded};
+use block_steps::{DecodedBlock, LinkedBlock};
 use header_hash::{data_hash, header_hash};
+use policy::Definitions;
 use query::{Publisher, QueryHandle, open};
 use rules::{Change, CommittedBlock, Delta, FirstUse, Flag, HistoryEntry, KeptKey, KeyedRow, NewEntry, NewUse, Row};
 use std::alloc::Global;
@@ -45,7 +47,7 @@ use std::sync::atomic::{AtomicBool, AtomicU64, Ordering};
 use std::thread;
 use std::thread::Threads;
 use std::time::{Clock, Instant};
-use transaction::Version;
+use transaction::{BlockVersion, Version};
 use values::{Hash, Items, Key, KeyRef, Name, NameRef, Part, Shared, is_key, is_name};
 use world::World;
 
@@ -155,12 +157,13 @@ fn block_at(
         },
         data_hash: data_hash(txs.as_slice()),
     };
-    let Ok(bytes) = encode_block(alloc, &Block { header, txs }) else {
+    let Ok(bytes) = encode_block(alloc, &Block { version: BlockVersion::V1, header, txs }) else {
         bail!("no bytes");
     };
     Ok(CommittedBlock {
         bytes: Shared::new(alloc, bytes)?,
         header_hash: header_hash(&header),
+        version: BlockVersion::V1,
         flags: Items::new(alloc),
     })
 }
@@ -181,6 +184,7 @@ fn delta_at(
         changes,
         entries,
         uses,
+        definitions: Items::new(alloc),
         block: Shared::new(alloc, block)?,
     })
 }
@@ -202,21 +206,31 @@ fn deltas(alloc: Global) -> anyhow::Result<Vec<Delta>> {
     Ok(deltas)
 }
 
+// Whether a block is kept as what it is.
+fn is_kept_of(kept: &CommittedBlock, block: &LinkedBlock<'_>) -> bool
+    ensures { IsTrue result → (kept.now.header_hash ≡ header_hash_of block.now.header) × (kept.now.version ≡ block.now.version)
+        × (length kept.now.flags ≡ length block.now.txs) }
+{
+    if kept.version != block.version() {
+        return false;
+    }
+    kept.header_hash == header_hash(block.header()) && kept.flags.len() == block.txs().len()
+}
+
 fn is_linked(alloc: Global, world: &World, delta: &Delta) -> anyhow::Result<bool>
     ensures { IfOk result (λ linked. IsTrue linked → IsLinkedDelta world.now delta.now) }
 {
     let kept = delta.block.get();
-    let Ok(block) = decoded(alloc, kept.bytes.get().as_slice()) else {
+    let Ok(decoded) = DecodedBlock::decode(alloc, kept.bytes.get().as_slice()) else {
         bail!("no block");
     };
-    let data_hash = data_hash(block.txs.as_slice());
-    let Ok(()) = check_place(world.height(), world.header_hash(), &block) else {
+    let Ok(placed) = decoded.at_place(world.height(), world.header_hash()) else {
         bail!("another place");
     };
-    let Ok(()) = check_data_hash(&block, data_hash) else {
-        bail!("another data hash");
+    let Ok(block) = placed.linked(world.version()) else {
+        bail!("not the next block");
     };
-    Ok(kept.header_hash == header_hash(&block.header) && kept.flags.len() == block.txs.len())
+    Ok(is_kept_of(kept, &block))
 }
 
 fn publish_next<R: Wait>(
@@ -370,7 +384,7 @@ fn publish_million<R: Wait>(rt: &R, alloc: Global, publisher: &mut Publisher) ->
 }
 
 fn apply_million(alloc: Global) -> anyhow::Result<()> {
-    let mut world = World::new(alloc);
+    let mut world = World::new(alloc, Definitions::new(alloc));
     for number in 0..BLOCKS {
         let delta = thousand_at(alloc, number, world.header_hash())?;
         world.apply(&delta)?;
@@ -379,7 +393,9 @@ fn apply_million(alloc: Global) -> anyhow::Result<()> {
 }
 
 fn opened<R: Wait>(rt: &R, alloc: Global, readers: usize) -> anyhow::Result<(Publisher, Vec<QueryHandle>)> {
-    match open(alloc, rt, World::new(alloc), World::new(alloc), readers) {
+    let first = World::new(alloc, Definitions::new(alloc));
+    let second = World::new(alloc, Definitions::new(alloc));
+    match open(alloc, rt, first, second, readers) {
         Ok(opened) => Ok(opened),
         Err(_) => bail!("not opened"),
     }
