@@ -1,11 +1,11 @@
 //! What the checks say, over what is known.
 ghost use Rattle.std.specs.Prelude.{◌≡◌, length, IfOk};
 
-use crate::building::{Ground, key, name};
+use crate::building::{Ground, state_key};
 use crate::cases::{JobCase, KeyPlace, LETTERS, TXS};
 use crate::sure::KnownCase;
 use failing::Failed;
-use key_chains::{Cells, Decision, Job, PlainBoard, StateKey};
+use key_chains::{Cells, Decision, Job, PlainBoard};
 use rules::ReadVerdict;
 use std::alloc::{AllocError, Global};
 use transaction::Version;
@@ -72,10 +72,9 @@ fn version(
     if i > job.len() {
         return Err(Failed::Missing("a place"));
     }
-    let namespace = name(alloc, place.namespace())?;
-    let key = key(alloc, LETTERS[place.key()])?;
+    let letter = [LETTERS[place.key()]];
+    let at = state_key(place.namespace(), &letter)?;
     let mut board = board_of(alloc, job, known)?;
-    let at = StateKey::new(&namespace.lend(), &key.lend());
     Ok(mvcc::version_at(job, i, &at, &mut board))
 }
 
@@ -87,8 +86,7 @@ pub struct Said {
     pub version: Decision<Option<Version>>,
 }
 
-/// What is said of one transaction of a job.
-pub fn said_over(
+fn said_over(
     alloc: Global,
     job: &Job<'_>,
     known: &KnownCase,
@@ -131,4 +129,13 @@ pub fn ask(
     let ground = Ground::of(alloc, case)?;
     let job = ground.job(alloc, case)?;
     all_over(alloc, &job, known, place)
+}
+
+/// What is said of transaction i of the case, and of the first key before it.
+pub fn said_of(alloc: Global, case: &JobCase, known: &KnownCase, i: usize) -> Result<Said, Failed> {
+    let all = ask(alloc, case, known, KeyPlace::new(0, 0))?;
+    match all.get(i) {
+        Some(Some(said)) => Ok(*said),
+        _ => Err(Failed::Missing("a transaction")),
+    }
 }

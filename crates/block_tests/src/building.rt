@@ -6,14 +6,14 @@ use crate::spelling::{spelled, spelled_update, text_of};
 use block::MAX_TXS;
 use candidates::OpenUpdate;
 use failing::Failed;
-use key_chains::{Candidate, Job};
+use key_chains::{Candidate, Job, StateKey};
 use policy::{Definitions, Policy};
 use policy_eval::{Verify, signers, update_signers};
 use rules::{EarlyFlag, Row};
 use state_db::{Batch, StateDb};
 use std::alloc::{AllocError, Global};
 use transaction::{BlockVersion, Identity, Item, decode_item, decode_tx};
-use values::{Bytes, Key, Name, Part, Shared, is_key, is_name};
+use values::{Bytes, Key, KeyRef, Name, NameRef, Part, Shared, is_key, is_name};
 
 // Accepts every signature.
 struct Trusting;
@@ -28,19 +28,32 @@ impl Verify for Trusting {
     }
 }
 
-pub fn name(alloc: Global, namespace: usize) -> Result<Name, Failed> {
-    let bytes = match namespace {
+fn name_bytes(namespace: usize) -> &'static [u8] {
+    match namespace {
         0 => b"cc",
         1 => b"dd",
         _ => b"ee",
-    };
+    }
+}
+
+/// A key of a namespace.
+pub fn state_key(namespace: usize, key: &[u8]) -> Result<StateKey<'_>, Failed> {
+    let name = name_bytes(namespace);
+    if !is_name(name) || !is_key(key) {
+        return Err(Failed::Missing("a key"));
+    }
+    Ok(StateKey::new(&NameRef::new(name), &KeyRef::new(key)))
+}
+
+fn name(alloc: Global, namespace: usize) -> Result<Name, Failed> {
+    let bytes = name_bytes(namespace);
     if !is_name(bytes) {
         return Err(Failed::Missing("a name"));
     }
     Ok(Name::from_slice(alloc, bytes)?)
 }
 
-pub fn key(alloc: Global, letter: u8) -> Result<Key, Failed> {
+fn key(alloc: Global, letter: u8) -> Result<Key, Failed> {
     let bytes = [letter];
     if !is_key(&bytes) {
         return Err(Failed::Missing("a key"));
@@ -126,12 +139,19 @@ fn definitions(alloc: Global) -> Result<Definitions, Failed> {
     Ok(definitions)
 }
 
-fn bytes_of(alloc: Global, case: &JobCase) -> Result<Vec<Bytes>, AllocError> {
+fn txs_of(alloc: Global, case: &JobCase) -> Result<Vec<Bytes>, AllocError> {
     let mut all = Vec::new(alloc);
     for tx in case.txs.iter().take(case.count) {
         all.push(spelled(alloc, tx)?)?;
     }
     Ok(all)
+}
+
+fn bytes_of(alloc: Global, case: &JobCase) -> Result<Vec<Bytes>, AllocError> {
+    match &case.update {
+        None => txs_of(alloc, case),
+        Some(update) => Ok(vec![in alloc; spelled_update(alloc, update)?]?),
+    }
 }
 
 fn opened<'a>(
@@ -160,7 +180,7 @@ fn candidate_of<'a>(
     }
 }
 
-fn candidates_of<'a>(
+fn txs_candidates<'a>(
     alloc: Global,
     definitions: &Definitions,
     case: &JobCase,
@@ -171,48 +191,6 @@ fn candidates_of<'a>(
         candidates.push(candidate_of(alloc, definitions, tx, bytes.as_slice())?)?;
     }
     Ok(candidates)
-}
-
-/// What a job lends from.
-#[derive(Drop)]
-pub struct Ground {
-    bytes: Vec<Bytes>,
-    definitions: Definitions,
-    state: StateDb,
-}
-
-/// What the job of an update lends from.
-#[derive(Drop)]
-pub struct UpdateGround {
-    bytes: Bytes,
-    definitions: Definitions,
-    state: StateDb,
-    admin: Option<Policy>,
-}
-
-impl Ground {
-    pub fn of(alloc: Global, case: &JobCase) -> Result<Ground, Failed> {
-        Ok(Ground {
-            bytes: bytes_of(alloc, case)?,
-            definitions: definitions(alloc)?,
-            state: state_of(alloc, case)?,
-        })
-    }
-
-    pub fn job(&self, alloc: Global, case: &JobCase) -> Result<Job<'_>, Failed> {
-        let candidates = candidates_of(alloc, &self.definitions, case, &self.bytes)?;
-        if candidates.as_slice().len() > MAX_TXS {
-            return Err(Failed::Missing("a job"));
-        }
-        Ok(Job::build(
-            alloc,
-            BLOCK,
-            &self.state,
-            &self.definitions,
-            None,
-            candidates,
-        )?)
-    }
 }
 
 fn open_update<'a>(alloc: Global, bytes: &'a [u8]) -> Result<OpenUpdate<'a>, Failed> {
@@ -226,26 +204,61 @@ fn open_update<'a>(alloc: Global, bytes: &'a [u8]) -> Result<OpenUpdate<'a>, Fai
     }
 }
 
-fn admin_of(alloc: Global, update: &UpdateCase) -> Result<Option<Policy>, Failed> {
-    match update.admin {
-        None => Ok(None),
-        Some(rule) => Ok(Some(policy_of(alloc, rule)?)),
+fn update_candidates(alloc: Global, bytes: &[Bytes]) -> Result<Vec<Candidate<'_>>, Failed> {
+    match bytes {
+        [bytes] => Ok(vec![in alloc; Candidate::Updates(open_update(alloc, bytes.as_slice())?)]?),
+        _ => Err(Failed::Missing("an update")),
     }
 }
 
-impl UpdateGround {
-    pub fn of(alloc: Global, update: &UpdateCase) -> Result<UpdateGround, Failed> {
-        Ok(UpdateGround {
-            bytes: spelled_update(alloc, update)?,
+fn candidates_of<'a>(
+    alloc: Global,
+    definitions: &Definitions,
+    case: &JobCase,
+    bytes: &'a [Bytes],
+) -> Result<Vec<Candidate<'a>>, Failed> {
+    match case.update {
+        None => txs_candidates(alloc, definitions, case, bytes),
+        Some(_) => update_candidates(alloc, bytes),
+    }
+}
+
+fn admin_of(alloc: Global, case: &JobCase) -> Result<Option<Policy>, Failed> {
+    match &case.update {
+        Some(
+            UpdateCase {
+                admin: Some(rule),
+                ..
+            },
+        ) => Ok(Some(policy_of(alloc, *rule)?)),
+        _ => Ok(None),
+    }
+}
+
+/// What a job lends from.
+#[derive(Drop)]
+pub struct Ground {
+    bytes: Vec<Bytes>,
+    definitions: Definitions,
+    state: StateDb,
+    admin: Option<Policy>,
+}
+
+impl Ground {
+    pub fn of(alloc: Global, case: &JobCase) -> Result<Ground, Failed> {
+        Ok(Ground {
+            bytes: bytes_of(alloc, case)?,
             definitions: definitions(alloc)?,
-            state: StateDb::new(alloc),
-            admin: admin_of(alloc, update)?,
+            state: state_of(alloc, case)?,
+            admin: admin_of(alloc, case)?,
         })
     }
 
-    pub fn job(&self, alloc: Global) -> Result<Job<'_>, Failed> {
-        let update = open_update(alloc, self.bytes.as_slice())?;
-        let candidates = vec![in alloc; Candidate::Updates(update)]?;
+    pub fn job(&self, alloc: Global, case: &JobCase) -> Result<Job<'_>, Failed> {
+        let candidates = candidates_of(alloc, &self.definitions, case, &self.bytes)?;
+        if candidates.as_slice().len() > MAX_TXS {
+            return Err(Failed::Missing("a job"));
+        }
         Ok(Job::build(
             alloc,
             BLOCK,

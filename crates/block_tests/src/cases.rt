@@ -138,7 +138,7 @@ pub struct TxCase {
     pub sets: [SetCase; NAMESPACES],
 }
 
-/// An update of the first chaincode, alone in its block.
+/// An update of the first chaincode.
 #[derive(Clone, Copy)]
 pub struct UpdateCase {
     /// The channel's admin policy.
@@ -160,6 +160,8 @@ pub struct JobCase {
     pub txs: [TxCase; TXS],
     /// How many of the transactions there are.
     pub count: usize,
+    /// An update is alone in its block, where there are no transactions.
+    pub update: Option<UpdateCase>,
 }
 
 pub const UNUSED: KeyUse = KeyUse {
@@ -187,4 +189,5 @@ pub const NOTHING: JobCase = JobCase {
     rows: [[None; KEYS]; NAMESPACES],
     txs: [FLAGGED; TXS],
     count: 0,
+    update: None,
 };

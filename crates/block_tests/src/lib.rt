@@ -11,9 +11,13 @@ mod cases;
 #[cfg(test)]
 mod drawing;
 #[cfg(test)]
+mod outcome;
+#[cfg(test)]
 mod random_jobs;
 #[cfg(test)]
 mod real_changes;
+#[cfg(test)]
+mod room;
 #[cfg(test)]
 mod rows;
 #[cfg(test)]

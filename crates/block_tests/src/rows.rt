@@ -1,9 +1,8 @@
 //! Small jobs whose answers were worked out by hand.
 
-use crate::asking::{Said, ask};
+use crate::asking::{Said, said_of};
 use crate::cases::{
-    BLOCK, FLAGGED, JobCase, KEYS, KeyPlace, KeyUse, NOTHING, NewValue, RowCase, Rule, TXS, TxCase,
-    UNUSED,
+    BLOCK, FLAGGED, JobCase, KEYS, KeyUse, NOTHING, NewValue, RowCase, Rule, TXS, TxCase, UNUSED,
 };
 use crate::sure::KnownCase;
 use failing::Failed;
@@ -83,71 +82,91 @@ fn readers_and_writers() -> JobCase {
     case
 }
 
-// What is said of transaction i, and of the first key before it.
-fn said_of(alloc: Global, case: &JobCase, known: &KnownCase, i: usize) -> Result<Said, Failed> {
-    let all = ask(alloc, case, known, KeyPlace::new(0, 0))?;
-    match all.get(i) {
-        Some(Some(said)) => Ok(*said),
-        _ => Err(Failed::Missing("a transaction")),
+#[derive(Clone, Copy)]
+enum Block {
+    InsertPolicyRead,
+    ReadersAndWriters,
+}
+
+impl Block {
+    fn case(self) -> JobCase {
+        match self {
+            Block::InsertPolicyRead => insert_policy_read(),
+            Block::ReadersAndWriters => readers_and_writers(),
+        }
     }
 }
 
-fn flags_of_two(first: Option<Flag>, second: Option<Flag>) -> KnownCase {
+// What is said of a transaction, or of the first key before it.
+#[derive(Clone, Copy)]
+enum Answer {
+    Endorsement(Decision<bool>),
+    Reads(Decision<ReadVerdict>),
+    Version(Decision<Option<Version>>),
+}
+
+impl Answer {
+    fn is_in(self, said: &Said) -> bool {
+        match self {
+            Answer::Endorsement(decision) => said.endorsement == decision,
+            Answer::Reads(decision) => said.reads == decision,
+            Answer::Version(decision) => said.version == decision,
+        }
+    }
+}
+
+// A block, the flags that are known of its first two transactions, the transaction that is asked about, and the answer.
+type Row = (Block, Option<Flag>, Option<Flag>, usize, Answer);
+
+fn rows() -> &'static [Row] {
+    &ROWS
+}
+
+const YES: Option<Flag> = Some(Flag::Valid);
+
+const NO: Option<Flag> = Some(Flag::EndorsementPolicyFailure);
+
+const GOOD: Answer = Answer::Reads(Decision::Sure(ReadVerdict::Good));
+
+const STALE: Answer = Answer::Reads(Decision::Sure(ReadVerdict::Stale));
+
+const BLOCKED: Answer = Answer::Reads(Decision::Blocked(0));
+
+const SECOND: Answer = Answer::Version(Decision::Sure(Some(Version {
+    block: BLOCK,
+    tx: 1,
+})));
+
+const ENDORSED: Answer = Answer::Endorsement(Decision::Sure(true));
+
+static ROWS: [Row; 8] = [
+    // A policy write counts where its key is there.
+    (Block::InsertPolicyRead, YES, YES, 2, GOOD),
+    (Block::InsertPolicyRead, NO, YES, 2, STALE),
+    (Block::InsertPolicyRead, None, YES, 2, BLOCKED),
+    (Block::InsertPolicyRead, YES, NO, 2, STALE),
+    // The version of a policy write.
+    (Block::InsertPolicyRead, YES, YES, 2, SECOND),
+    // An endorsement that nobody touches.
+    (Block::ReadersAndWriters, None, None, 3, ENDORSED),
+    // Reads of what an unknown one writes, and of what nobody writes.
+    (Block::ReadersAndWriters, None, None, 1, BLOCKED),
+    (Block::ReadersAndWriters, None, None, 4, GOOD),
+];
+
+fn is_answered(alloc: Global, row: &Row) -> Result<bool, Failed> {
+    let &(block, first, second, i, answer) = row;
     let mut known = UNKNOWN;
     known.flags[0] = first;
     known.flags[1] = second;
-    known
+    let said = said_of(alloc, &block.case(), &known, i)?;
+    Ok(answer.is_in(&said))
 }
 
 #[test]
-fn a_policy_write_counts_where_its_key_is_there(rt: HostRuntime) -> Result<(), Failed> {
-    let case = insert_policy_read();
-    let yes = Some(Flag::Valid);
-    let no = Some(Flag::EndorsementPolicyFailure);
-    for (first, second, wanted) in [
-        (yes, yes, Decision::Sure(ReadVerdict::Good)),
-        (no, yes, Decision::Sure(ReadVerdict::Stale)),
-        (None, yes, Decision::Blocked(0)),
-        (yes, no, Decision::Sure(ReadVerdict::Stale)),
-    ] {
-        let known = flags_of_two(first, second);
-        assert!(rt;
-            said_of(rt.alloc(), &case, &known, 2)?.reads == wanted,
-            "{wanted:?}"
-        );
+fn answers_worked_out_by_hand(rt: HostRuntime) -> Result<(), Failed> {
+    for (number, row) in rows().iter().enumerate() {
+        assert!(rt; is_answered(rt.alloc(), row)?, "row {number}");
     }
-    Ok(())
-}
-
-#[test]
-fn version_of_a_policy_write(rt: HostRuntime) -> Result<(), Failed> {
-    let known = flags_of_two(Some(Flag::Valid), Some(Flag::Valid));
-    let second = Version {
-        block: BLOCK,
-        tx: 1,
-    };
-    let said = said_of(rt.alloc(), &insert_policy_read(), &known, 2)?;
-    assert!(rt; said.version == Decision::Sure(Some(second)));
-    Ok(())
-}
-
-#[test]
-fn endorsement_that_nobody_touches(rt: HostRuntime) -> Result<(), Failed> {
-    let said = said_of(rt.alloc(), &readers_and_writers(), &UNKNOWN, 3)?;
-    assert!(rt; said.endorsement == Decision::Sure(true));
-    Ok(())
-}
-
-#[test]
-fn reads_of_what_an_unknown_one_writes(rt: HostRuntime) -> Result<(), Failed> {
-    let said = said_of(rt.alloc(), &readers_and_writers(), &UNKNOWN, 1)?;
-    assert!(rt; said.reads == Decision::Blocked(0));
-    Ok(())
-}
-
-#[test]
-fn reads_of_what_nobody_writes(rt: HostRuntime) -> Result<(), Failed> {
-    let said = said_of(rt.alloc(), &readers_and_writers(), &UNKNOWN, 4)?;
-    assert!(rt; said.reads == Decision::Sure(ReadVerdict::Good));
     Ok(())
 }

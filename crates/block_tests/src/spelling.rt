@@ -1,8 +1,9 @@
-//! The bytes of a case's transactions.
+//! The bytes of a case's transactions and updates.
 
 use crate::cases::{
     KEYS, LETTERS, NAMESPACES, NewValue, Query, Rule, SetCase, Signed, TxCase, UpdateCase,
 };
+use crate::room::Room;
 use std::alloc::{AllocError, Global};
 use transaction::Version;
 use values::Bytes;
@@ -26,155 +27,155 @@ pub fn text_of(rule: Rule) -> &'static [u8] {
     }
 }
 
-fn put_count(bytes: &mut Vec<u8>, count: usize) -> Result<(), AllocError> {
-    let [.., high, low] = count.to_be_bytes();
-    bytes.push(high)?;
-    bytes.push(low)?;
-    Ok(())
+fn put_key(room: &mut Room, letter: u8) {
+    room.put(&[0, 1, letter]);
 }
 
-fn put_key(bytes: &mut Vec<u8>, letter: u8) -> Result<(), AllocError> {
-    put_count(bytes, 1)?;
-    bytes.push(letter)?;
-    Ok(())
-}
-
-fn put_bound(bytes: &mut Vec<u8>, bound: Option<u8>) -> Result<(), AllocError> {
+fn put_bound(room: &mut Room, bound: Option<u8>) {
     match bound {
-        None => put_count(bytes, 0),
-        Some(letter) => put_key(bytes, letter),
+        None => room.put(&[0, 0]),
+        Some(letter) => put_key(room, letter),
     }
 }
 
-fn put_version(bytes: &mut Vec<u8>, version: Version) -> Result<(), AllocError> {
-    bytes.extend_from_slice(&version.block.to_be_bytes())?;
-    bytes.extend_from_slice(&version.tx.to_be_bytes())
+fn put_version(room: &mut Room, version: Version) {
+    room.put(&version.block.to_be_bytes());
+    room.put(&version.tx.to_be_bytes());
 }
 
-fn put_read(bytes: &mut Vec<u8>, letter: u8, read: Option<Version>) -> Result<(), AllocError> {
-    put_key(bytes, letter)?;
-    bytes.push(u8::from(read.is_some()))?;
+fn put_read(room: &mut Room, letter: u8, read: Option<Version>) {
+    put_key(room, letter);
     match read {
-        None => Ok(()),
-        Some(version) => put_version(bytes, version),
+        None => room.put(b"\0"),
+        Some(version) => {
+            room.put(b"\x01");
+            put_version(room, version);
+        }
     }
 }
 
-fn put_write(bytes: &mut Vec<u8>, letter: u8, value: NewValue) -> Result<(), AllocError> {
-    put_key(bytes, letter)?;
+fn put_write(room: &mut Room, letter: u8, value: NewValue) {
+    put_key(room, letter);
     match value {
-        NewValue::Delete => bytes.extend_from_slice(b"\0"),
-        NewValue::Put => bytes.extend_from_slice(b"\x01\0\0\0\x01v"),
+        NewValue::Delete => room.put(b"\0"),
+        NewValue::Put => room.put(b"\x01\0\0\0\x01v"),
     }
 }
 
-fn put_text(bytes: &mut Vec<u8>, rule: Rule) -> Result<(), AllocError> {
-    put_count(bytes, text_of(rule).len())?;
-    bytes.extend_from_slice(text_of(rule))
+// No text has more than 255 bytes.
+fn put_text(room: &mut Room, rule: Rule) {
+    let text = text_of(rule);
+    let [.., count] = text.len().to_be_bytes();
+    room.put(&[0, count]);
+    room.put(text);
 }
 
-fn put_policy(bytes: &mut Vec<u8>, letter: u8, policy: Option<Rule>) -> Result<(), AllocError> {
-    put_key(bytes, letter)?;
-    let Some(rule) = policy else {
-        return bytes.extend_from_slice(b"\0");
-    };
-    bytes.extend_from_slice(b"\x01")?;
-    put_text(bytes, rule)
+fn put_policy(room: &mut Room, letter: u8, policy: Option<Rule>) {
+    put_key(room, letter);
+    match policy {
+        None => room.put(b"\0"),
+        Some(rule) => {
+            room.put(b"\x01");
+            put_text(room, rule);
+        }
+    }
 }
 
-fn put_reads(bytes: &mut Vec<u8>, set: &SetCase) -> Result<(), AllocError> {
-    let count = set.uses.iter().filter(|used| used.read.is_some()).count();
-    put_count(bytes, count)?;
+fn put_reads(room: &mut Room, set: &SetCase) {
+    let count = room.begin_list();
     for k in 0..KEYS {
         if let Some(read) = set.uses[k].read {
-            put_read(bytes, LETTERS[k], read)?;
+            room.count_one(count);
+            put_read(room, LETTERS[k], read);
         }
     }
-    Ok(())
 }
 
-fn put_writes(bytes: &mut Vec<u8>, set: &SetCase) -> Result<(), AllocError> {
-    let count = set.uses.iter().filter(|used| used.value.is_some()).count();
-    put_count(bytes, count)?;
+fn put_writes(room: &mut Room, set: &SetCase) {
+    let count = room.begin_list();
     for k in 0..KEYS {
         if let Some(value) = set.uses[k].value {
-            put_write(bytes, LETTERS[k], value)?;
+            room.count_one(count);
+            put_write(room, LETTERS[k], value);
         }
     }
-    Ok(())
 }
 
-fn put_policies(bytes: &mut Vec<u8>, set: &SetCase) -> Result<(), AllocError> {
-    let count = set.uses.iter().filter(|used| used.policy.is_some()).count();
-    put_count(bytes, count)?;
+fn put_policies(room: &mut Room, set: &SetCase) {
+    let count = room.begin_list();
     for k in 0..KEYS {
         if let Some(policy) = set.uses[k].policy {
-            put_policy(bytes, LETTERS[k], policy)?;
+            room.count_one(count);
+            put_policy(room, LETTERS[k], policy);
         }
     }
-    Ok(())
 }
 
-fn put_results(bytes: &mut Vec<u8>, query: &Query) -> Result<(), AllocError> {
-    let count = query.results.iter().filter(|found| found.is_some()).count();
-    put_count(bytes, count)?;
+fn put_results(room: &mut Room, query: &Query) {
+    let count = room.begin_list();
     for k in 0..KEYS {
         if let Some(version) = query.results[k] {
-            put_key(bytes, LETTERS[k])?;
-            put_version(bytes, version)?;
+            room.count_one(count);
+            put_key(room, LETTERS[k]);
+            put_version(room, version);
         }
     }
-    Ok(())
 }
 
-fn put_query(bytes: &mut Vec<u8>, query: &Option<Query>) -> Result<(), AllocError> {
-    let Some(query) = query else {
-        return put_count(bytes, 0);
-    };
-    put_count(bytes, 1)?;
-    put_bound(bytes, query.start)?;
-    put_bound(bytes, query.end)?;
-    bytes.push(u8::from(query.exhausted))?;
-    put_results(bytes, query)
+fn put_query(room: &mut Room, query: &Query) {
+    room.put(&[0, 1]);
+    put_bound(room, query.start);
+    put_bound(room, query.end);
+    room.put(&[u8::from(query.exhausted)]);
+    put_results(room, query);
 }
 
-fn put_set(bytes: &mut Vec<u8>, name: &[u8], set: &SetCase) -> Result<(), AllocError> {
-    bytes.push(2)?;
-    bytes.extend_from_slice(name)?;
-    put_reads(bytes, set)?;
-    put_query(bytes, &set.query)?;
-    put_writes(bytes, set)?;
-    put_policies(bytes, set)
+fn put_set(room: &mut Room, name: &[u8], set: &SetCase) {
+    room.put(&[2]);
+    room.put(name);
+    put_reads(room, set);
+    match &set.query {
+        None => room.put(&[0, 0]),
+        Some(query) => put_query(room, query),
+    }
+    put_writes(room, set);
+    put_policies(room, set);
 }
 
 // The endorsements, and the creator's signature.
-fn put_signatures(bytes: &mut Vec<u8>, signed: Signed) -> Result<(), AllocError> {
-    bytes.push(u8::from(signed.first) + u8::from(signed.second))?;
+fn put_signatures(room: &mut Room, signed: Signed) {
+    room.put(&[u8::from(signed.first) + u8::from(signed.second)]);
     if signed.first {
-        bytes.extend_from_slice(FIRST)?;
+        room.put(FIRST);
     }
     if signed.second {
-        bytes.extend_from_slice(SECOND)?;
+        room.put(SECOND);
     }
-    bytes.extend_from_slice(b"\0\x02ok")
+    room.put(b"\0\x02ok");
+}
+
+fn put_tx(room: &mut Room, tx: &TxCase) {
+    room.put(BEGINNING);
+    room.put(&[0, NAMESPACES as u8]);
+    put_set(room, b"cc", &tx.sets[0]);
+    put_set(room, b"dd", &tx.sets[1]);
+    put_set(room, b"ee", &tx.sets[2]);
+    put_signatures(room, tx.signed);
 }
 
 /// The transaction's bytes.
 pub fn spelled(alloc: Global, tx: &TxCase) -> Result<Bytes, AllocError> {
-    let mut bytes = Vec::from_slice(alloc, BEGINNING)?;
-    put_count(&mut bytes, NAMESPACES)?;
-    put_set(&mut bytes, b"cc", &tx.sets[0])?;
-    put_set(&mut bytes, b"dd", &tx.sets[1])?;
-    put_set(&mut bytes, b"ee", &tx.sets[2])?;
-    put_signatures(&mut bytes, tx.signed)?;
-    Ok(Bytes::from_vec(bytes))
+    let mut room = Room::new();
+    put_tx(&mut room, tx);
+    Bytes::from_slice(alloc, room.as_slice())
 }
 
 /// The update's bytes.
 pub fn spelled_update(alloc: Global, update: &UpdateCase) -> Result<Bytes, AllocError> {
-    let mut bytes = Vec::from_slice(alloc, b"\0")?;
-    bytes.extend_from_slice(BEGINNING)?;
-    put_text(&mut bytes, update.policy)?;
-    put_signatures(&mut bytes, update.signed)?;
-    Ok(Bytes::from_vec(bytes))
+    let mut room = Room::new();
+    room.put(b"\0");
+    room.put(BEGINNING);
+    put_text(&mut room, update.policy);
+    put_signatures(&mut room, update.signed);
+    Bytes::from_slice(alloc, room.as_slice())
 }

@@ -1,8 +1,6 @@
-use crate::joined::joined;
+use crate::fields::with_field;
 use block::{Block, BlockFault, BlockVersion, Header, Previous, decode_block, encode_block};
 use std::alloc::{AllocError, Global};
-use std::process::Abort;
-use std::test::Fail;
 use transaction::EncodeFault;
 use values::{Bytes, Items, Slice};
 
@@ -13,37 +11,70 @@ const NO_DATA: [u8; 32] = [
 ];
 
 // The empty block 0: magic, number, no previous hash, data hash, no transactions.
-fn empty_block(alloc: Global) -> Result<Vec<u8>, AllocError> {
-    with_count(alloc, &[0, 0, 0, 0])
+const EMPTY: &[u8; 49] = b"FBK1\0\0\0\0\0\0\0\0\0\
+    \xe3\xb0\xc4\x42\x98\xfc\x1c\x14\x9a\xfb\xf4\xc8\x99\x6f\xb9\x24\
+    \x27\xae\x41\xe4\x64\x9b\x93\x4c\xa4\x95\x99\x1b\x78\x52\xb8\x55\
+    \0\0\0\0";
+
+// Three transactions: two bytes, none, one.
+const THREE: &[u8] = b"FBK1\xff\xfe\xfd\xfc\xfb\xfa\xf9\xf8\x20\
+    \x07\x07\x07\x07\x07\x07\x07\x07\x07\x07\x07\x07\x07\x07\x07\x07\x07\x07\x07\x07\x07\x07\x07\x07\x07\x07\x07\x07\x07\x07\x07\x07\
+    \x09\x09\x09\x09\x09\x09\x09\x09\x09\x09\x09\x09\x09\x09\x09\x09\x09\x09\x09\x09\x09\x09\x09\x09\x09\x09\x09\x09\x09\x09\x09\x09\
+    \0\0\0\x03\0\0\0\x02ab\0\0\0\0\0\0\0\x01c";
+
+const THREE_OF_VERSION_2: &[u8] = b"FBK2\xff\xfe\xfd\xfc\xfb\xfa\xf9\xf8\x20\
+    \x07\x07\x07\x07\x07\x07\x07\x07\x07\x07\x07\x07\x07\x07\x07\x07\x07\x07\x07\x07\x07\x07\x07\x07\x07\x07\x07\x07\x07\x07\x07\x07\
+    \x09\x09\x09\x09\x09\x09\x09\x09\x09\x09\x09\x09\x09\x09\x09\x09\x09\x09\x09\x09\x09\x09\x09\x09\x09\x09\x09\x09\x09\x09\x09\x09\
+    \0\0\0\x03\0\0\0\x02ab\0\0\0\0\0\0\0\x01c";
+
+// What a block's bytes say.
+struct Row {
+    bytes: &'static [u8],
+    version: BlockVersion,
+    header: Header,
+    txs: &'static [&'static [u8]],
 }
 
-// The empty block 0 with these bytes from its count on.
-fn with_count(alloc: Global, from_count: &[u8]) -> Result<Vec<u8>, AllocError> {
-    joined(alloc, &[b"FBK1\0\0\0\0\0\0\0\0\0", &NO_DATA, from_count])
+fn rows() -> &'static [Row] {
+    &ROWS
 }
 
-fn fault_of(alloc: Global, bytes: &[u8]) -> Option<BlockFault> {
-    decode_block(alloc, bytes).err()
-}
+static ROWS: [Row; 3] = [
+    Row {
+        bytes: EMPTY,
+        version: BlockVersion::V1,
+        header: Header {
+            number: 0,
+            previous: Previous::Empty,
+            data_hash: NO_DATA,
+        },
+        txs: &[],
+    },
+    Row {
+        bytes: THREE,
+        version: BlockVersion::V1,
+        header: Header {
+            number: 0xfffe_fdfc_fbfa_f9f8,
+            previous: Previous::Hash([7; 32]),
+            data_hash: [9; 32],
+        },
+        txs: &[b"ab", b"", b"c"],
+    },
+    Row {
+        bytes: THREE_OF_VERSION_2,
+        version: BlockVersion::V2,
+        header: Header {
+            number: 0xfffe_fdfc_fbfa_f9f8,
+            previous: Previous::Hash([7; 32]),
+            data_hash: [9; 32],
+        },
+        txs: &[b"ab", b"", b"c"],
+    },
+];
 
 fn is_spelled(alloc: Global, block: &Block<'_>, bytes: &[u8]) -> bool {
     match encode_block(alloc, block) {
         Ok(written) => written.as_slice() == bytes,
-        Err(_) => false,
-    }
-}
-
-fn is_written_again(alloc: Global, bytes: &[u8]) -> bool {
-    match decode_block(alloc, bytes) {
-        Ok(block) => is_spelled(alloc, &block, bytes),
-        Err(_) => false,
-    }
-}
-
-// Whether the bytes say a block with this header and these transactions.
-fn says(alloc: Global, bytes: &[u8], header: &Header, txs: &[&[u8]]) -> bool {
-    match decode_block(alloc, bytes) {
-        Ok(block) => block.header == *header && are_txs(block.txs.as_slice(), txs),
         Err(_) => false,
     }
 }
@@ -57,73 +88,29 @@ fn are_txs(read: &[Slice<'_>], txs: &[&[u8]]) -> bool {
     read.len() == txs.len()
 }
 
-fn expect_empty_block(rt: &impl Abort, alloc: Global, bytes: &[u8]) {
-    let header = Header {
-        number: 0,
-        previous: Previous::Empty,
-        data_hash: NO_DATA,
-    };
-    assert!(rt; bytes.len() == 49);
-    assert!(rt; is_written_again(alloc, bytes));
-    assert!(rt; says(alloc, bytes, &header, &[]));
+fn says(block: &Block<'_>, row: &Row) -> bool {
+    block.version == row.version
+        && block.header == row.header
+        && are_txs(block.txs.as_slice(), row.txs)
 }
 
-#[test]
-fn the_empty_block_both_ways(rt: HostRuntime) -> Result<(), Fail> {
-    let bytes = empty_block(rt.alloc())?;
-    expect_empty_block(&rt, rt.alloc(), &bytes);
-    Ok(())
-}
-
-// Three transactions: two bytes, none, one.
-fn three(alloc: Global) -> Result<Vec<u8>, AllocError> {
-    let parts: [&[u8]; 4] = [
-        b"FBK1\xff\xfe\xfd\xfc\xfb\xfa\xf9\xf8\x20",
-        &[7; 32],
-        &[9; 32],
-        b"\0\0\0\x03\0\0\0\x02ab\0\0\0\0\0\0\0\x01c",
-    ];
-    joined(alloc, &parts)
-}
-
-fn expect_three(rt: &impl Abort, alloc: Global, bytes: &[u8]) {
-    let header = Header {
-        number: 0xfffe_fdfc_fbfa_f9f8,
-        previous: Previous::Hash([7; 32]),
-        data_hash: [9; 32],
-    };
-    assert!(rt; is_written_again(alloc, bytes));
-    assert!(rt; says(alloc, bytes, &header, &[b"ab", b"", b"c"]));
-}
-
-#[test]
-fn a_block_with_transactions_both_ways(rt: HostRuntime) -> Result<(), Fail> {
-    let bytes = three(rt.alloc())?;
-    expect_three(&rt, rt.alloc(), &bytes);
-    Ok(())
-}
-
-// The same bytes with the magic of version 2.
-fn three_of_version_2(alloc: Global) -> Result<Vec<u8>, AllocError> {
-    let bytes = three(alloc)?;
-    joined(alloc, &[b"FBK2", bytes.get(4..).unwrap_or(&[])])
-}
-
-fn version_of(alloc: Global, bytes: &[u8]) -> Option<BlockVersion> {
-    match decode_block(alloc, bytes) {
-        Ok(block) => Some(block.version),
-        Err(_) => None,
+// Whether the bytes are read as what they say, and that is written as the bytes.
+fn is_both_ways(alloc: Global, row: &Row) -> bool {
+    match decode_block(alloc, row.bytes) {
+        Ok(block) => says(&block, row) && is_spelled(alloc, &block, row.bytes),
+        Err(_) => false,
     }
 }
 
 #[test]
-fn a_block_of_version_2_both_ways(rt: HostRuntime) -> Result<(), Fail> {
-    let bytes = three_of_version_2(rt.alloc())?;
-    expect_three(&rt, rt.alloc(), &bytes);
-    assert!(rt; version_of(rt.alloc(), &bytes) == Some(BlockVersion::V2));
-    let bytes = three(rt.alloc())?;
-    assert!(rt; version_of(rt.alloc(), &bytes) == Some(BlockVersion::V1));
-    Ok(())
+fn blocks_both_ways(rt: HostRuntime) {
+    for (number, row) in rows().iter().enumerate() {
+        assert!(rt; is_both_ways(rt.alloc(), row), "row {number}");
+    }
+}
+
+fn fault_of(alloc: Global, bytes: &[u8]) -> Option<BlockFault> {
+    decode_block(alloc, bytes).err()
 }
 
 fn fault_when_cut(len: usize) -> BlockFault {
@@ -134,63 +121,67 @@ fn fault_when_cut(len: usize) -> BlockFault {
     }
 }
 
-fn expect_faults_when_cut(rt: &impl Abort, alloc: Global, bytes: &[u8]) {
-    assert!(rt; bytes.len() == 49);
-    for len in 0..49usize {
-        assert!(rt;
-            fault_of(alloc, &bytes[..len]) == Some(fault_when_cut(len)),
-            "{len}"
-        );
+// The first length to which the empty block is cut that has another fault than it should.
+fn first_unlike_cut(alloc: Global, whole: &[u8]) -> Option<usize> {
+    for len in 0..whole.len() {
+        let bytes = whole.get(..len).unwrap_or_default();
+        if fault_of(alloc, bytes) != Some(fault_when_cut(len)) {
+            return Some(len);
+        }
     }
+    None
 }
 
-#[test]
-fn cut_and_lengthened(rt: HostRuntime) -> Result<(), Fail> {
-    let mut bytes = empty_block(rt.alloc())?;
-    expect_faults_when_cut(&rt, rt.alloc(), &bytes);
-    bytes.push(0)?;
-    assert!(rt; fault_of(rt.alloc(), &bytes) == Some(BlockFault::TrailingBytes));
-    Ok(())
+fn faults() -> &'static [(usize, &'static [u8], BlockFault)] {
+    &FAULTS
 }
 
-#[test]
-fn the_first_fault_of_a_header(rt: HostRuntime) -> Result<(), Fail> {
-    let rows: [(&[u8], BlockFault); 7] = [
-        (b"FBK3", BlockFault::BadMagic),
-        (b"FBK", BlockFault::BadMagic),
-        (b"fbk2", BlockFault::BadMagic),
-        (b"FBK2", BlockFault::Truncated),
-        (b"FBK2\0\0\0\0\0\0\0\0\x01", BlockFault::PreviousLength),
-        (b"FBK1\0\0\0\0\0\0\0\0\x01", BlockFault::PreviousLength),
-        (b"FBK1\0\0\0\0\0\0\0\0\x20", BlockFault::Truncated),
-    ];
-    for (bytes, want) in &rows {
-        assert!(rt; fault_of(rt.alloc(), bytes) == Some(*want), "{bytes:?}");
-    }
-    Ok(())
-}
+// How much of the empty block stands, what is behind it, and the first fault.
+static FAULTS: [(usize, &[u8], BlockFault); 17] = [
+    // The magic.
+    (0, b"FBK3", BlockFault::BadMagic),
+    (0, b"FBK", BlockFault::BadMagic),
+    (0, b"fbk2", BlockFault::BadMagic),
+    (0, b"FBK2", BlockFault::Truncated),
+    // The length of the previous hash.
+    (0, b"FBK2\0\0\0\0\0\0\0\0\x01", BlockFault::PreviousLength),
+    (0, b"FBK1\0\0\0\0\0\0\0\0\x01", BlockFault::PreviousLength),
+    (0, b"FBK1\0\0\0\0\0\0\0\0\x20", BlockFault::Truncated),
+    // The number of transactions.
+    (45, b"\xff\xff\xff\xff", BlockFault::TooManyTxs),
+    (45, b"\0\0\x10\x01", BlockFault::TooManyTxs),
+    (45, b"\0\0\x10\0", BlockFault::Truncated),
+    // Transactions.
+    (45, b"\0\0\0\x01\0\x10\0\x01", BlockFault::TxTooLong),
+    (45, b"\0\0\0\x01\0\x10\0\0", BlockFault::Truncated),
+    (45, b"\0\0\0\x01\xff\xff\xff\xff", BlockFault::TxTooLong),
+    (
+        45,
+        b"\0\0\0\x02\0\0\0\x01a\0\x10\0\x01",
+        BlockFault::TxTooLong,
+    ),
+    (45, b"\0\0\0\x02\0\0\0\x01a\0\0\0", BlockFault::Truncated),
+    (45, b"\0\0\0\x01\0\0\0\x01ab", BlockFault::TrailingBytes),
+    (49, b"\0", BlockFault::TrailingBytes),
+];
 
-fn fault_from_count(alloc: Global, from_count: &[u8]) -> Result<Option<BlockFault>, AllocError> {
-    let bytes = with_count(alloc, from_count)?;
+fn fault_behind(
+    alloc: Global,
+    kept: usize,
+    behind: &[u8],
+) -> Result<Option<BlockFault>, AllocError> {
+    let bytes = with_field(alloc, EMPTY, kept, EMPTY.len(), behind)?;
     Ok(fault_of(alloc, &bytes))
 }
 
 #[test]
-fn the_first_fault_of_the_transactions(rt: HostRuntime) -> Result<(), Fail> {
-    let rows: [(&[u8], BlockFault); 9] = [
-        (b"\xff\xff\xff\xff", BlockFault::TooManyTxs),
-        (b"\0\0\x10\x01", BlockFault::TooManyTxs),
-        (b"\0\0\x10\0", BlockFault::Truncated),
-        (b"\0\0\0\x01\0\x10\0\x01", BlockFault::TxTooLong),
-        (b"\0\0\0\x01\0\x10\0\0", BlockFault::Truncated),
-        (b"\0\0\0\x01\xff\xff\xff\xff", BlockFault::TxTooLong),
-        (b"\0\0\0\x02\0\0\0\x01a\0\x10\0\x01", BlockFault::TxTooLong),
-        (b"\0\0\0\x02\0\0\0\x01a\0\0\0", BlockFault::Truncated),
-        (b"\0\0\0\x01\0\0\0\x01ab", BlockFault::TrailingBytes),
-    ];
-    for (from_count, want) in &rows {
-        let fault = fault_from_count(rt.alloc(), from_count)?;
-        assert!(rt; fault == Some(*want), "{from_count:?}");
+fn the_first_fault(rt: HostRuntime) -> Result<(), AllocError> {
+    assert!(rt; first_unlike_cut(rt.alloc(), EMPTY) == None);
+    for &(kept, behind, fault) in faults() {
+        assert!(rt;
+            fault_behind(rt.alloc(), kept, behind)? == Some(fault),
+            "{behind:?}"
+        );
     }
     Ok(())
 }
@@ -229,19 +220,32 @@ fn tx_count(alloc: Global, bytes: &[u8]) -> Option<usize> {
     }
 }
 
-#[test]
-fn at_the_limits(rt: HostRuntime) -> Result<(), Fail> {
-    let zeros = vec![in rt.alloc(); 0; 1_048_576]?;
-    let bytes = encoded(rt.alloc(), 4095, &zeros)?;
-    assert!(rt; bytes.len() == 81 + 4 * 4096 + 1_048_576);
-    assert!(rt; tx_count(rt.alloc(), bytes.as_slice()) == Some(4096));
-    Ok(())
+// How many bytes are written, and how many transactions are read from them.
+type Written = Result<(usize, Option<usize>), EncodeFault>;
+
+fn written(alloc: Global, empty: usize, last: usize) -> Written {
+    let zeros = vec![in alloc; 0; last]?;
+    let bytes = encoded(alloc, empty, &zeros)?;
+    Ok((bytes.len(), tx_count(alloc, bytes.as_slice())))
 }
 
+fn sizes() -> &'static [(usize, usize, Written)] {
+    &SIZES
+}
+
+// How many transactions have no bytes, and how many the one behind them has: all at their limits, and each one past it.
+static SIZES: [(usize, usize, Written); 3] = [
+    (4095, 1_048_576, Ok((81 + 4 * 4096 + 1_048_576, Some(4096)))),
+    (4096, 0, Err(EncodeFault::TooLarge)),
+    (0, 1_048_577, Err(EncodeFault::TooLarge)),
+];
+
 #[test]
-fn one_past_the_limits(rt: HostRuntime) -> Result<(), Fail> {
-    let zeros = vec![in rt.alloc(); 0; 1_048_577]?;
-    assert!(rt; encoded(rt.alloc(), 4096, &[]).err() == Some(EncodeFault::TooLarge));
-    assert!(rt; encoded(rt.alloc(), 0, &zeros).err() == Some(EncodeFault::TooLarge));
-    Ok(())
+fn at_the_limits_and_one_past_them(rt: HostRuntime) {
+    for &(empty, last, wanted) in sizes() {
+        assert!(rt;
+            written(rt.alloc(), empty, last) == wanted,
+            "{empty} and {last}"
+        );
+    }
 }

@@ -1,6 +1,5 @@
 use block::{Header, Previous};
 use header_hash::{DataHasher, header_der, header_hash, tx_id};
-use std::test::Fail;
 use vectors::{Row, rows};
 
 mod vectors;
@@ -16,28 +15,33 @@ const NOTHING: [u8; 32] = [
     0x27, 0xae, 0x41, 0xe4, 0x64, 0x9b, 0x93, 0x4c, 0xa4, 0x95, 0x99, 0x1b, 0x78, 0x52, 0xb8, 0x55,
 ];
 
-fn previous_of(row: &Row) -> Result<Previous, Fail> {
+fn previous_of(row: &Row) -> Option<Previous> {
     match row.previous {
-        [] => Ok(Previous::Empty),
+        [] => Some(Previous::Empty),
         bytes => {
-            let hash = bytes.first_chunk::<32>().ok_or("32 bytes")?;
-            Ok(Previous::Hash(*hash))
+            let hash = bytes.first_chunk::<32>()?;
+            Some(Previous::Hash(*hash))
         }
     }
 }
 
+fn is_hashed(row: &Row) -> bool {
+    let Some(previous) = previous_of(row) else {
+        return false;
+    };
+    let header = Header {
+        number: row.number,
+        previous,
+        data_hash: *row.data_hash,
+    };
+    header_der(&header).as_slice() == row.der && header_hash(&header) == *row.hash
+}
+
 #[test]
-fn headers(rt: HostRuntime) -> Result<(), Fail> {
-    for row in rows() {
-        let header = Header {
-            number: row.number,
-            previous: previous_of(row)?,
-            data_hash: *row.data_hash,
-        };
-        assert!(rt; header_der(&header).as_slice() == row.der);
-        assert!(rt; header_hash(&header) == *row.hash);
+fn headers(rt: HostRuntime) {
+    for (number, row) in rows().iter().enumerate() {
+        assert!(rt; is_hashed(row), "row {number}");
     }
-    Ok(())
 }
 
 fn data_hash(txs: &[&[u8]]) -> [u8; 32] {
@@ -49,7 +53,7 @@ fn data_hash(txs: &[&[u8]]) -> [u8; 32] {
 }
 
 #[test]
-fn data_hashes(rt: HostRuntime) {
+fn data_hashes_and_ids(rt: HostRuntime) {
     let nothing: [&[&[u8]]; 2] = [&[], &[b""]];
     assert!(rt; nothing.map(data_hash) == [NOTHING; 2]);
     let abc: [&[&[u8]]; 4] = [
@@ -59,11 +63,6 @@ fn data_hashes(rt: HostRuntime) {
         &[b"", b"ab", b"", b"c"],
     ];
     assert!(rt; abc.map(data_hash) == [ABC; 4]);
-}
-
-#[test]
-fn ids(rt: HostRuntime) {
-    let expected = b"ba7816bf8f01cfea414140de5dae2223b00361a396177a9cb410ff61f20015ad";
-    assert!(rt; tx_id(b"ab", b"c") == *expected);
-    assert!(rt; tx_id(b"", b"abc") == *expected);
+    let id = b"ba7816bf8f01cfea414140de5dae2223b00361a396177a9cb410ff61f20015ad";
+    assert!(rt; [tx_id(b"ab", b"c"), tx_id(b"", b"abc")] == [*id; 2]);
 }

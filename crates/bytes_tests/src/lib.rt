@@ -4,11 +4,13 @@
 #[cfg(test)]
 mod blocks;
 #[cfg(test)]
+mod fields;
+#[cfg(test)]
 mod header_hashes;
 #[cfg(test)]
-mod joined;
-#[cfg(test)]
 mod told;
+#[cfg(test)]
+mod too_large;
 #[cfg(test)]
 mod transactions;
 #[cfg(test)]

@@ -1,7 +1,6 @@
 use block::BlockFault;
 use std::alloc::{AllocError, Global};
 use std::fmt::Display;
-use std::test::Fail;
 use transaction::{EncodeFault, TxFault};
 
 fn of_blocks() -> &'static [(BlockFault, &'static str)] {
@@ -30,37 +29,42 @@ static OF_BLOCKS: [(BlockFault, &str); 7] = [
     (BlockFault::Memory, "out of memory"),
 ];
 
+fn of_transactions() -> &'static [(TxFault, &'static str)] {
+    &OF_TRANSACTIONS
+}
+
+static OF_TRANSACTIONS: [(TxFault, &str); 2] = [
+    (TxFault::Form, "the bytes have another form"),
+    (TxFault::Memory, "out of memory"),
+];
+
+fn of_values() -> &'static [(EncodeFault, &'static str)] {
+    &OF_VALUES
+}
+
+static OF_VALUES: [(EncodeFault, &str); 2] = [
+    (EncodeFault::TooLarge, "too large to be spelled"),
+    (EncodeFault::Memory, "out of memory"),
+];
+
 fn is_told(alloc: Global, fault: &impl Display, text: &str) -> Result<bool, AllocError> {
     let told = format!(in alloc; "{fault}")?;
     Ok(told.as_str() == text)
 }
 
-#[test]
-fn each_fault_of_a_block_is_told(rt: HostRuntime) -> Result<(), Fail> {
-    for &(fault, text) in of_blocks() {
-        assert!(rt; is_told(rt.alloc(), &fault, text)?);
+fn are_told<F: Display>(alloc: Global, rows: &[(F, &str)]) -> Result<bool, AllocError> {
+    for (fault, text) in rows {
+        if !is_told(alloc, fault, text)? {
+            return Ok(false);
+        }
     }
-    Ok(())
+    Ok(true)
 }
 
 #[test]
-fn each_fault_of_a_transaction_is_told(rt: HostRuntime) -> Result<(), Fail> {
-    for (fault, text) in [
-        (TxFault::Form, "the bytes have another form"),
-        (TxFault::Memory, "out of memory"),
-    ] {
-        assert!(rt; is_told(rt.alloc(), &fault, text)?);
-    }
-    Ok(())
-}
-
-#[test]
-fn each_fault_of_a_value_is_told(rt: HostRuntime) -> Result<(), Fail> {
-    for (fault, text) in [
-        (EncodeFault::TooLarge, "too large to be spelled"),
-        (EncodeFault::Memory, "out of memory"),
-    ] {
-        assert!(rt; is_told(rt.alloc(), &fault, text)?);
-    }
+fn each_fault_is_told(rt: HostRuntime) -> Result<(), AllocError> {
+    assert!(rt; are_told(rt.alloc(), of_blocks())?);
+    assert!(rt; are_told(rt.alloc(), of_transactions())?);
+    assert!(rt; are_told(rt.alloc(), of_values())?);
     Ok(())
 }

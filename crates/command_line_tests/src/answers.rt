@@ -1,4 +1,5 @@
-// Answers that no file leads to, since memory would have to run out.
+//! Answers that no file leads to, since memory would have to run out.
+
 use block::BlockFault;
 use command_line::{Fault, write_answer};
 use commit::{NotCommitted, Refused};

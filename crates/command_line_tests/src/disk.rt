@@ -1,10 +1,17 @@
-// The files of the system.
-use crate::limits::place;
+//! The files of the system.
+
 use command_line::{DiskFiles, FileFault, Files};
+use failing::Failed;
 use std::io::ErrorKind;
-use std::process::Abort;
-use std::test::Fail;
-use std::{fs, io};
+use std::path::PathBuf;
+use std::{env, fs, io, process};
+
+/// The path of a file of this process.
+pub(crate) fn place(rt: &HostRuntime, name: &str) -> Result<PathBuf, Failed> {
+    let id = process::id(rt.process());
+    let name = format!(in rt.alloc(); "fabcommit-{id}-{name}")?;
+    Ok(env::temp_dir(rt)?.join(rt.alloc(), name.as_str())?)
+}
 
 fn is_written_and_read(rt: &HostRuntime, path: &str) -> Result<bool, FileFault> {
     let files = DiskFiles::new(rt);
@@ -13,40 +20,47 @@ fn is_written_and_read(rt: &HostRuntime, path: &str) -> Result<bool, FileFault> 
     Ok(files.read(rt.alloc(), path)?.as_slice() == b"\xff\n".as_slice())
 }
 
-fn is_inaccessible(rt: &HostRuntime, path: &str) -> bool {
-    DiskFiles::new(rt).read(rt.alloc(), path).err() == Some(FileFault::Inaccessible)
+fn read_fault(rt: &HostRuntime, path: &str) -> Option<FileFault> {
+    DiskFiles::new(rt).read(rt.alloc(), path).err()
 }
 
-fn expect_file_of_its_own(rt: &impl Abort, host: &HostRuntime, path: &str) {
-    assert!(rt; is_written_and_read(host, path) == Ok(true));
-    assert!(rt; fs::remove_file(host, path).is_ok());
-    assert!(rt; is_inaccessible(host, path));
+// Whether it can be written, read and removed, and then isn't there.
+fn is_file_of_its_own(rt: &HostRuntime) -> Result<bool, Failed> {
+    let place = place(rt, "disk")?;
+    let path = place.as_str();
+    Ok(
+        is_written_and_read(rt, path) == Ok(true)
+            && fs::remove_file(rt, path).is_ok()
+            && read_fault(rt, path) == Some(FileFault::Inaccessible),
+    )
 }
 
 #[test]
-fn a_file_is_written_anew_and_read(rt: HostRuntime) -> Result<(), Fail> {
-    let place = place(&rt, "disk")?;
-    expect_file_of_its_own(&rt, &rt, place.as_str());
+fn a_file_is_written_anew_and_read(rt: HostRuntime) -> Result<(), Failed> {
+    assert!(rt; is_file_of_its_own(&rt)?);
     Ok(())
+}
+
+static NO_FILES: [&str; 3] = ["/", "", "a\0b"];
+
+fn is_no_file(rt: &HostRuntime, path: &str) -> bool {
+    read_fault(rt, path) == Some(FileFault::Inaccessible)
+        && DiskFiles::new(rt).write(path, b"x") == Err(FileFault::Inaccessible)
 }
 
 #[test]
 fn folders_are_no_files(rt: HostRuntime) {
-    let files = DiskFiles::new(&rt);
-    for path in ["/", "", "a\0b"] {
-        let faults = (
-            files.read(rt.alloc(), path).err(),
-            files.write(path, b"x").err(),
-        );
-        let inaccessible = Some(FileFault::Inaccessible);
-        assert!(rt; faults == (inaccessible, inaccessible), "{path:?}");
+    for path in &NO_FILES {
+        assert!(rt; is_no_file(&rt, path), "{path:?}");
     }
+}
+
+fn fault_of(kind: ErrorKind) -> FileFault {
+    FileFault::from(io::Error::from(kind))
 }
 
 #[test]
 fn want_of_memory_is_told_apart(rt: HostRuntime) {
-    let memory = io::Error::from(ErrorKind::OutOfMemory);
-    assert!(rt; FileFault::from(memory) == FileFault::Memory);
-    let denied = io::Error::from(ErrorKind::PermissionDenied);
-    assert!(rt; FileFault::from(denied) == FileFault::Inaccessible);
+    assert!(rt; fault_of(ErrorKind::OutOfMemory) == FileFault::Memory);
+    assert!(rt; fault_of(ErrorKind::PermissionDenied) == FileFault::Inaccessible);
 }

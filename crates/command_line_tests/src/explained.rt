@@ -1,14 +1,15 @@
-// Why transactions have their flags, from the scripts that they are drafted of.
+//! Why transactions have their flags, from the scripts that they are drafted of.
+
 use crate::explained::vectors::{
     block0, block1, block2, block3, block4, block5, every_flag, lines,
 };
-use crate::fixture::{CHANNEL, End, File, MemoryFiles, Row, ended, expect_rows, words_of};
+use crate::files::{File, MemoryFiles};
+use crate::fixture::{CHANNEL, End, Row, answered, unlike};
 use crate::signatures::keys;
 use command_line::{FileFault, Files};
 use failing::Failed;
 use std::alloc::{AllocError, Global};
 use std::cell::Cell;
-use std::process::Abort;
 use std::str::from_utf8;
 use std::sync::Wait;
 use std::thread::Threads;
@@ -41,21 +42,11 @@ impl Files for Desk<'_> {
     }
 }
 
-// How the program ends that is called with these words, and what it says.
-pub(crate) fn answered<F: Files>(
-    rt: &(impl AllocGlobal + Threads + Wait + Sync),
-    files: &F,
-    words: &str,
-) -> Result<End, AllocError> {
-    let words = words_of(rt.alloc(), words)?;
-    Ok(ended(rt, files, &words))
-}
-
 const NOT_DRAFTED: Failed = Failed::Missing("a drafted block");
 
 // The block of the script `s`, drafted by these words.
 pub(crate) fn drafted(
-    rt: &(impl Abort + AllocGlobal + Threads + Wait + Sync),
+    rt: &(impl AllocGlobal + Threads + Wait + Sync),
     files: &[File<'_>],
     words: &str,
 ) -> Result<Bytes, Failed> {
@@ -90,20 +81,23 @@ fn is_behind(said: &[u8], front: &str, lines: &str) -> bool {
     }
 }
 
-// What explaining the last of these says behind the line of the block, whose front is this.
-fn expect_reasons(
-    rt: &(impl Abort + AllocGlobal + Threads + Wait + Sync),
+fn says_reasons(ended: &End, front: &str, lines: &str) -> bool {
+    ended.status == 0 && is_behind(&ended.out, front, lines)
+}
+
+// Whether explaining the last of these says these lines behind the one of the block, whose front is this.
+fn is_explained(
+    rt: &(impl AllocGlobal + Threads + Wait + Sync),
     files: &[File<'_>],
     words: &str,
     front: &str,
     lines: &str,
-) -> Result<(), AllocError> {
+) -> Result<bool, AllocError> {
     let ended = answered(rt, &MemoryFiles(files), words)?;
-    assert!(rt; ended.status == 0 && is_behind(&ended.out, front, lines));
-    Ok(())
+    Ok(says_reasons(&ended, front, lines))
 }
 
-const FIRST: &[u8] = b"tx Org1:client:c0 n0 cc
+static FIRST: &[u8] = b"tx Org1:client:c0 n0 cc
 ns cc
 write k1 v1
 policy k1 AND('Org1.peer','Org2.peer')
@@ -118,7 +112,7 @@ write c v
 endorse Org1:peer:p0
 ";
 
-const SECOND: &[u8] = b"raw 6e6f
+static SECOND: &[u8] = b"raw 6e6f
 tx Org1:client:c0 n1 cc
 tx Org1:client:c0 n3 cc
 ns cc
@@ -251,81 +245,114 @@ fn of_blocks<'a>(keys: &'a [u8], first: &'a [u8], second: &'a [u8]) -> [File<'a>
 }
 
 fn second_block(
-    rt: &(impl Abort + AllocGlobal + Threads + Wait + Sync),
+    rt: &(impl AllocGlobal + Threads + Wait + Sync),
     first: &[u8],
 ) -> Result<Bytes, Failed> {
     let files = of_script_behind(keys(), SECOND, first);
     drafted(rt, &files, "draft --after b0 s out")
 }
 
-const ROWS: [Row; 2] = [
+// All reasons, and that of one transaction.
+fn reasons() -> &'static [(&'static str, &'static str)] {
+    &REASONS_ASKED
+}
+
+static REASONS_ASKED: [(&str, &str); 2] = [
+    ("explain b0 b1", REASONS),
+    (
+        "explain --tx 4 b0 b1",
+        "4 11 MVCC_READ_CONFLICT read cc a was 0 1 is 1 2 by 2\n",
+    ),
+];
+
+fn rows() -> &'static [Row<'static>] {
+    &ROWS
+}
+
+static ROWS: [Row; 2] = [
     ("explain --tx 23 b0 b1", 2, "", "no transaction 23\n"),
     ("explain b0 b1 b1", 1, "refused 3 C2 want 2 got 1\n", ""),
 ];
 
-fn expect_all(
-    rt: &(impl Abort + AllocGlobal + Threads + Wait + Sync),
+fn are_explained(
+    rt: &(impl AllocGlobal + Threads + Wait + Sync),
     files: &[File<'_>],
-) -> Result<(), AllocError> {
-    expect_reasons(rt, files, "explain b0 b1", "block 1 ", REASONS)?;
-    let one = "4 11 MVCC_READ_CONFLICT read cc a was 0 1 is 1 2 by 2\n";
-    expect_reasons(rt, files, "explain --tx 4 b0 b1", "block 1 ", one)?;
-    expect_rows(rt, &MemoryFiles(files), &ROWS)
+) -> Result<bool, AllocError> {
+    for (words, lines) in reasons() {
+        if !is_explained(rt, files, words, "block 1 ", lines)? {
+            return Ok(false);
+        }
+    }
+    Ok(unlike(rt, &MemoryFiles(files), rows())?.is_none())
 }
 
-fn expect_all_of<'a>(
-    rt: &(impl Abort + AllocGlobal + Threads + Wait + Sync),
+fn are_explained_of<'a>(
+    rt: &(impl AllocGlobal + Threads + Wait + Sync),
     first: &'a [u8],
     second: &'a [u8],
-) -> Result<(), AllocError> {
+) -> Result<bool, AllocError> {
     let files = of_blocks(keys(), first, second);
-    expect_all(rt, &files)
+    are_explained(rt, &files)
+}
+
+fn are_explained_behind(
+    rt: &(impl AllocGlobal + Threads + Wait + Sync),
+    first: &[u8],
+) -> Result<bool, Failed> {
+    let second = second_block(rt, first)?;
+    Ok(are_explained_of(rt, first, second.as_slice())?)
+}
+
+fn are_all_explained(rt: &(impl AllocGlobal + Threads + Wait + Sync)) -> Result<bool, Failed> {
+    let files = of_script(CHANNEL, keys(), FIRST);
+    let first = drafted(rt, &files, "draft s out")?;
+    are_explained_behind(rt, first.as_slice())
 }
 
 #[test]
 fn each_kind_of_reason(rt: HostRuntime) -> Result<(), Failed> {
-    let files = of_script(CHANNEL, keys(), FIRST);
-    let first = drafted(&rt, &files, "draft s out")?;
-    let second = second_block(&rt, first.as_slice())?;
-    expect_all_of(&rt, first.as_slice(), second.as_slice())?;
+    assert!(rt; are_all_explained(&rt)?);
     Ok(())
 }
 
-// Drafts the first script for this channel and by these keys, and wants what explaining it says.
-fn expect_reasons_elsewhere<'a>(
-    rt: &(impl Abort + AllocGlobal + Threads + Wait + Sync),
+// Whether explaining the first script, which is drafted for this channel and by these keys, says these lines.
+fn is_explained_elsewhere<'a>(
+    rt: &(impl AllocGlobal + Threads + Wait + Sync),
     channel: &'a [u8],
     signing: &'a [u8],
     words: &str,
     lines: &str,
-) -> Result<(), Failed> {
+) -> Result<bool, Failed> {
     let block = drafted(rt, &of_script(channel, signing, FIRST), "draft s out")?;
-    expect_reasons_of(rt, block.as_slice(), words, lines)?;
-    Ok(())
+    Ok(is_block_explained(rt, block.as_slice(), words, lines)?)
 }
 
-pub(crate) fn expect_reasons_of<'a>(
-    rt: &(impl Abort + AllocGlobal + Threads + Wait + Sync),
+pub(crate) fn is_block_explained<'a>(
+    rt: &(impl AllocGlobal + Threads + Wait + Sync),
     block: &'a [u8],
     words: &str,
     lines: &str,
-) -> Result<(), AllocError> {
+) -> Result<bool, AllocError> {
     let files = of_block(keys(), block);
-    expect_reasons(rt, &files, words, "block 0 ", lines)
+    is_explained(rt, &files, words, "block 0 ", lines)
 }
+
+static OTHER_CHANNEL: &[u8] = b"channel other\nchaincode cc 'Org1.peer'\n";
+
+static OTHERS: &str = "0 14 TARGET_CHAIN_NOT_FOUND channel other
+1 14 TARGET_CHAIN_NOT_FOUND channel other
+2 14 TARGET_CHAIN_NOT_FOUND channel other
+";
+
+static FORGING: &[u8] = b"Org1:client:c0 00\nOrg1:peer:p0 01\n";
 
 // The channel that transactions name, and the keys that creators sign with, are none of the block's.
 #[test]
 fn reasons_of_the_origin(rt: HostRuntime) -> Result<(), Failed> {
-    let channel = b"channel other\nchaincode cc 'Org1.peer'\n";
-    let lines = "0 14 TARGET_CHAIN_NOT_FOUND channel other
-1 14 TARGET_CHAIN_NOT_FOUND channel other
-2 14 TARGET_CHAIN_NOT_FOUND channel other
-";
-    expect_reasons_elsewhere(&rt, channel, keys(), "explain b0", lines)?;
-    let forging = b"Org1:client:c0 00\nOrg1:peer:p0 01\n";
-    let lines = "1 4 BAD_CREATOR_SIGNATURE\n";
-    expect_reasons_elsewhere(&rt, CHANNEL, forging, "explain --tx 1 b0", lines)
+    assert!(rt; is_explained_elsewhere(&rt, OTHER_CHANNEL, keys(), "explain b0", OTHERS)?);
+    let forged = "1 4 BAD_CREATOR_SIGNATURE\n";
+    assert!(rt; is_explained_elsewhere(&rt, CHANNEL, FORGING, "explain --tx 1 b0", forged)?);
+    Ok(())
 }
 
 // The sample's blocks. The last of them shows every flag, and was made outside of the crates.
@@ -349,31 +376,49 @@ fn a_reason_of_each_flag(rt: HostRuntime) -> Result<(), AllocError> {
         ("explain b0 b1 b2 b3 b4 b5 b6", 0, lines(), ""),
         ("explain b0 b1 b6", 1, "refused 3 C2 want 2 got 6\n", ""),
     ];
-    expect_rows(&rt, &MemoryFiles(&sample()), &rows)
+    let unlike = unlike(&rt, &MemoryFiles(&sample()), &rows)?;
+    assert!(rt; unlike.is_none(), "{unlike:?}");
+    Ok(())
 }
 
-// The policy of cc asks for a peer, until block 4 updates it.
-#[test]
-fn a_definition_changes(rt: HostRuntime) -> Result<(), AllocError> {
-    let refused = "\n0 10 ENDORSEMENT_POLICY_FAILURE chaincode cc car4 \
-        OR('Org1.peer','Org2.peer') Org1:admin:a0\n";
-    let first = "\ndefinition OR('Org1.peer','Org2.peer')\n";
-    let second = "\ndefinition OR('Org1.peer','Org2.peer','Org1.admin')\n";
-    expect_last_line(&rt, "explain b0 b1 b2 b3", refused)?;
-    expect_last_line(&rt, "definition --ns cc b0 b1 b2 b3", first)?;
-    expect_last_line(&rt, "definition --ns cc b0 b1 b2 b3 b4", second)?;
-    expect_last_line(&rt, "definition --ns cc b0 b1 b2 b3 b4 b5", second)?;
-    expect_last_line(&rt, "explain b0 b1 b2 b3 b4 b5", "\n0 0 VALID\n")
+const FIRST_DEFINITION: &str = "\ndefinition OR('Org1.peer','Org2.peer')\n";
+
+const SECOND_DEFINITION: &str = "\ndefinition OR('Org1.peer','Org2.peer','Org1.admin')\n";
+
+fn changes() -> &'static [(&'static str, &'static str)] {
+    &CHANGES
 }
 
-// Over the sample, what these words say ends with this line.
-fn expect_last_line(
-    rt: &(impl Abort + AllocGlobal + Threads + Wait + Sync),
+// The policy of cc asks for a peer, until block 4 updates it. What is said of the blocks ends with this line.
+static CHANGES: [(&str, &str); 5] = [
+    (
+        "explain b0 b1 b2 b3",
+        "\n0 10 ENDORSEMENT_POLICY_FAILURE chaincode cc car4 \
+        OR('Org1.peer','Org2.peer') Org1:admin:a0\n",
+    ),
+    ("definition --ns cc b0 b1 b2 b3", FIRST_DEFINITION),
+    ("definition --ns cc b0 b1 b2 b3 b4", SECOND_DEFINITION),
+    ("definition --ns cc b0 b1 b2 b3 b4 b5", SECOND_DEFINITION),
+    ("explain b0 b1 b2 b3 b4 b5", "\n0 0 VALID\n"),
+];
+
+fn ends_with_line(ended: &End, line: &str) -> bool {
+    ended.status == 0 && ended.err.is_empty() && ended.out.ends_with(line.as_bytes())
+}
+
+fn is_last_line(
+    rt: &(impl AllocGlobal + Threads + Wait + Sync),
     words: &str,
     line: &str,
-) -> Result<(), AllocError> {
+) -> Result<bool, AllocError> {
     let ended = answered(rt, &MemoryFiles(&sample()), words)?;
-    assert!(rt; ended.status == 0 && ended.err.is_empty());
-    assert!(rt; ended.out.ends_with(line.as_bytes()));
+    Ok(ends_with_line(&ended, line))
+}
+
+#[test]
+fn a_definition_changes(rt: HostRuntime) -> Result<(), AllocError> {
+    for (words, line) in changes() {
+        assert!(rt; is_last_line(&rt, words, line)?, "{words:?}");
+    }
     Ok(())
 }

@@ -1,148 +1,196 @@
-// What is wrong with words, files and scripts, for each subcommand but `run`.
+//! What is wrong with words, files and scripts, for each subcommand but `run`.
+
+use crate::files::{File, MemoryFiles};
 use crate::fixture::{
-    CHANNEL, File, Full, KEYS, MemoryFiles, Row, expect_into, expect_row, expect_rows, first_block,
-    words_of,
+    CHANNEL, FIRST_BLOCK, KEYS, Scene, is_answered, long_text, unlike_of, words_of,
 };
-use command_line::{FileFault, Files};
-use std::alloc::{AllocError, Global};
-use std::process::Abort;
+use crate::full::{FAULT, Full, ends_into};
+use std::alloc::AllocError;
 use std::sync::Wait;
 use std::thread::Threads;
-use values::Bytes;
 
 // What is said of the empty block 0, as it is explained.
 const BLOCK_0: &str = "block 0 9cae6f5c10756febc407bba95fc23853774c1f65f10354895bfdab6443d66ed3\n";
 
-// Of the files the first two can be read, `s` is a script, `b0` a block and `last` the one of the greatest number.
-static ROWS: [Row; 46] = [
-    // Words are looked at before any file.
-    ("get --ns cc --key % no", 2, "", "bad word\n"),
-    ("get --ns cc --key %4 no", 2, "", "bad word\n"),
-    ("get --ns cc --key= no", 2, "", "bad word\n"),
-    ("get --ns c/c --key k no", 2, "", "bad word\n"),
-    ("get --ns= --key k no", 2, "", "bad word\n"),
-    ("history --ns cc --key % no", 2, "", "bad word\n"),
-    ("history --ns cc --key a%zz no", 2, "", "bad word\n"),
-    ("history --ns :cc --key k no", 2, "", "bad word\n"),
-    ("definition --ns c/c no", 2, "", "bad word\n"),
-    ("definition --ns= no", 2, "", "bad word\n"),
-    ("scan --ns c/c no", 2, "", "bad word\n"),
-    ("scan --ns cc --start= no", 2, "", "bad word\n"),
-    ("scan --ns cc --start a% no", 2, "", "bad word\n"),
-    ("scan --ns cc --end= no", 2, "", "bad word\n"),
-    ("scan --ns cc --end é no", 2, "", "bad word\n"),
-    // Then files in their order.
-    ("get --ns cc --key k no s", 3, "", "cannot read no\n"),
-    ("scan --ns cc b0 no", 3, "", "cannot read no\n"),
-    ("history --ns cc --key k no", 3, "", "cannot read no\n"),
-    ("definition --ns cc b0 no", 3, "", "cannot read no\n"),
-    ("explain no", 3, "", "cannot read no\n"),
-    ("explain b0 no s", 3, "", "cannot read no\n"),
-    ("explain --tx 9 b0 no", 3, "", "cannot read no\n"),
-    ("draft no out", 3, "", "cannot read no\n"),
-    ("draft --after no no2 out", 3, "", "cannot read no\n"),
-    ("draft --after s no out", 3, "", "s not a block\n"),
-    ("draft --after last no out", 3, "", "last not a block\n"),
-    ("draft --after b0 no out", 3, "", "cannot read no\n"),
-    ("draft bad out", 3, "", "bad line 1\n"),
-    ("draft --after b0 b0 out", 3, "", "b0 line 1\n"),
-    // Nothing can be written here.
-    ("draft s out", 3, "", "cannot write out\n"),
-    ("draft s s", 3, "", "cannot write s\n"),
-    // What isn't a block is refused, and the status alone says so.
-    ("get --ns cc --key k s", 1, "height 0\nabsent\n", ""),
-    ("scan --ns cc s b0", 1, "height 1\n", ""),
-    ("history --ns cc --key k s c k", 1, "height 0\n", ""),
-    ("definition --ns zz s k", 1, "height 0\nabsent\n", ""),
-    ("explain s b0", 1, BLOCK_0, ""),
-    ("explain b0", 0, BLOCK_0, ""),
-    // But of the last block, at whose place no transaction stands.
-    ("explain s", 1, "refused 1 C1 B1\n", ""),
-    ("explain b0 b0", 1, "refused 2 C2 want 1 got 0\n", ""),
-    ("explain --tx 0 b0 s", 1, "refused 2 C1 B1\n", ""),
-    ("explain --tx 0 b0", 2, "", "no transaction 0\n"),
-    ("explain --tx 4095 s b0", 2, "", "no transaction 4095\n"),
-    ("history --ns cc --key k", 0, "height 0\n", ""),
-    (
-        "definition --ns cc",
-        0,
-        "height 0\ndefinition OR('Org1.peer','Org2.peer')\n",
-        "",
-    ),
-    ("scan --ns cc --limit 65535", 0, "height 0\n", ""),
-    ("scan --ns cc --limit 0001", 0, "height 0\n", ""),
-];
+// The empty block of the greatest number.
+const LAST_BLOCK: &[u8] = b"FBK1\xff\xff\xff\xff\xff\xff\xff\xff\0\
+    \xe3\xb0\xc4\x42\x98\xfc\x1c\x14\x9a\xfb\xf4\xc8\x99\x6f\xb9\x24\
+    \x27\xae\x41\xe4\x64\x9b\x93\x4c\xa4\x95\x99\x1b\x78\x52\xb8\x55\
+    \0\0\0\0";
 
-fn expect_all_rows<'a>(
-    rt: &(impl Abort + AllocGlobal + Threads + Wait + Sync),
-    block: &'a [u8],
-    last: &'a [u8],
-) -> Result<(), AllocError> {
-    let files = [
+fn scenes() -> &'static [Scene<'static>] {
+    &SCENES
+}
+
+// Of the files the first two can be read, `s` is a script, and `b0` and `last` are blocks.
+static SCENES: [Scene; 1] = [(
+    &[
         ("c", CHANNEL),
         ("k", KEYS),
-        ("s", b"# nothing\n".as_slice()),
-        ("bad", b"read k absent\n".as_slice()),
-        ("b0", block),
-        ("last", last),
-    ];
-    expect_rows(rt, &MemoryFiles(&files), &ROWS)
-}
+        ("s", b"# nothing\n"),
+        ("bad", b"read k absent\n"),
+        ("b0", FIRST_BLOCK),
+        ("last", LAST_BLOCK),
+    ],
+    &[
+        // Words are looked at before any file.
+        ("get --ns cc --key % no", 2, "", "bad word\n"),
+        ("get --ns cc --key %4 no", 2, "", "bad word\n"),
+        ("get --ns cc --key= no", 2, "", "bad word\n"),
+        ("get --ns c/c --key k no", 2, "", "bad word\n"),
+        ("get --ns= --key k no", 2, "", "bad word\n"),
+        ("history --ns cc --key % no", 2, "", "bad word\n"),
+        ("history --ns cc --key a%zz no", 2, "", "bad word\n"),
+        ("history --ns :cc --key k no", 2, "", "bad word\n"),
+        ("definition --ns c/c no", 2, "", "bad word\n"),
+        ("definition --ns= no", 2, "", "bad word\n"),
+        ("scan --ns c/c no", 2, "", "bad word\n"),
+        ("scan --ns cc --start= no", 2, "", "bad word\n"),
+        ("scan --ns cc --start a% no", 2, "", "bad word\n"),
+        ("scan --ns cc --end= no", 2, "", "bad word\n"),
+        ("scan --ns cc --end é no", 2, "", "bad word\n"),
+        // Then files in their order.
+        ("get --ns cc --key k no s", 3, "", "cannot read no\n"),
+        ("scan --ns cc b0 no", 3, "", "cannot read no\n"),
+        ("history --ns cc --key k no", 3, "", "cannot read no\n"),
+        ("definition --ns cc b0 no", 3, "", "cannot read no\n"),
+        ("explain no", 3, "", "cannot read no\n"),
+        ("explain b0 no s", 3, "", "cannot read no\n"),
+        ("explain --tx 9 b0 no", 3, "", "cannot read no\n"),
+        ("draft no out", 3, "", "cannot read no\n"),
+        ("draft --after no no2 out", 3, "", "cannot read no\n"),
+        ("draft --after s no out", 3, "", "s not a block\n"),
+        ("draft --after last no out", 3, "", "last not a block\n"),
+        ("draft --after b0 no out", 3, "", "cannot read no\n"),
+        ("draft bad out", 3, "", "bad line 1\n"),
+        ("draft --after b0 b0 out", 3, "", "b0 line 1\n"),
+        // Nothing can be written here.
+        ("draft s out", 3, "", "cannot write out\n"),
+        ("draft s s", 3, "", "cannot write s\n"),
+        // What isn't a block is refused, and the status alone says so.
+        ("get --ns cc --key k s", 1, "height 0\nabsent\n", ""),
+        ("scan --ns cc s b0", 1, "height 1\n", ""),
+        ("history --ns cc --key k s c k", 1, "height 0\n", ""),
+        ("definition --ns zz s k", 1, "height 0\nabsent\n", ""),
+        ("explain s b0", 1, BLOCK_0, ""),
+        ("explain b0", 0, BLOCK_0, ""),
+        // But of the last block, at whose place no transaction stands.
+        ("explain s", 1, "refused 1 C1 B1\n", ""),
+        ("explain b0 b0", 1, "refused 2 C2 want 1 got 0\n", ""),
+        ("explain --tx 0 b0 s", 1, "refused 2 C1 B1\n", ""),
+        ("explain --tx 0 b0", 2, "", "no transaction 0\n"),
+        ("explain --tx 4095 s b0", 2, "", "no transaction 4095\n"),
+        ("history --ns cc --key k", 0, "height 0\n", ""),
+        (
+            "definition --ns cc",
+            0,
+            "height 0\ndefinition OR('Org1.peer','Org2.peer')\n",
+            "",
+        ),
+        ("scan --ns cc --limit 65535", 0, "height 0\n", ""),
+        ("scan --ns cc --limit 0001", 0, "height 0\n", ""),
+    ],
+)];
 
 #[test]
 fn words_and_files(rt: HostRuntime) -> Result<(), AllocError> {
-    let block = first_block();
-    let mut last = first_block();
-    for byte in last.iter_mut().skip(4).take(8) {
-        *byte = 255;
-    }
-    expect_all_rows(&rt, &block, &last)
+    let unlike = unlike_of(&rt, scenes())?;
+    assert!(rt; unlike.is_none(), "{unlike:?}");
+    Ok(())
 }
 
-// Wants this of a name and a key of so many bytes.
-fn expect_lengths(
-    rt: &(impl Abort + AllocGlobal + Threads + Wait + Sync),
-    (name, key): (usize, usize),
-    status: u8,
-    (row, scanned, err): (&str, &str, &str),
-) -> Result<(), AllocError> {
-    let (name, key) = ("n".repeat(rt.alloc(), name)?, "k".repeat(rt.alloc(), key)?);
-    let files = [("c", CHANNEL), ("k", KEYS)];
-    let get = format!(in rt.alloc(); "get --ns {name} --key {key}")?;
-    expect_row(rt, &MemoryFiles(&files), &(get.as_str(), status, row, err))?;
-    let history = format!(in rt.alloc(); "history --ns {name} --key {key}")?;
-    expect_row(
-        rt,
-        &MemoryFiles(&files),
-        &(history.as_str(), status, scanned, err),
-    )
+// Words but for their last letters, which letter these are and how many, and what is answered.
+type Lengths = (
+    &'static str,
+    &'static str,
+    usize,
+    u8,
+    &'static str,
+    &'static str,
+);
+
+fn lengths() -> &'static [Lengths] {
+    &LENGTHS
 }
 
 // A name has at most 64 bytes, and a key at most 1,024.
+static LENGTHS: [Lengths; 8] = [
+    (
+        "get --ns nnnnnnnnnnnnnnnnnnnnnnnnnnnnnnnnnnnnnnnnnnnnnnnnnnnnnnnnnnnnnnnn --key ",
+        "k",
+        1024,
+        0,
+        "height 0\nabsent\n",
+        "",
+    ),
+    (
+        "get --ns nnnnnnnnnnnnnnnnnnnnnnnnnnnnnnnnnnnnnnnnnnnnnnnnnnnnnnnnnnnnnnnn --key ",
+        "k",
+        1025,
+        2,
+        "",
+        "bad word\n",
+    ),
+    (
+        "get --ns nnnnnnnnnnnnnnnnnnnnnnnnnnnnnnnnnnnnnnnnnnnnnnnnnnnnnnnnnnnnnnnnn --key ",
+        "k",
+        1024,
+        2,
+        "",
+        "bad word\n",
+    ),
+    (
+        "history --ns nnnnnnnnnnnnnnnnnnnnnnnnnnnnnnnnnnnnnnnnnnnnnnnnnnnnnnnnnnnnnnnn --key ",
+        "k",
+        1024,
+        0,
+        "height 0\n",
+        "",
+    ),
+    (
+        "history --ns nnnnnnnnnnnnnnnnnnnnnnnnnnnnnnnnnnnnnnnnnnnnnnnnnnnnnnnnnnnnnnnn --key ",
+        "k",
+        1025,
+        2,
+        "",
+        "bad word\n",
+    ),
+    (
+        "history --ns nnnnnnnnnnnnnnnnnnnnnnnnnnnnnnnnnnnnnnnnnnnnnnnnnnnnnnnnnnnnnnnnn --key ",
+        "k",
+        1024,
+        2,
+        "",
+        "bad word\n",
+    ),
+    ("scan --ns ", "n", 64, 0, "height 0\n", ""),
+    ("scan --ns ", "n", 65, 2, "", "bad word\n"),
+];
+
+fn is_of_lengths(
+    rt: &(impl AllocGlobal + Threads + Wait + Sync),
+    row: &Lengths,
+) -> Result<bool, AllocError> {
+    let (front, letter, times, status, out, err) = *row;
+    let words = long_text(rt.alloc(), front, letter, times, "")?;
+    let files = [("c", CHANNEL), ("k", KEYS)];
+    is_answered(
+        rt,
+        &MemoryFiles(&files),
+        &(words.as_str(), status, out, err),
+    )
+}
+
 #[test]
 fn names_and_keys_that_are_too_long(rt: HostRuntime) -> Result<(), AllocError> {
-    let bad = ("", "", "bad word\n");
-    expect_lengths(&rt, (64, 1024), 0, ("height 0\nabsent\n", "height 0\n", ""))?;
-    expect_lengths(&rt, (64, 1025), 2, bad)?;
-    expect_lengths(&rt, (65, 1024), 2, bad)
+    for (number, row) in lengths().iter().enumerate() {
+        assert!(rt; is_of_lengths(&rt, row)?, "row {number}");
+    }
+    Ok(())
 }
 
-fn expect_scan(
-    rt: &(impl Abort + AllocGlobal + Threads + Wait + Sync),
-    name: usize,
-    status: u8,
-    (out, err): (&str, &str),
-) -> Result<(), AllocError> {
-    let name = "n".repeat(rt.alloc(), name)?;
-    let files = [("c", CHANNEL), ("k", KEYS)];
-    let scan = format!(in rt.alloc(); "scan --ns {name}")?;
-    expect_row(rt, &MemoryFiles(&files), &(scan.as_str(), status, out, err))
-}
-
-#[test]
-fn names_that_are_too_long(rt: HostRuntime) -> Result<(), AllocError> {
-    expect_scan(&rt, 64, 0, ("height 0\n", ""))?;
-    expect_scan(&rt, 65, 2, ("", "bad word\n"))
+fn scripts() -> &'static [(&'static str, &'static str)] {
+    &SCRIPTS
 }
 
 // Scripts, and the line that is at fault.
@@ -191,113 +239,97 @@ static SCRIPTS: [(&str, &str); 30] = [
     ("tx Org1:peer:p0 % c\nns c\r", "s line 2\n"),
 ];
 
-// Drafts a script, which ends with this line on standard error.
-fn expect_fault(
-    rt: &(impl Abort + AllocGlobal + Threads + Wait + Sync),
+// Whether drafting a script ends with this line on standard error.
+fn is_fault(
+    rt: &(impl AllocGlobal + Threads + Wait + Sync),
     script: &str,
     err: &str,
-) -> Result<(), AllocError> {
+) -> Result<bool, AllocError> {
     let files = [("c", CHANNEL), ("k", KEYS), ("s", script.as_bytes())];
-    expect_row(rt, &MemoryFiles(&files), &("draft s out", 3, "", err))
+    is_answered(rt, &MemoryFiles(&files), &("draft s out", 3, "", err))
 }
 
 #[test]
 fn faulty_lines(rt: HostRuntime) -> Result<(), AllocError> {
-    for (script, err) in &SCRIPTS {
-        expect_fault(&rt, script, err)?;
+    for (script, err) in scripts() {
+        assert!(rt; is_fault(&rt, script, err)?, "{script:?}");
     }
     Ok(())
 }
 
-// Drafts a transaction with a value of so many bytes, which is one of 1,048,576 bytes where they are 1,048,439.
-fn expect_long(
-    rt: &(impl Abort + AllocGlobal + Threads + Wait + Sync),
-    bytes: usize,
-    more: &str,
-    err: &str,
-) -> Result<(), AllocError> {
-    let script = long_script(rt.alloc(), bytes, more)?;
-    expect_fault(rt, script.as_str(), err)
-}
+// The bytes of a value, the lines behind it, and what is said.
+static LONG: [(usize, &str, &str); 4] = [
+    // A transaction of 1,048,576 bytes is drafted, and then can't be written.
+    (1_048_439, "\n", "cannot write out\n"),
+    (1_048_440, "\n", "s line 1\n"),
+    // It is known where it ends, before what that line says, and behind faults of its own lines.
+    (1 << 20, "\ntx", "s line 1\n"),
+    (1 << 20, "\nendorse", "s line 4\n"),
+];
 
-fn long_script(alloc: Global, bytes: usize, more: &str) -> Result<String, AllocError> {
-    let value = "v".repeat(alloc, bytes)?;
-    format!(in alloc; "tx Org1:peer:p0 n cc\nns cc\nwrite k {value}\n{more}")
+fn is_long_fault(
+    rt: &(impl AllocGlobal + Threads + Wait + Sync),
+    bytes: usize,
+    back: &str,
+    err: &str,
+) -> Result<bool, AllocError> {
+    let front = "tx Org1:peer:p0 n cc\nns cc\nwrite k ";
+    let script = long_text(rt.alloc(), front, "v", bytes, back)?;
+    is_fault(rt, script.as_str(), err)
 }
 
 #[test]
 fn a_transaction_one_byte_too_long(rt: HostRuntime) -> Result<(), AllocError> {
-    // The longest is drafted, and then can't be written.
-    expect_long(&rt, 1_048_439, "", "cannot write out\n")?;
-    expect_long(&rt, 1_048_440, "", "s line 1\n")?;
-    // It is known where it ends, before what that line says, and behind faults of its own lines.
-    expect_long(&rt, 1 << 20, "tx", "s line 1\n")?;
-    expect_long(&rt, 1 << 20, "endorse", "s line 4\n")
-}
-
-// Files in memory, but memory runs out at the one that is written.
-#[derive(Drop)]
-struct NoRoom<'a>(MemoryFiles<'a>);
-
-impl Files for NoRoom<'_> {
-    fn read(&self, alloc: Global, path: &str) -> Result<Bytes, FileFault> {
-        self.0.read(alloc, path)
-    }
-
-    fn write(&self, _path: &str, _bytes: &[u8]) -> Result<(), FileFault> {
-        Err(FileFault::Memory)
-    }
-}
-
-#[test]
-fn a_block_for_which_memory_is_missing(rt: HostRuntime) -> Result<(), AllocError> {
-    let files = [("c", CHANNEL), ("k", KEYS), ("s", b"".as_slice())];
-    expect_row(
-        &rt,
-        &NoRoom(MemoryFiles(&files)),
-        &("draft s out", 4, "", "out of memory\n"),
-    )
-}
-
-// Asks into a writer that takes so many bytes: it has the front of the lines.
-fn expect_cut(
-    rt: &(impl Abort + AllocGlobal + Threads + Wait + Sync),
-    files: &[File<'_>],
-    words: &[&str],
-    lines: &str,
-    room: usize,
-) {
-    let mut out = Full::after(rt.alloc(), room);
-    let err = "cannot write standard output\n";
-    expect_into(rt, &MemoryFiles(files), words, &mut out, 3, err);
-    assert!(rt; Some(out.taken.as_slice()) == lines.as_bytes().get(..room));
-}
-
-// The same of each room of less than eight bytes.
-fn expect_cuts(
-    rt: &(impl Abort + AllocGlobal + Threads + Wait + Sync),
-    files: &[File<'_>],
-    words: &str,
-    lines: &str,
-) -> Result<(), AllocError> {
-    let words = words_of(rt.alloc(), words)?;
-    for room in 0..8 {
-        expect_cut(rt, files, &words, lines, room);
+    for (bytes, back, err) in &LONG {
+        assert!(rt; is_long_fault(&rt, *bytes, back, err)?, "{err:?}");
     }
     Ok(())
 }
 
+static FILES: [File; 3] = [("c", CHANNEL), ("k", KEYS), ("b0", FIRST_BLOCK)];
+
+// Whether a writer that takes so many bytes has the front of the lines.
+fn is_cut(
+    rt: &(impl AllocGlobal + Threads + Wait + Sync),
+    words: &[&str],
+    lines: &str,
+    room: usize,
+) -> bool {
+    let mut out = Full::after(rt.alloc(), room);
+    ends_into(rt, &MemoryFiles(&FILES), words, &mut out, 3, FAULT)
+        && Some(out.taken.as_slice()) == lines.as_bytes().get(..room)
+}
+
+// The same of each room of less than eight bytes.
+fn are_cut(rt: &(impl AllocGlobal + Threads + Wait + Sync), words: &[&str], lines: &str) -> bool {
+    for room in 0..8 {
+        if !is_cut(rt, words, lines, room) {
+            return false;
+        }
+    }
+    true
+}
+
+fn is_cut_off(
+    rt: &(impl AllocGlobal + Threads + Wait + Sync),
+    words: &str,
+    lines: &str,
+) -> Result<bool, AllocError> {
+    let words = words_of(rt.alloc(), words)?;
+    Ok(are_cut(rt, &words, lines))
+}
+
+static CUT_OFF: [(&str, &str); 4] = [
+    ("get --ns cc --key k b0", "height 1\nabsent\n"),
+    ("scan --ns cc b0", "height 1\n"),
+    ("explain b0", BLOCK_0),
+    ("history --ns cc --key k b0", "height 1\n"),
+];
+
 #[test]
 fn standard_output_that_fails(rt: HostRuntime) -> Result<(), AllocError> {
-    let block = first_block();
-    let files = [("c", CHANNEL), ("k", KEYS), ("b0", block.as_slice())];
-    for (words, lines) in [
-        ("get --ns cc --key k b0", "height 1\nabsent\n"),
-        ("scan --ns cc b0", "height 1\n"),
-        ("explain b0", BLOCK_0),
-        ("history --ns cc --key k b0", "height 1\n"),
-    ] {
-        expect_cuts(&rt, &files, words, lines)?;
+    for (words, lines) in &CUT_OFF {
+        assert!(rt; is_cut_off(&rt, words, lines)?, "{words:?}");
     }
     Ok(())
 }

@@ -1,30 +1,70 @@
-// Blocks and transactions at their limits and one beyond, from files on disk. None of the transactions
-// is one.
-use crate::fixture::{CHANNEL, End, KEYS, NO_DATA, empty_ones, ended, expect_end, large_block};
+//! Blocks and transactions at their limits and one beyond, from files on disk. None of the transactions is one.
+
+use crate::disk::place;
+use crate::fixture::{CHANNEL, End, KEYS, ended, is_said, long_text};
+use crate::large::{block_of_empty, block_of_one};
 use command_line::{DiskFiles, FileFault, Files};
+use failing::Failed;
 use std::alloc::{AllocError, Global};
-use std::path::PathBuf;
-use std::process::Abort;
+use std::fs;
 use std::sync::Wait;
-use std::test::Fail;
 use std::thread::Threads;
-use std::{env, fs, process};
 
-// SHA-256 of 1,048,576 bytes of zero, and the hash of the header of block 0 with it.
-const LONGEST_DATA: [u8; 32] = [
-    0x30, 0xe1, 0x49, 0x55, 0xeb, 0xf1, 0x35, 0x22, 0x66, 0xdc, 0x2f, 0xf8, 0x06, 0x7e, 0x68, 0x10,
-    0x46, 0x07, 0xe7, 0x50, 0xab, 0xb9, 0xd3, 0xb3, 0x65, 0x82, 0xb8, 0xaf, 0x90, 0x9f, 0xcb, 0x58,
-];
-
-const LONGEST: &str =
-    "accepted 0 60327d0f9550cab73a295aa419ac4f53a7222334903460d74e764ab0a063a75f 2\n";
-
-// The path of a file of this process.
-pub(crate) fn place(rt: &HostRuntime, name: &str) -> Result<PathBuf, Fail> {
-    let id = process::id(rt.process());
-    let name = format!(in rt.alloc(); "fabcommit-{id}-{name}")?;
-    Ok(env::temp_dir(rt)?.join(rt.alloc(), name.as_str())?)
+enum Large {
+    /// One transaction of so many bytes.
+    One(u32),
+    /// So many transactions without bytes.
+    Empty(u32),
 }
+
+impl Large {
+    fn block(&self, alloc: Global) -> Result<Vec<u8>, AllocError> {
+        match *self {
+            Large::One(length) => block_of_one(alloc, length),
+            Large::Empty(count) => block_of_empty(alloc, count),
+        }
+    }
+}
+
+/// A block, the status, and the line but for its flags, of which there are so many.
+struct Case {
+    block: Large,
+    status: u8,
+    front: &'static str,
+    flags: usize,
+}
+
+fn cases() -> &'static [Case] {
+    &CASES
+}
+
+static CASES: [Case; 4] = [
+    Case {
+        block: Large::One(1 << 20),
+        status: 0,
+        front: "accepted 0 60327d0f9550cab73a295aa419ac4f53a7222334903460d74e764ab0a063a75f",
+        flags: 1,
+    },
+    Case {
+        block: Large::One((1 << 20) + 1),
+        status: 1,
+        front: "refused 1 C1 B5",
+        flags: 0,
+    },
+    // The header, and so its hash, is the empty block's.
+    Case {
+        block: Large::Empty(4096),
+        status: 0,
+        front: "accepted 0 9cae6f5c10756febc407bba95fc23853774c1f65f10354895bfdab6443d66ed3",
+        flags: 4096,
+    },
+    Case {
+        block: Large::Empty(4097),
+        status: 1,
+        front: "refused 1 C1 B4",
+        flags: 0,
+    },
+];
 
 // How the program ends that is handed in a block from a file of the host.
 fn ended_at<R: AllocGlobal + Threads + Wait + Sync>(
@@ -50,86 +90,56 @@ fn ended_at<R: AllocGlobal + Threads + Wait + Sync>(
     Ok(ended(rt, &files, &words))
 }
 
-// Wants this status and these lines, where this block is handed in from a file of the host.
-fn expect_lines(
-    rt: &(impl Abort + AllocGlobal + Threads + Wait + Sync),
-    host: &HostRuntime,
-    block: &[u8],
-    status: u8,
-    lines: &str,
-) -> Result<(), Fail> {
-    let channel = place(host, "channel")?;
-    let keys = place(host, "keys")?;
-    let path = place(host, "block")?;
-    expect_lines_at(
-        rt,
-        host,
-        [channel.as_str(), keys.as_str(), path.as_str()],
-        block,
-        status,
-        lines,
-    );
-    Ok(())
-}
-
-fn expect_lines_at(
-    rt: &(impl Abort + AllocGlobal + Threads + Wait + Sync),
+fn is_said_at(
+    rt: &(impl AllocGlobal + Threads + Wait + Sync),
     host: &HostRuntime,
     paths: [&str; 3],
     block: &[u8],
-    status: u8,
-    lines: &str,
-) {
+    case: &Case,
+) -> Result<bool, Failed> {
     let got = ended_at(rt, host, paths, block);
     for path in paths {
         let _ = fs::remove_file(host, path);
     }
     match got {
-        Ok(ended) => expect_end(rt, &ended, &["run"], status, lines, ""),
-        Err(_) => assert!(rt; false),
+        Ok(ended) => is_line(rt.alloc(), &ended, case),
+        Err(_) => Ok(false),
     }
 }
 
-// A block with one transaction of so many bytes of zero.
-fn block_of_one(alloc: Global, length: u32) -> Result<Vec<u8>, AllocError> {
-    let zeros = vec![in alloc; 0; length as usize]?;
-    let txs = [b"\0\0\0\x01".as_slice(), &length.to_be_bytes(), &zeros].concat(alloc)?;
-    large_block(alloc, &LONGEST_DATA, &txs)
+// Whether it ends as the case says.
+fn is_line(alloc: Global, ended: &End, case: &Case) -> Result<bool, Failed> {
+    let line = long_text(alloc, case.front, " 2", case.flags, "\n")?;
+    Ok(is_said(ended, &("run", case.status, line.as_str(), "")))
+}
+
+// Whether what is said of this block is what the case says.
+fn is_said_of(
+    rt: &(impl AllocGlobal + Threads + Wait + Sync),
+    host: &HostRuntime,
+    block: &[u8],
+    case: &Case,
+) -> Result<bool, Failed> {
+    let channel = place(host, "channel")?;
+    let keys = place(host, "keys")?;
+    let path = place(host, "block")?;
+    let paths = [channel.as_str(), keys.as_str(), path.as_str()];
+    is_said_at(rt, host, paths, block, case)
+}
+
+fn is_so(
+    rt: &(impl AllocGlobal + Threads + Wait + Sync),
+    host: &HostRuntime,
+    case: &Case,
+) -> Result<bool, Failed> {
+    let block = case.block.block(rt.alloc())?;
+    is_said_of(rt, host, &block, case)
 }
 
 #[test]
-fn the_longest_transaction(rt: HostRuntime) -> Result<(), Fail> {
-    let rows = [
-        (1 << 20, 0, LONGEST),
-        ((1 << 20) + 1, 1, "refused 1 C1 B5\n"),
-    ];
-    for (length, status, lines) in rows {
-        let block = block_of_one(rt.alloc(), length)?;
-        expect_lines(&rt, &rt, &block, status, lines)?;
-    }
-    Ok(())
-}
-
-// The line of a block of 4096 transactions without bytes: the header, and so its hash, is the empty block's.
-fn line_of_most(alloc: Global) -> Result<String, AllocError> {
-    let flags = " 2".repeat(alloc, 4096)?;
-    format!(in alloc;
-        "accepted 0 9cae6f5c10756febc407bba95fc23853774c1f65f10354895bfdab6443d66ed3{flags}\n"
-    )
-}
-
-fn block_of_empty(alloc: Global, count: u32) -> Result<Vec<u8>, AllocError> {
-    let txs = empty_ones(alloc, count)?;
-    large_block(alloc, &NO_DATA, &txs)
-}
-
-#[test]
-fn the_most_transactions(rt: HostRuntime) -> Result<(), Fail> {
-    let line = line_of_most(rt.alloc())?;
-    let rows = [(4096, 0, line.as_str()), (4097, 1, "refused 1 C1 B4\n")];
-    for (count, status, lines) in rows {
-        let block = block_of_empty(rt.alloc(), count)?;
-        expect_lines(&rt, &rt, &block, status, lines)?;
+fn blocks_at_their_limits(rt: HostRuntime) -> Result<(), Failed> {
+    for case in cases() {
+        assert!(rt; is_so(&rt, &rt, case)?, "{}", case.front);
     }
     Ok(())
 }

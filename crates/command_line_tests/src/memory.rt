@@ -1,30 +1,54 @@
 //! Each subcommand where memory is refused: it ends behind whole lines of what it says otherwise, and when it is called
 //! again it says all.
 
-use crate::drafted::vectors::{answers, first_block, first_script, second_block, third_block};
+use crate::drafted::first_script_files;
+use crate::drafted::vectors::{answers, first_block, second_block, third_block};
+use crate::explained::sample;
 use crate::explained::vectors::lines;
-use crate::explained::{answered, sample};
-use crate::fixture::{CHANNEL, End, File, MemoryFiles, OneOut, Row};
+use crate::files::{File, MemoryFiles, OneOut};
+use crate::fixture::{CHANNEL, End, Row, answered, is_said};
 use crate::signatures::keys;
+use command_line::Files;
 use failing::{Failed, Outcome, begins};
+use std::alloc::AllocError;
 use std::cell::Cell;
 use std::sync::Wait;
 use std::thread::Threads;
 
-fn is_said(ended: &End, row: &Row<'_>) -> bool {
-    let (_, status, out, err) = *row;
-    ended.status == status
-        && ended.out.as_slice() == out.as_bytes()
-        && ended.err.as_slice() == err.as_bytes()
+/// How much of its lines a run says.
+#[derive(Clone, Copy, PartialEq, Eq)]
+enum Said {
+    All,
+    // memory ran out behind whole lines
+    Front,
+    Other,
 }
 
-// Whether memory ran out behind whole lines of these.
-fn is_cut(ended: &End, lines: &str) -> bool {
+fn is_front(ended: &End, lines: &str) -> bool {
     let out = ended.out.as_slice();
     ended.status == 4
         && ended.err.as_slice() == b"out of memory\n".as_slice()
         && lines.as_bytes().starts_with(out)
         && (out.is_empty() || out.ends_with(b"\n"))
+}
+
+fn said_of(ended: &End, row: &Row<'_>) -> Said {
+    if is_said(ended, row) {
+        Said::All
+    } else if is_front(ended, row.2) {
+        Said::Front
+    } else {
+        Said::Other
+    }
+}
+
+fn told<F: Files>(
+    rt: &(impl AllocGlobal + Threads + Wait + Sync),
+    files: &F,
+    row: &Row<'_>,
+) -> Result<Said, AllocError> {
+    let ended = answered(rt, files, row.0)?;
+    Ok(said_of(&ended, row))
 }
 
 fn outcome_of_row(
@@ -33,12 +57,12 @@ fn outcome_of_row(
     row: &Row<'_>,
 ) -> Result<Outcome, Failed> {
     begins(rt.alloc())?;
-    let ended = answered(rt, &MemoryFiles(files), row.0)?;
-    if is_said(&ended, row) {
+    let first = told(rt, &MemoryFiles(files), row)?;
+    if first == Said::All {
         return Ok(Outcome::Done);
     }
-    let again = answered(rt, &MemoryFiles(files), row.0)?;
-    if is_cut(&ended, row.2) && is_said(&again, row) {
+    let again = told(rt, &MemoryFiles(files), row)?;
+    if first == Said::Front && again == Said::All {
         Ok(Outcome::MadeGood)
     } else {
         Ok(Outcome::Wrong)
@@ -64,35 +88,17 @@ fn outcome_of_answer(
     Err(Failed::Missing("an answer"))
 }
 
-pub(crate) fn outcome_of_run(
-    rt: &(impl AllocGlobal + Threads + Wait + Sync),
-) -> Result<Outcome, Failed> {
-    outcome_of_answer(rt, "run --workers 2 --readers 2 b0 b0 b1 k")
-}
+const RUN: &str = "run --workers 2 --readers 2 b0 b0 b1 k";
 
-pub(crate) fn outcome_of_get(
-    rt: &(impl AllocGlobal + Threads + Wait + Sync),
-) -> Result<Outcome, Failed> {
-    outcome_of_answer(rt, "get --ns cc --key k1 b0 b0")
-}
+const GET: &str = "get --ns cc --key k1 b0 b0";
 
-pub(crate) fn outcome_of_scan(
-    rt: &(impl AllocGlobal + Threads + Wait + Sync),
-) -> Result<Outcome, Failed> {
-    outcome_of_answer(rt, "scan --ns cc --start % --end % --limit 2 b0 b1")
-}
+const SCAN: &str = "scan --ns cc --start % --end % --limit 2 b0 b1";
 
-pub(crate) fn outcome_of_history(
-    rt: &(impl AllocGlobal + Threads + Wait + Sync),
-) -> Result<Outcome, Failed> {
-    outcome_of_answer(rt, "history --ns cc --key a%20%25 b0 b1")
-}
+const HISTORY: &str = "history --ns cc --key a%20%25 b0 b1";
 
-pub(crate) fn outcome_of_definition(
-    rt: &(impl AllocGlobal + Threads + Wait + Sync),
-) -> Result<Outcome, Failed> {
-    outcome_of_answer(rt, "definition --ns cc b0 b1 b2")
-}
+const DEFINITION: &str = "definition --ns cc b0 b1 b2";
+
+static ASKED: [&str; 5] = [RUN, GET, SCAN, HISTORY, DEFINITION];
 
 pub(crate) fn outcome_of_explain(
     rt: &(impl AllocGlobal + Threads + Wait + Sync),
@@ -105,21 +111,22 @@ pub(crate) fn outcome_of_explain(
 pub(crate) fn outcome_of_draft(
     rt: &(impl AllocGlobal + Threads + Wait + Sync),
 ) -> Result<Outcome, Failed> {
-    let files = [("c", CHANNEL), ("k", keys()), ("s", first_script())];
+    let files = first_script_files();
+    let written = Cell::new(0);
     let files = OneOut {
         files: MemoryFiles(&files),
         out: ("out", first_block()),
-        written: Cell::new(0),
+        room: usize::MAX,
+        written: &written,
     };
     let row = ("draft s out", 0, "", "");
     begins(rt.alloc())?;
-    let ended = answered(rt, &files, row.0)?;
-    if is_said(&ended, &row) && files.written.get() == 1 {
+    let first = (told(rt, &files, &row)?, written.get());
+    if first == (Said::All, 1) {
         return Ok(Outcome::Done);
     }
-    let is_cut = is_cut(&ended, "") && files.written.get() == 0;
-    let again = answered(rt, &files, row.0)?;
-    if is_cut && is_said(&again, &row) && files.written.get() == 1 {
+    let again = (told(rt, &files, &row)?, written.get());
+    if first == (Said::Front, 0) && again == (Said::All, 1) {
         Ok(Outcome::MadeGood)
     } else {
         Ok(Outcome::Wrong)
@@ -129,12 +136,13 @@ pub(crate) fn outcome_of_draft(
 // To be tried with memory that is refused at any one allocation, by `bench/refused_memory.py`.
 #[test]
 fn each_subcommand(rt: HostRuntime) -> Result<(), Failed> {
-    assert!(rt; outcome_of_draft(&rt)? == Outcome::Done);
-    assert!(rt; outcome_of_run(&rt)? == Outcome::Done);
-    assert!(rt; outcome_of_get(&rt)? == Outcome::Done);
-    assert!(rt; outcome_of_scan(&rt)? == Outcome::Done);
-    assert!(rt; outcome_of_history(&rt)? == Outcome::Done);
-    assert!(rt; outcome_of_definition(&rt)? == Outcome::Done);
+    for words in &ASKED {
+        assert!(rt;
+            outcome_of_answer(&rt, words)? == Outcome::Done,
+            "{words:?}"
+        );
+    }
     assert!(rt; outcome_of_explain(&rt)? == Outcome::Done);
+    assert!(rt; outcome_of_draft(&rt)? == Outcome::Done);
     Ok(())
 }

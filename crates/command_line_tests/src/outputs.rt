@@ -1,16 +1,31 @@
-// Writers that fail.
-use crate::fixture::{
-    CHANNEL, File, Full, KEYS, MemoryFiles, NO_DATA, empty_ones, expect_into, first_block,
-    large_block,
-};
+//! Writers that fail.
+
+use crate::files::{File, MemoryFiles};
+use crate::fixture::{CHANNEL, FIRST_BLOCK, KEYS};
+use crate::full::{FAULT, Full, ends_into};
+use crate::large::block_of_empty;
 use command_line::program;
 use std::alloc::{AllocError, Global};
 use std::io::ErrorKind;
-use std::process::Abort;
 use std::sync::Wait;
 use std::thread::Threads;
 
-const WORDS: [&str; 10] = [
+/// A writer, a run into it, what is taken of it, and how it ends.
+struct Case {
+    files: &'static [File<'static>],
+    words: &'static [&'static str],
+    room: usize,
+    kind: ErrorKind,
+    flushes: bool,
+    taken: Option<&'static str>,
+    status: u8,
+    err: &'static str,
+}
+
+const FILES: &[File<'static>] = &[("c", CHANNEL), ("k", KEYS), ("b0", FIRST_BLOCK)];
+
+// The block 0 twice, and then a reader.
+const WORDS: &[&str] = &[
     "fabcommit",
     "run",
     "--workers=2",
@@ -23,21 +38,7 @@ const WORDS: [&str; 10] = [
     "--readers=1",
 ];
 
-// Runs the block 0 twice into this writer, and then a reader, and wants this end and these bytes taken by it.
-fn expect_end(
-    rt: &(impl Abort + AllocGlobal + Threads + Wait + Sync),
-    mut out: Full,
-    taken: &str,
-    status: u8,
-    err: &str,
-) {
-    let block = first_block();
-    let files = [("c", CHANNEL), ("k", KEYS), ("b0", block.as_slice())];
-    expect_into(rt, &MemoryFiles(&files), &WORDS, &mut out, status, err);
-    assert!(rt; out.taken.as_slice() == taken.as_bytes());
-}
-
-const FAULT: &str = "cannot write standard output\n";
+const HELP: &[&str] = &["fabcommit", "--help"];
 
 const ALL: &str = "\
 accepted 0 9cae6f5c10756febc407bba95fc23853774c1f65f10354895bfdab6443d66ed3
@@ -45,92 +46,187 @@ refused 2 C2 want 1 got 0
 reader 1 height 1
 ";
 
-// What is taken of them before the first line, and in the middle of each other.
-const FRONTS: [&str; 3] = [
-    "",
-    "accepted 0 9cae6f5c10756febc407bba95fc23853774c1f65f10354895bfdab6443d66ed3\nrefused",
-    "accepted 0 9cae6f5c10756febc407bba95fc23853774c1f65f10354895bfdab6443d66ed3\n\
-    refused 2 C2 want 1 got 0\nreader 1",
+fn cases() -> &'static [Case] {
+    &CASES
+}
+
+static CASES: [Case; 8] = [
+    // before the first line, and in the middle of each other
+    Case {
+        files: FILES,
+        words: WORDS,
+        room: 0,
+        kind: ErrorKind::StorageFull,
+        flushes: true,
+        taken: Some(""),
+        status: 3,
+        err: FAULT,
+    },
+    Case {
+        files: FILES,
+        words: WORDS,
+        room: 83,
+        kind: ErrorKind::StorageFull,
+        flushes: true,
+        taken: Some(
+            "accepted 0 9cae6f5c10756febc407bba95fc23853774c1f65f10354895bfdab6443d66ed3\nrefused",
+        ),
+        status: 3,
+        err: FAULT,
+    },
+    Case {
+        files: FILES,
+        words: WORDS,
+        room: 110,
+        kind: ErrorKind::StorageFull,
+        flushes: true,
+        taken: Some(
+            "accepted 0 9cae6f5c10756febc407bba95fc23853774c1f65f10354895bfdab6443d66ed3\n\
+            refused 2 C2 want 1 got 0\nreader 1",
+        ),
+        status: 3,
+        err: FAULT,
+    },
+    // when all is written
+    Case {
+        files: FILES,
+        words: WORDS,
+        room: 1000,
+        kind: ErrorKind::StorageFull,
+        flushes: false,
+        taken: Some(ALL),
+        status: 3,
+        err: FAULT,
+    },
+    // for want of memory
+    Case {
+        files: FILES,
+        words: WORDS,
+        room: 0,
+        kind: ErrorKind::OutOfMemory,
+        flushes: true,
+        taken: Some(""),
+        status: 4,
+        err: "out of memory\n",
+    },
+    Case {
+        files: FILES,
+        words: WORDS,
+        room: 1000,
+        kind: ErrorKind::StorageFull,
+        flushes: true,
+        taken: Some(ALL),
+        status: 1,
+        err: "",
+    },
+    // help that cannot be written
+    Case {
+        files: &[],
+        words: HELP,
+        room: 10,
+        kind: ErrorKind::StorageFull,
+        flushes: true,
+        taken: None,
+        status: 3,
+        err: FAULT,
+    },
+    Case {
+        files: &[],
+        words: HELP,
+        room: 10_000,
+        kind: ErrorKind::StorageFull,
+        flushes: false,
+        taken: None,
+        status: 3,
+        err: FAULT,
+    },
 ];
 
-fn unflushed(alloc: Global) -> Full {
-    Full {
-        flushes: false,
-        ..Full::after(alloc, 1000)
+fn is_taken(out: &Full, wanted: Option<&str>) -> bool {
+    match wanted {
+        Some(text) => out.taken.as_slice() == text.as_bytes(),
+        None => true,
     }
 }
 
-fn without_memory(alloc: Global) -> Full {
-    Full {
-        kind: ErrorKind::OutOfMemory,
-        ..Full::after(alloc, 0)
-    }
+fn is_so(rt: &(impl AllocGlobal + Threads + Wait + Sync), case: &Case) -> bool {
+    let mut out = Full {
+        kind: case.kind,
+        flushes: case.flushes,
+        ..Full::after(rt.alloc(), case.room)
+    };
+    let files = MemoryFiles(case.files);
+    ends_into(rt, &files, case.words, &mut out, case.status, case.err) && is_taken(&out, case.taken)
 }
 
 #[test]
 fn standard_output_that_fails(rt: HostRuntime) {
-    let alloc = rt.alloc();
-    for front in FRONTS {
-        expect_end(&rt, Full::after(alloc, front.len()), front, 3, FAULT);
+    for (number, case) in cases().iter().enumerate() {
+        assert!(rt; is_so(&rt, case), "case {number}");
     }
-    // when all is written
-    expect_end(&rt, unflushed(alloc), ALL, 3, FAULT);
-    // for want of memory
-    expect_end(&rt, without_memory(alloc), "", 4, "out of memory\n");
-    expect_end(&rt, Full::after(alloc, 1000), ALL, 1, "");
 }
 
-// To a writer that takes nothing at first and all later.
-fn expect_nothing_behind_a_failure(
-    rt: &(impl Abort + AllocGlobal + Threads + Wait + Sync),
-    files: &[File<'_>],
+// Whether nothing is written to a writer that takes nothing at first and all later.
+fn is_nothing_behind(
+    rt: &(impl AllocGlobal + Threads + Wait + Sync),
+    block: &[u8],
     words: &[&str],
-) {
+) -> bool {
     let mut out = Full::after(rt.alloc(), 0);
     out.failures = 1;
-    expect_into(rt, &MemoryFiles(files), words, &mut out, 3, FAULT);
-    assert!(rt; out.taken.is_empty());
+    let files = [("c", CHANNEL), ("k", KEYS), ("b", block)];
+    ends_into(rt, &MemoryFiles(&files), words, &mut out, 3, FAULT) && out.taken.is_empty()
+}
+
+static RUN: [&str; 8] = [
+    "fabcommit",
+    "run",
+    "--workers=2",
+    "--channel",
+    "c",
+    "--keys",
+    "k",
+    "b",
+];
+
+fn words_of_many(alloc: Global, blocks: usize) -> Result<Vec<&'static str>, AllocError> {
+    let mut words = Vec::from_slice(alloc, &RUN[..7])?;
+    for _ in 0..blocks {
+        words.push("b")?;
+    }
+    Ok(words)
 }
 
 // More lines than a buffer holds.
-#[test]
-fn nothing_is_written_behind_a_failure(rt: HostRuntime) -> Result<(), AllocError> {
-    let files = [("c", CHANNEL), ("k", KEYS), ("b", b"".as_slice())];
-    let blocks = vec![in rt.alloc(); "b"; 5000]?;
-    let words = [&WORDS[..7], &blocks].concat(rt.alloc())?;
-    expect_nothing_behind_a_failure(&rt, &files, &words);
-    Ok(())
+fn is_nothing_behind_lines(
+    rt: &(impl AllocGlobal + Threads + Wait + Sync),
+) -> Result<bool, AllocError> {
+    let words = words_of_many(rt.alloc(), 5000)?;
+    Ok(is_nothing_behind(rt, b"", &words))
 }
 
 // One line that is longer than a buffer, of an accepted block.
+fn is_nothing_behind_line(
+    rt: &(impl AllocGlobal + Threads + Wait + Sync),
+) -> Result<bool, AllocError> {
+    let block = block_of_empty(rt.alloc(), 4096)?;
+    Ok(is_nothing_behind(rt, &block, &RUN))
+}
+
 #[test]
-fn nothing_is_written_behind_a_failed_line(rt: HostRuntime) -> Result<(), AllocError> {
-    let txs = empty_ones(rt.alloc(), 4096)?;
-    let block = large_block(rt.alloc(), &NO_DATA, &txs)?;
-    let files = [("c", CHANNEL), ("k", KEYS), ("b0", block.as_slice())];
-    expect_nothing_behind_a_failure(&rt, &files, &WORDS[..8]);
+fn nothing_is_written_behind_a_failure(rt: HostRuntime) -> Result<(), AllocError> {
+    assert!(rt; is_nothing_behind_lines(&rt)?);
+    assert!(rt; is_nothing_behind_line(&rt)?);
     Ok(())
 }
 
-fn expect_no_help(
-    rt: &(impl Abort + AllocGlobal + Threads + Wait + Sync),
-    room: usize,
-    flushes: bool,
-) {
-    let mut out = Full::after(rt.alloc(), room);
-    out.flushes = flushes;
-    let words = ["fabcommit", "--help"];
-    expect_into(rt, &MemoryFiles(&[]), &words, &mut out, 3, FAULT);
+// Whether the program whose standard error takes three bytes ends so, and writes nothing to standard output.
+fn is_silent(rt: &(impl AllocGlobal + Threads + Wait + Sync), words: &[&str], status: u8) -> bool {
+    let mut out = Full::after(rt.alloc(), 1000);
+    let got = status_without_error(rt, words, &mut out);
+    got == status && out.taken.is_empty()
 }
 
-#[test]
-fn help_that_cannot_be_written(rt: HostRuntime) {
-    for (room, flushes) in [(10, true), (10_000, false)] {
-        expect_no_help(&rt, room, flushes);
-    }
-}
-
-// How the program ends whose standard error takes three bytes, and what it writes to standard output.
 fn status_without_error<R: AllocGlobal + Threads + Wait + Sync>(
     rt: &R,
     words: &[&str],
@@ -142,10 +238,6 @@ fn status_without_error<R: AllocGlobal + Threads + Wait + Sync>(
 
 #[test]
 fn standard_error_that_fails(rt: HostRuntime) {
-    let mut out = Full::after(rt.alloc(), 1000);
-    let rows: [(&[&str], u8); 2] = [(&WORDS, 3), (&["fabcommit", "run"], 2)];
-    for (words, want) in rows {
-        assert!(rt; status_without_error(&rt, words, &mut out) == want);
-    }
-    assert!(rt; out.taken.len() == 0);
+    assert!(rt; is_silent(&rt, WORDS, 3));
+    assert!(rt; is_silent(&rt, &["fabcommit", "run"], 2));
 }

@@ -1,51 +1,137 @@
-// Faults of the files, each of which ends the program before any block is handed in.
-use crate::fixture::{CHANNEL, File, KEYS, MemoryFiles, expect, first_block};
-use command_line::{FileFault, Files};
+//! Faults of the files, each of which ends the program before any block is handed in.
+
+use crate::files::{File, MemoryFiles, ScarceFiles};
+use crate::fixture::{
+    CHANNEL, FIRST_BLOCK, KEYS, Row, Scene, ended, is_answered, is_said, unlike_of,
+};
 use std::alloc::{AllocError, Global};
-use std::process::Abort;
 use std::sync::Wait;
 use std::thread::Threads;
-use values::Bytes;
 
-const WORDS: [&str; 7] = [
+const RUN: &str = "run --channel c.txt --keys k.txt b0";
+
+const C: File = ("c.txt", CHANNEL);
+
+const K: File = ("k.txt", KEYS);
+
+const B0: File = ("b0", FIRST_BLOCK);
+
+// Keys that have a fault of their own.
+const NO_KEYS: File = ("k.txt", b"\xff");
+
+fn scenes() -> &'static [Scene<'static>] {
+    &SCENES
+}
+
+static SCENES: [Scene; 17] = [
+    // Faults of the channel's text. A line that isn't UTF-8 goes before the fault of an earlier one.
+    (
+        &[("c.txt", b"nonsense\n\xffchannel ch\n"), NO_KEYS, B0],
+        &[(RUN, 3, "", "c.txt line 2\n")],
+    ),
+    (
+        &[("c.txt", b"nonsense\nchannel ch\n"), NO_KEYS, B0],
+        &[(RUN, 3, "", "c.txt line 1\n")],
+    ),
+    (
+        &[("c.txt", b"# \n\nchannel ch\nchannel ch\n"), NO_KEYS, B0],
+        &[(RUN, 3, "", "c.txt line 4\n")],
+    ),
+    (
+        &[
+            (
+                "c.txt",
+                b"channel ch\nchaincode cc 'A.peer'\nchaincode cc 'A.peer'\n",
+            ),
+            NO_KEYS,
+            B0,
+        ],
+        &[(RUN, 3, "", "c.txt line 3\n")],
+    ),
+    (
+        &[("c.txt", b"channel ch\nchaincode cc\n"), NO_KEYS, B0],
+        &[(RUN, 3, "", "c.txt line 2\n")],
+    ),
+    // A line whose policy has a fault, which isn't told.
+    (
+        &[("c.txt", b"channel ch\nchaincode cc AND(\n"), NO_KEYS, B0],
+        &[(RUN, 3, "", "c.txt line 2\n")],
+    ),
+    (
+        &[
+            ("c.txt", b"channel ch\nchaincode cc 'A.boss'\n"),
+            NO_KEYS,
+            B0,
+        ],
+        &[(RUN, 3, "", "c.txt line 2\n")],
+    ),
+    (
+        &[("c.txt", b"chaincode cc 'A.peer'\n"), NO_KEYS, B0],
+        &[(RUN, 3, "", "c.txt no channel\n")],
+    ),
+    (
+        &[("c.txt", b""), NO_KEYS, B0],
+        &[(RUN, 3, "", "c.txt no channel\n")],
+    ),
+    (
+        &[("c.txt", b"\xff"), NO_KEYS, B0],
+        &[(RUN, 3, "", "c.txt line 1\n")],
+    ),
+    // Faults of the key book, where no block can be read.
+    (
+        &[C, ("k.txt", b"# keys\nOrg1:peer:p0 0b0\n")],
+        &[(RUN, 3, "", "k.txt line 2\n")],
+    ),
+    (
+        &[
+            C,
+            (
+                "k.txt",
+                b"Org1:peer:p0 0b\nOrg2:peer:p0 0b\nOrg1:peer:p0 0c\n",
+            ),
+        ],
+        &[(RUN, 3, "", "k.txt line 3\n")],
+    ),
+    (
+        &[C, ("k.txt", b"nonsense\n\n\xff")],
+        &[(RUN, 3, "", "k.txt line 3\n")],
+    ),
+    (
+        &[C, ("k.txt", b"Org1:king:p0 0b\n")],
+        &[(RUN, 3, "", "k.txt line 1\n")],
+    ),
+    // Files that cannot be read.
+    (&[], &[(RUN, 3, "", "cannot read c.txt\n")]),
+    (&[C], &[(RUN, 3, "", "cannot read k.txt\n")]),
+    (&[C, K], &[(RUN, 3, "", "cannot read b0\n")]),
+];
+
+static LAST_UNREAD: [&str; 11] = [
     "fabcommit",
     "run",
+    "--workers=2",
+    "--readers=2",
     "--channel",
     "c.txt",
     "--keys",
     "k.txt",
     "b0",
+    "b0",
+    "no such/b 1",
 ];
 
+// Whether nothing is said of two blocks before a third one that cannot be read.
+fn is_last_unread(rt: &(impl AllocGlobal + Threads + Wait + Sync)) -> bool {
+    let ended = ended(rt, &MemoryFiles(&[C, K, B0]), &LAST_UNREAD);
+    is_said(&ended, &("", 3, "", "cannot read no such/b 1\n"))
+}
+
 #[test]
-fn faults_of_the_channel_text(rt: HostRuntime) {
-    let block = first_block();
-    let rows: [(&[u8], &str); 10] = [
-        // A line that isn't UTF-8 goes before the fault of an earlier one.
-        (b"nonsense\n\xffchannel ch\n", "c.txt line 2\n"),
-        (b"nonsense\nchannel ch\n", "c.txt line 1\n"),
-        (b"# \n\nchannel ch\nchannel ch\n", "c.txt line 4\n"),
-        (
-            b"channel ch\nchaincode cc 'A.peer'\nchaincode cc 'A.peer'\n",
-            "c.txt line 3\n",
-        ),
-        (b"channel ch\nchaincode cc\n", "c.txt line 2\n"),
-        // A line whose policy has a fault, which isn't told.
-        (b"channel ch\nchaincode cc AND(\n", "c.txt line 2\n"),
-        (b"channel ch\nchaincode cc 'A.boss'\n", "c.txt line 2\n"),
-        (b"chaincode cc 'A.peer'\n", "c.txt no channel\n"),
-        (b"", "c.txt no channel\n"),
-        (b"\xff", "c.txt line 1\n"),
-    ];
-    for (channel, err) in &rows {
-        // The keys would have a fault of their own.
-        let files = [
-            ("c.txt", *channel),
-            ("k.txt", b"\xff".as_slice()),
-            ("b0", block.as_slice()),
-        ];
-        expect(&rt, &MemoryFiles(&files), &WORDS, 3, "", err);
-    }
+fn faults_of_the_files(rt: HostRuntime) -> Result<(), AllocError> {
+    let unlike = unlike_of(&rt, scenes())?;
+    assert!(rt; unlike.is_none(), "{unlike:?}");
+    assert!(rt; is_last_unread(&rt));
+    Ok(())
 }
 
 // A channel text of so many chaincodes.
@@ -58,107 +144,53 @@ fn channel_of(alloc: Global, chaincodes: u16) -> Result<String, AllocError> {
     Ok(channel)
 }
 
+fn are_too_many(
+    rt: &(impl AllocGlobal + Threads + Wait + Sync),
+    chaincodes: u16,
+) -> Result<bool, AllocError> {
+    let channel = channel_of(rt.alloc(), chaincodes)?;
+    let files = [("c.txt", channel.as_bytes())];
+    is_answered(rt, &MemoryFiles(&files), &(RUN, 3, "", "c.txt line 258\n"))
+}
+
 #[test]
 fn too_many_chaincodes(rt: HostRuntime) -> Result<(), AllocError> {
-    let channel = channel_of(rt.alloc(), 257)?;
-    let files = [("c.txt", channel.as_bytes())];
-    let err = "c.txt line 258\n";
-    expect(&rt, &MemoryFiles(&files), &WORDS, 3, "", err);
+    assert!(rt; are_too_many(&rt, 257)?);
     Ok(())
 }
 
-#[test]
-fn faults_of_the_key_book(rt: HostRuntime) {
-    let rows: [(&[u8], &str); 4] = [
-        (b"# keys\nOrg1:peer:p0 0b0\n", "k.txt line 2\n"),
-        (
-            b"Org1:peer:p0 0b\nOrg2:peer:p0 0b\nOrg1:peer:p0 0c\n",
-            "k.txt line 3\n",
-        ),
-        (b"nonsense\n\n\xff", "k.txt line 3\n"),
-        (b"Org1:king:p0 0b\n", "k.txt line 1\n"),
-    ];
-    for (keys, err) in &rows {
-        // No block can be read.
-        let files = [("c.txt", CHANNEL), ("k.txt", *keys)];
-        expect(&rt, &MemoryFiles(&files), &WORDS, 3, "", err);
-    }
+const WANT: &str = "out of memory\n";
+
+fn scarce() -> &'static [(&'static str, Row<'static>)] {
+    &SCARCE
 }
 
-fn expect_unread(
-    rt: &(impl Abort + AllocGlobal + Threads + Wait + Sync),
-    files: &[File<'_>],
-    words: &[&str],
-    err: &str,
-) {
-    expect(rt, &MemoryFiles(files), words, 3, "", err);
-}
+// Where memory runs out, which is at a file that is read or at the one that is written.
+static SCARCE: [(&str, Row); 4] = [
+    ("c.txt", (RUN, 4, "", WANT)),
+    ("k.txt", (RUN, 4, "", WANT)),
+    ("b0", (RUN, 4, "", WANT)),
+    ("out", ("draft s out", 4, "", WANT)),
+];
 
-#[test]
-fn files_that_cannot_be_read(rt: HostRuntime) {
-    let block = first_block();
-    let (channel, keys) = (("c.txt", CHANNEL), ("k.txt", KEYS));
-    expect_unread(&rt, &[], &WORDS, "cannot read c.txt\n");
-    expect_unread(&rt, &[channel], &WORDS, "cannot read k.txt\n");
-    expect_unread(&rt, &[channel, keys], &WORDS, "cannot read b0\n");
-    let files = [channel, keys, ("b0", block.as_slice())];
-    // The third block of three, and nothing is said of the two before it.
-    let words = [
-        "fabcommit",
-        "run",
-        "--workers=2",
-        "--readers=2",
-        "--channel",
-        "c.txt",
-        "--keys",
-        "k.txt",
-        "b0",
-        "b0",
-        "no such/b 1",
-    ];
-    expect_unread(&rt, &files, &words, "cannot read no such/b 1\n");
-}
+static FILES: [File; 6] = [C, K, B0, ("c", CHANNEL), ("k", KEYS), ("s", b"")];
 
-// Files in memory, but that memory runs out at one of them.
-#[derive(Drop)]
-struct TooLarge<'a> {
-    files: MemoryFiles<'a>,
-    path: &'a str,
-}
-
-impl Files for TooLarge<'_> {
-    fn read(&self, alloc: Global, path: &str) -> Result<Bytes, FileFault> {
-        if path == self.path {
-            return Err(FileFault::Memory);
-        }
-        self.files.read(alloc, path)
-    }
-
-    fn write(&self, path: &str, bytes: &[u8]) -> Result<(), FileFault> {
-        self.files.write(path, bytes)
-    }
-}
-
-fn expect_want_of_memory(
-    rt: &(impl Abort + AllocGlobal + Threads + Wait + Sync),
-    files: &TooLarge<'_>,
-) {
-    expect(rt, files, &WORDS, 4, "", "out of memory\n");
+fn is_scarce(
+    rt: &(impl AllocGlobal + Threads + Wait + Sync),
+    path: &'static str,
+    row: &Row<'_>,
+) -> Result<bool, AllocError> {
+    let files = ScarceFiles {
+        files: MemoryFiles(&FILES),
+        path,
+    };
+    is_answered(rt, &files, row)
 }
 
 #[test]
-fn a_file_for_which_memory_is_missing(rt: HostRuntime) {
-    let block = first_block();
-    let files = [
-        ("c.txt", CHANNEL),
-        ("k.txt", KEYS),
-        ("b0", block.as_slice()),
-    ];
-    for path in ["c.txt", "k.txt", "b0"] {
-        let files = TooLarge {
-            files: MemoryFiles(&files),
-            path,
-        };
-        expect_want_of_memory(&rt, &files);
+fn a_file_for_which_memory_is_missing(rt: HostRuntime) -> Result<(), AllocError> {
+    for (path, row) in scarce() {
+        assert!(rt; is_scarce(&rt, path, row)?, "{path:?}");
     }
+    Ok(())
 }

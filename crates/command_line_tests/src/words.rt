@@ -1,10 +1,11 @@
-// The words of the command.
-use crate::fixture::{CHANNEL, End, KEYS, MemoryFiles, ended, expect, first_block, shown};
+//! The words of the command.
+
+use crate::files::MemoryFiles;
+use crate::fixture::{CHANNEL, End, FIRST_BLOCK, KEYS, Scene, ended, unlike_of};
 use command_line::without_words;
-use std::alloc::{AllocError, Global};
+use std::alloc::AllocError;
 use std::io;
 use std::io::ErrorKind;
-use std::process::Abort;
 use std::str::from_utf8;
 use std::sync::Wait;
 use std::thread::Threads;
@@ -37,7 +38,11 @@ const EXPLAIN: &str =
 // Words behind the program's name, and two texts that what is said of them has.
 type Row = (&'static [&'static str], &'static str, &'static str);
 
-const MISTAKES: [Row; 28] = [
+fn mistaken() -> &'static [Row] {
+    &MISTAKES
+}
+
+static MISTAKES: [Row; 28] = [
     (
         &[],
         "'fabcommit' requires a subcommand but one was not provided",
@@ -214,7 +219,11 @@ const MISTAKES: [Row; 28] = [
     ),
 ];
 
-const HELP: [Row; 12] = [
+fn helped() -> &'static [Row] {
+    &HELP
+}
+
+static HELP: [Row; 12] = [
     (&["--help"], "\nCommands:\n  draft ", COMMAND),
     (&["help"], "\nExample, from a script to what", COMMAND),
     (&["draft", "-h"], "\nExample:\n  fabcommit draft ", DRAFT),
@@ -253,6 +262,7 @@ const HELP: [Row; 12] = [
     ),
 ];
 
+// Whether the text begins with a front, and has two others.
 fn says(said: &[u8], front: &str, text: &str, usage: &str) -> bool {
     match from_utf8(said) {
         Ok(said) => said.starts_with(front) && said.contains(text) && said.contains(usage),
@@ -261,98 +271,68 @@ fn says(said: &[u8], front: &str, text: &str, usage: &str) -> bool {
 }
 
 // How a run on these words behind the program's name ends.
-fn ended_of<R: AllocGlobal + Threads + Wait + Sync>(
-    rt: &R,
-    alloc: Global,
+fn ended_of(
+    rt: &(impl AllocGlobal + Threads + Wait + Sync),
     words: &[&'static str],
 ) -> Result<End, AllocError> {
-    let mut all = vec![in alloc; "/usr/bin/anything"]?;
+    let mut all = vec![in rt.alloc(); "/usr/bin/anything"]?;
     all.extend_from_slice(words)?;
     Ok(ended(rt, &MemoryFiles(&[]), &all))
 }
 
-fn is_mistake(ended: &End, text: &str, usage: &str) -> bool {
-    ended.status == 2 && ended.out.is_empty() && says(&ended.err, "error: ", text, usage)
-}
-
-fn expect_mistake(rt: &impl Abort, ended: &End, row: &Row) {
+fn is_mistake(
+    rt: &(impl AllocGlobal + Threads + Wait + Sync),
+    row: &Row,
+) -> Result<bool, AllocError> {
     let (words, text, usage) = *row;
-    let said = shown(&ended.err);
-    assert!(rt; is_mistake(ended, text, usage), "{words:?}: {said}");
+    let ended = ended_of(rt, words)?;
+    Ok(ended.status == 2 && ended.out.is_empty() && says(&ended.err, "error: ", text, usage))
 }
 
 #[test]
 fn mistakes(rt: HostRuntime) -> Result<(), AllocError> {
-    for row in &MISTAKES {
-        expect_mistake(&rt, &ended_of(&rt, rt.alloc(), row.0)?, row);
+    for row in mistaken() {
+        assert!(rt; is_mistake(&rt, row)?, "{:?}", row.0);
     }
     Ok(())
 }
 
-fn is_help(ended: &End, text: &str, usage: &str) -> bool {
-    ended.status == 0 && ended.err.is_empty() && says(&ended.out, "", text, usage)
-}
-
-fn expect_help(rt: &impl Abort, ended: &End, row: &Row) {
+fn is_help(rt: &(impl AllocGlobal + Threads + Wait + Sync), row: &Row) -> Result<bool, AllocError> {
     let (words, text, usage) = *row;
-    let said = shown(&ended.out);
-    assert!(rt; is_help(ended, text, usage), "{words:?}: {said}");
+    let ended = ended_of(rt, words)?;
+    Ok(ended.status == 0 && ended.err.is_empty() && says(&ended.out, "", text, usage))
 }
 
 #[test]
 fn help(rt: HostRuntime) -> Result<(), AllocError> {
-    for row in &HELP {
-        expect_help(&rt, &ended_of(&rt, rt.alloc(), row.0)?, row);
+    for row in helped() {
+        assert!(rt; is_help(&rt, row)?, "{:?}", row.0);
     }
     Ok(())
 }
 
+const LINES: &str = "accepted 0 9cae6f5c10756febc407bba95fc23853774c1f65f10354895bfdab6443d66ed3
+refused 2 C1 B1
+";
+
+fn scenes() -> &'static [Scene<'static>] {
+    &SCENES
+}
+
+static SCENES: [Scene; 1] = [(
+    &[("c", CHANNEL), ("k", KEYS), ("b", FIRST_BLOCK), ("-x", b"")],
+    &[
+        ("run b --channel c --keys=k -- -x", 1, LINES, ""),
+        ("run --keys k --channel=c -- b -x", 1, LINES, ""),
+        ("run b --keys k c --channel c", 1, LINES, ""),
+    ],
+)];
+
 #[test]
-fn options_between_and_behind_blocks(rt: HostRuntime) {
-    let block = first_block();
-    let files = [
-        ("c", CHANNEL),
-        ("k", KEYS),
-        ("b", block.as_slice()),
-        ("-x", b"".as_slice()),
-    ];
-    let lines = "accepted 0 9cae6f5c10756febc407bba95fc23853774c1f65f10354895bfdab6443d66ed3\n\
-        refused 2 C1 B1\n";
-    let rows = [
-        [
-            "fabcommit",
-            "run",
-            "b",
-            "--channel",
-            "c",
-            "--keys=k",
-            "--",
-            "-x",
-        ],
-        [
-            "fabcommit",
-            "run",
-            "--keys",
-            "k",
-            "--channel=c",
-            "--",
-            "b",
-            "-x",
-        ],
-        [
-            "fabcommit",
-            "run",
-            "b",
-            "--keys",
-            "k",
-            "c",
-            "--channel",
-            "c",
-        ],
-    ];
-    for words in &rows {
-        expect(&rt, &MemoryFiles(&files), words, 1, lines, "");
-    }
+fn options_between_and_behind_blocks(rt: HostRuntime) -> Result<(), AllocError> {
+    let unlike = unlike_of(&rt, scenes())?;
+    assert!(rt; unlike.is_none(), "{unlike:?}");
+    Ok(())
 }
 
 // Whether the program that has no words of this kind ends with this status and this beginning of what is wrong.
@@ -363,17 +343,18 @@ fn is_told(rt: &impl AllocGlobal, kind: ErrorKind, status: u8, text: &str) -> bo
     got == status && out.is_empty() && says(&err, text, "", "")
 }
 
+static KINDS: [(ErrorKind, u8, &str); 2] = [
+    (
+        ErrorKind::InvalidData,
+        2,
+        "error: invalid UTF-8 was detected in one or more arguments\n",
+    ),
+    (ErrorKind::OutOfMemory, 4, "out of memory\n"),
+];
+
 #[test]
 fn no_words(rt: HostRuntime) {
-    let rows = [
-        (
-            ErrorKind::InvalidData,
-            2,
-            "error: invalid UTF-8 was detected in one or more arguments\n",
-        ),
-        (ErrorKind::OutOfMemory, 4, "out of memory\n"),
-    ];
-    for (kind, status, text) in rows {
-        assert!(rt; is_told(&rt, kind, status, text));
+    for (kind, status, text) in &KINDS {
+        assert!(rt; is_told(&rt, *kind, *status, text));
     }
 }

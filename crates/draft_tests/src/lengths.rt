@@ -6,522 +6,325 @@ use failing::Failed;
 use key_book::KeyBook;
 use std::alloc::{AllocError, Global};
 
-/// A text with a part that stands so many times between two others, and its first faulty line.
+/// A text with a part between two others, how often the part may stand there, and the first faulty line where it stands
+/// there once more.
 #[derive(Clone, Copy)]
-struct LengthCase {
+struct Limit {
     front: &'static str,
     part: &'static str,
-    count: u32,
+    most: u32,
     back: &'static str,
-    line: Option<u64>,
+    line: u64,
 }
 
-fn text_of(alloc: Global, case: &LengthCase) -> Result<String, AllocError> {
-    let mut text = String::from_str(alloc, case.front)?;
-    for _ in 0..case.count {
-        text.push_str(case.part)?;
+fn repeated(
+    alloc: Global,
+    front: &str,
+    part: &str,
+    count: u32,
+    back: &str,
+) -> Result<String, AllocError> {
+    let mut text = String::from_str(alloc, front)?;
+    for _ in 0..count {
+        text.push_str(part)?;
     }
-    text.push_str(case.back)?;
+    text.push_str(back)?;
     Ok(text)
+}
+
+// The first faulty line where the part stands there so many times.
+fn line_of(
+    alloc: Global,
+    keys: &KeyBook,
+    version: BlockVersion,
+    limit: &Limit,
+    count: u32,
+) -> Result<Option<u64>, Failed> {
+    let text = repeated(alloc, limit.front, limit.part, count, limit.back)?;
+    faulty_line(alloc, keys, version, text.as_str())
 }
 
 fn is_so(
     alloc: Global,
     keys: &KeyBook,
     version: BlockVersion,
-    case: &LengthCase,
+    limit: &Limit,
 ) -> Result<bool, Failed> {
-    let text = text_of(alloc, case)?;
-    Ok(faulty_line(alloc, keys, version, text.as_str())? == case.line)
+    let line_at_most = line_of(alloc, keys, version, limit, limit.most)?;
+    let line_beyond = line_of(alloc, keys, version, limit, limit.most.wrapping_add(1))?;
+    Ok(line_at_most.is_none() && line_beyond == Some(limit.line))
 }
 
-// How many of the cases are so in this version, up to the first that isn't.
-fn so(alloc: Global, version: BlockVersion, cases: &[LengthCase]) -> Result<usize, Failed> {
+// How many of the limits are so in this version, up to the first that isn't.
+fn so(alloc: Global, version: BlockVersion, limits: &[Limit]) -> Result<usize, Failed> {
     let keys = book(alloc)?;
-    for (count, case) in cases.iter().enumerate() {
-        if !is_so(alloc, &keys, version, case)? {
+    for (count, limit) in limits.iter().enumerate() {
+        if !is_so(alloc, &keys, version, limit)? {
             return Ok(count);
         }
     }
-    Ok(cases.len())
+    Ok(limits.len())
 }
 
 // The most of each part and of each list.
-fn limits() -> &'static [LengthCase] {
+fn limits() -> &'static [Limit] {
     &LIMITS
 }
 
-static LIMITS: [LengthCase; 44] = [
-    LengthCase {
+static LIMITS: [Limit; 22] = [
+    Limit {
         front: "tx Org1:client:c0 n ",
         part: "c",
-        count: 64,
+        most: 64,
         back: "\n",
-        line: None,
+        line: 1,
     },
-    LengthCase {
-        front: "tx Org1:client:c0 n ",
-        part: "c",
-        count: 65,
-        back: "\n",
-        line: Some(1),
-    },
-    LengthCase {
+    Limit {
         front: "tx Org1:client:c0 n cc\nns ",
         part: "c",
-        count: 64,
+        most: 64,
         back: "\n",
-        line: None,
+        line: 2,
     },
-    LengthCase {
-        front: "tx Org1:client:c0 n cc\nns ",
-        part: "c",
-        count: 65,
-        back: "\n",
-        line: Some(2),
-    },
-    LengthCase {
+    Limit {
         front: "tx Org1:client:c0 ",
         part: "%6E",
-        count: 255,
+        most: 255,
         back: " cc\n",
-        line: None,
+        line: 1,
     },
-    LengthCase {
-        front: "tx Org1:client:c0 ",
-        part: "%6E",
-        count: 256,
-        back: " cc\n",
-        line: Some(1),
-    },
-    LengthCase {
+    Limit {
         front: "tx Org1:client:c0 n cc\nns cc\nread ",
         part: "%00",
-        count: 1024,
+        most: 1024,
         back: " absent\n",
-        line: None,
+        line: 3,
     },
-    LengthCase {
-        front: "tx Org1:client:c0 n cc\nns cc\nread ",
-        part: "%00",
-        count: 1025,
-        back: " absent\n",
-        line: Some(3),
-    },
-    LengthCase {
+    Limit {
         front: "tx Org1:client:c0 n cc\nns cc\nrange ",
         part: "k",
-        count: 1024,
+        most: 1024,
         back: " % all\n",
-        line: None,
+        line: 3,
     },
-    LengthCase {
-        front: "tx Org1:client:c0 n cc\nns cc\nrange ",
-        part: "k",
-        count: 1025,
-        back: " % all\n",
-        line: Some(3),
-    },
-    LengthCase {
+    Limit {
         front: "tx Org1:client:c0 n cc\nns cc\nrange % ",
         part: "k",
-        count: 1024,
+        most: 1024,
         back: " all\n",
-        line: None,
+        line: 3,
     },
-    LengthCase {
-        front: "tx Org1:client:c0 n cc\nns cc\nrange % ",
-        part: "k",
-        count: 1025,
-        back: " all\n",
-        line: Some(3),
-    },
-    LengthCase {
+    Limit {
         front: "tx Org1:client:c0 n cc\nns cc\nrange % % all\nresult ",
         part: "k",
-        count: 1024,
+        most: 1024,
         back: " 0 0\n",
-        line: None,
+        line: 4,
     },
-    LengthCase {
-        front: "tx Org1:client:c0 n cc\nns cc\nrange % % all\nresult ",
-        part: "k",
-        count: 1025,
-        back: " 0 0\n",
-        line: Some(4),
-    },
-    LengthCase {
+    Limit {
         front: "tx Org1:client:c0 n cc\nns cc\nwrite ",
         part: "k",
-        count: 1024,
+        most: 1024,
         back: " v\n",
-        line: None,
+        line: 3,
     },
-    LengthCase {
-        front: "tx Org1:client:c0 n cc\nns cc\nwrite ",
-        part: "k",
-        count: 1025,
-        back: " v\n",
-        line: Some(3),
-    },
-    LengthCase {
+    Limit {
         front: "tx Org1:client:c0 n cc\nns cc\ndelete ",
         part: "k",
-        count: 1024,
+        most: 1024,
         back: "\n",
-        line: None,
+        line: 3,
     },
-    LengthCase {
-        front: "tx Org1:client:c0 n cc\nns cc\ndelete ",
-        part: "k",
-        count: 1025,
-        back: "\n",
-        line: Some(3),
-    },
-    LengthCase {
+    Limit {
         front: "tx Org1:client:c0 n cc\nns cc\npolicy ",
         part: "k",
-        count: 1024,
+        most: 1024,
         back: " v\n",
-        line: None,
+        line: 3,
     },
-    LengthCase {
-        front: "tx Org1:client:c0 n cc\nns cc\npolicy ",
-        part: "k",
-        count: 1025,
-        back: " v\n",
-        line: Some(3),
-    },
-    LengthCase {
+    Limit {
         front: "tx Org1:client:c0 n cc\nns cc\nnopolicy ",
         part: "k",
-        count: 1024,
+        most: 1024,
         back: "\n",
-        line: None,
+        line: 3,
     },
-    LengthCase {
-        front: "tx Org1:client:c0 n cc\nns cc\nnopolicy ",
-        part: "k",
-        count: 1025,
-        back: "\n",
-        line: Some(3),
-    },
-    LengthCase {
+    Limit {
         front: "tx Org1:client:c0 n cc\nns cc\npolicy k ",
         part: "p",
-        count: 65_535,
+        most: 65_535,
         back: "\n",
-        line: None,
+        line: 3,
     },
-    LengthCase {
-        front: "tx Org1:client:c0 n cc\nns cc\npolicy k ",
-        part: "p",
-        count: 65_536,
-        back: "\n",
-        line: Some(3),
-    },
-    LengthCase {
+    Limit {
         front: "raw ",
         part: "00",
-        count: 1_048_576,
+        most: 1_048_576,
         back: "\n",
-        line: None,
+        line: 1,
     },
-    LengthCase {
-        front: "raw ",
-        part: "00",
-        count: 1_048_577,
-        back: "\n",
-        line: Some(1),
-    },
-    LengthCase {
+    Limit {
         front: "tx Org1:client:c0 n cc\n",
         part: "endorse Org1:peer:p0\n",
-        count: 64,
+        most: 64,
         back: "",
-        line: None,
+        line: 66,
     },
-    LengthCase {
-        front: "tx Org1:client:c0 n cc\n",
-        part: "endorse Org1:peer:p0\n",
-        count: 65,
-        back: "",
-        line: Some(66),
-    },
-    LengthCase {
+    Limit {
         front: "tx Org1:client:c0 n cc\n",
         part: "ns c\n",
-        count: 65_535,
+        most: 65_535,
         back: "",
-        line: None,
+        line: 65_537,
     },
-    LengthCase {
-        front: "tx Org1:client:c0 n cc\n",
-        part: "ns c\n",
-        count: 65_536,
-        back: "",
-        line: Some(65_537),
-    },
-    LengthCase {
+    Limit {
         front: "tx Org1:client:c0 n cc\nns cc\n",
         part: "read k absent\n",
-        count: 65_535,
+        most: 65_535,
         back: "",
-        line: None,
+        line: 65_538,
     },
-    LengthCase {
-        front: "tx Org1:client:c0 n cc\nns cc\n",
-        part: "read k absent\n",
-        count: 65_536,
-        back: "",
-        line: Some(65_538),
-    },
-    LengthCase {
+    Limit {
         front: "tx Org1:client:c0 n cc\nns cc\n",
         part: "range % % all\n",
-        count: 65_535,
+        most: 65_535,
         back: "",
-        line: None,
+        line: 65_538,
     },
-    LengthCase {
-        front: "tx Org1:client:c0 n cc\nns cc\n",
-        part: "range % % all\n",
-        count: 65_536,
-        back: "",
-        line: Some(65_538),
-    },
-    LengthCase {
+    Limit {
         front: "tx Org1:client:c0 n cc\nns cc\nrange % % all\n",
         part: "result k 0 0\n",
-        count: 65_535,
+        most: 65_535,
         back: "",
-        line: None,
+        line: 65_539,
     },
-    LengthCase {
-        front: "tx Org1:client:c0 n cc\nns cc\nrange % % all\n",
-        part: "result k 0 0\n",
-        count: 65_536,
-        back: "",
-        line: Some(65_539),
-    },
-    LengthCase {
+    Limit {
         front: "tx Org1:client:c0 n cc\nns cc\n",
         part: "delete k\n",
-        count: 65_535,
+        most: 65_535,
         back: "",
-        line: None,
+        line: 65_538,
     },
-    LengthCase {
-        front: "tx Org1:client:c0 n cc\nns cc\n",
-        part: "delete k\n",
-        count: 65_536,
-        back: "",
-        line: Some(65_538),
-    },
-    LengthCase {
+    Limit {
         front: "tx Org1:client:c0 n cc\nns cc\n",
         part: "nopolicy k\n",
-        count: 65_535,
+        most: 65_535,
         back: "",
-        line: None,
+        line: 65_538,
     },
-    LengthCase {
-        front: "tx Org1:client:c0 n cc\nns cc\n",
-        part: "nopolicy k\n",
-        count: 65_536,
-        back: "",
-        line: Some(65_538),
-    },
-    LengthCase {
+    Limit {
         front: "",
         part: "raw\n",
-        count: 4096,
+        most: 4096,
         back: "",
-        line: None,
+        line: 4097,
     },
-    LengthCase {
-        front: "",
-        part: "raw\n",
-        count: 4097,
-        back: "",
-        line: Some(4097),
-    },
-    LengthCase {
+    Limit {
         front: "",
         part: "tx Org1:client:c0 n cc\n",
-        count: 4096,
+        most: 4096,
         back: "",
-        line: None,
-    },
-    LengthCase {
-        front: "",
-        part: "tx Org1:client:c0 n cc\n",
-        count: 4097,
-        back: "",
-        line: Some(4097),
+        line: 4097,
     },
 ];
 
 #[test]
 fn limits_of_parts_and_lists(rt: HostRuntime) -> Result<(), Failed> {
-    let cases = limits();
-    assert!(rt; so(rt.alloc(), BlockVersion::V1, cases)? == cases.len());
+    assert!(rt; so(rt.alloc(), BlockVersion::V1, limits())? == limits().len());
     Ok(())
 }
 
-// A transaction has 137 bytes beside this value, by Python, and at most 1,048,576 in all. That it is too long is known
-// once it has ended.
-fn values() -> &'static [LengthCase] {
+// The bytes of a value, what follows it, and the first faulty line. A transaction has 137 bytes beside this value, by
+// Python, and at most 1,048,576 in all. That it is too long is known once it has ended.
+fn values() -> &'static [(u32, &'static str, Option<u64>)] {
     &VALUES
 }
 
-static VALUES: [LengthCase; 8] = [
-    LengthCase {
-        front: "#\ntx Org1:client:c0 n cc\nns cc\nwrite k ",
-        part: "v",
-        count: 1_048_439,
-        back: "",
-        line: None,
-    },
-    LengthCase {
-        front: "#\ntx Org1:client:c0 n cc\nns cc\nwrite k ",
-        part: "v",
-        count: 1_048_440,
-        back: "",
-        line: Some(2),
-    },
-    LengthCase {
-        front: "#\ntx Org1:client:c0 n cc\nns cc\nwrite k ",
-        part: "v",
-        count: 1_048_440,
-        back: "\n# the end\n",
-        line: Some(2),
-    },
-    LengthCase {
-        front: "#\ntx Org1:client:c0 n cc\nns cc\nwrite k ",
-        part: "v",
-        count: 1_048_440,
-        back: "\nendorse Org1:peer:p0\nno line\n",
-        line: Some(6),
-    },
-    LengthCase {
-        front: "#\ntx Org1:client:c0 n cc\nns cc\nwrite k ",
-        part: "v",
-        count: 1_048_440,
-        back: "\nraw 0\n",
-        line: Some(2),
-    },
-    LengthCase {
-        front: "#\ntx Org1:client:c0 n cc\nns cc\nwrite k ",
-        part: "v",
-        count: 1_048_440,
-        back: "\ntx\n",
-        line: Some(2),
-    },
-    LengthCase {
-        front: "#\ntx Org1:client:c0 n cc\nns cc\nwrite k ",
-        part: "v",
-        count: 1_048_440,
-        back: "\nraw\nno line\n",
-        line: Some(2),
-    },
-    LengthCase {
-        front: "#\ntx Org1:client:c0 n cc\nns cc\nwrite k ",
-        part: "v",
-        count: 1_048_439,
-        back: "\nraw\nno line\n",
-        line: Some(6),
-    },
+static VALUES: [(u32, &str, Option<u64>); 8] = [
+    (1_048_439, "", None),
+    (1_048_440, "", Some(2)),
+    (1_048_440, "\n# the end\n", Some(2)),
+    (1_048_440, "\nendorse Org1:peer:p0\nno line\n", Some(6)),
+    (1_048_440, "\nraw 0\n", Some(2)),
+    (1_048_440, "\ntx\n", Some(2)),
+    (1_048_440, "\nraw\nno line\n", Some(2)),
+    (1_048_439, "\nraw\nno line\n", Some(6)),
 ];
+
+fn line_of_value(
+    alloc: Global,
+    keys: &KeyBook,
+    length: u32,
+    back: &str,
+) -> Result<Option<u64>, Failed> {
+    let front = "#\ntx Org1:client:c0 n cc\nns cc\nwrite k ";
+    let text = repeated(alloc, front, "v", length, back)?;
+    faulty_line(alloc, keys, BlockVersion::V1, text.as_str())
+}
+
+// How many of the values are so, up to the first that isn't.
+fn values_so(alloc: Global) -> Result<usize, Failed> {
+    let keys = book(alloc)?;
+    for (count, &(length, back, line)) in values().iter().enumerate() {
+        if line_of_value(alloc, &keys, length, back)? != line {
+            return Ok(count);
+        }
+    }
+    Ok(values().len())
+}
 
 #[test]
 fn transactions_that_are_too_long(rt: HostRuntime) -> Result<(), Failed> {
-    let cases = values();
-    assert!(rt; so(rt.alloc(), BlockVersion::V1, cases)? == cases.len());
+    assert!(rt; values_so(rt.alloc())? == values().len());
     Ok(())
 }
 
-fn limits_of_updates() -> &'static [LengthCase] {
+fn limits_of_updates() -> &'static [Limit] {
     &UPDATES
 }
 
 // By part: name, nonce, text; then endorsers, and places of the block.
-static UPDATES: [LengthCase; 10] = [
-    LengthCase {
+static UPDATES: [Limit; 5] = [
+    Limit {
         front: "update Org1:client:c0 n ",
         part: "c",
-        count: 64,
+        most: 64,
         back: " x\n",
-        line: None,
+        line: 1,
     },
-    LengthCase {
-        front: "update Org1:client:c0 n ",
-        part: "c",
-        count: 65,
-        back: " x\n",
-        line: Some(1),
-    },
-    LengthCase {
+    Limit {
         front: "update Org1:client:c0 ",
         part: "n",
-        count: 255,
+        most: 255,
         back: " cc x\n",
-        line: None,
+        line: 1,
     },
-    LengthCase {
-        front: "update Org1:client:c0 ",
-        part: "n",
-        count: 256,
-        back: " cc x\n",
-        line: Some(1),
-    },
-    LengthCase {
+    Limit {
         front: "update Org1:client:c0 n cc ",
         part: "x",
-        count: 65_535,
+        most: 65_535,
         back: "\n",
-        line: None,
+        line: 1,
     },
-    LengthCase {
-        front: "update Org1:client:c0 n cc ",
-        part: "x",
-        count: 65_536,
-        back: "\n",
-        line: Some(1),
-    },
-    LengthCase {
+    Limit {
         front: "update Org1:client:c0 n cc x\n",
         part: "endorse Org1:peer:p0\n",
-        count: 64,
+        most: 64,
         back: "",
-        line: None,
+        line: 66,
     },
-    LengthCase {
-        front: "update Org1:client:c0 n cc x\n",
-        part: "endorse Org1:peer:p0\n",
-        count: 65,
-        back: "",
-        line: Some(66),
-    },
-    LengthCase {
+    Limit {
         front: "",
         part: "raw\n",
-        count: 4_095,
+        most: 4_095,
         back: "update Org1:client:c0 n cc x\n",
-        line: None,
-    },
-    LengthCase {
-        front: "",
-        part: "raw\n",
-        count: 4_096,
-        back: "update Org1:client:c0 n cc x\n",
-        line: Some(4097),
+        line: 4097,
     },
 ];
 
 #[test]
 fn limits_of_updates_parts(rt: HostRuntime) -> Result<(), Failed> {
-    let cases = limits_of_updates();
-    assert!(rt; so(rt.alloc(), BlockVersion::V2, cases)? == cases.len());
+    let limits = limits_of_updates();
+    assert!(rt; so(rt.alloc(), BlockVersion::V2, limits)? == limits.len());
     Ok(())
 }

@@ -1,30 +1,30 @@
 //! The ledger over bytes, and over their transactions what has no cleverness: `plain` for the flags and what is behind them,
 //! the rules of linked blocks as they are written, and a list of the blocks that were accepted.
 
-use crate::fixture::{channel_with, definition_text, key, name};
-use block::{Block, BlockFault, BlockVersion, MAX_TXS, Previous, decode_block};
+use crate::fixture::{definition_text, explained, key, ledger_with, name, submitted};
+use crate::plain_peer::PlainPeer;
+use block::{Block, BlockFault, BlockVersion, Previous, decode_block};
 use chain_vectors::first_blocks::first_blocks;
 use chain_vectors::later_blocks::later_blocks;
 use chain_vectors::rows::rows;
 use chain_vectors::uses::uses;
 use chain_vectors::{Committed, SaysOk, read_use};
-use channel::Configuration;
 use commit::{Ledger, Reason};
-use failing::Failed;
+use failing::{Failed, check};
 use header_hash::{data_hash, header_hash};
+use policy::Policy;
 use policy_eval::Verify;
 use reasons::UpdateFault;
 use rules::{Accepted, CommittedBlock, Flag, HistoryEntry, Refused, Row};
 use std::alloc::{AllocError, Global};
 use transaction::TxId;
-use values::{Bytes, Items, Key, Name, Part, Shared};
+use values::{Bytes, Hash, Items, Key, Name, Part, Shared};
 use world::World;
 
 /// Both, with the same blocks.
 #[derive(Drop)]
 pub struct Pair {
-    channel: Configuration,
-    plain: plain::World,
+    plain: PlainPeer,
     accepted: Vec<CommittedBlock>,
     ledger: Ledger,
     // how often each flag was given
@@ -45,17 +45,19 @@ fn is_same_answer(one: &Result<Accepted, Refused>, other: &Result<Accepted, Refu
     }
 }
 
+fn are_of(reasons: &[Reason], flags: &[Flag]) -> bool {
+    for (reason, flag) in reasons.iter().zip(flags) {
+        if reason.flag() != *flag {
+            return false;
+        }
+    }
+    reasons.len() == flags.len()
+}
+
 // Whether these are reasons of the flags that were given, or the same refusal.
 fn have_flags(told: &Result<Items<Reason>, Refused>, given: &Result<Accepted, Refused>) -> bool {
     match (told, given) {
-        (Ok(reasons), Ok(accepted)) => {
-            let (reasons, flags) = (reasons.as_slice(), accepted.flags.as_slice());
-            reasons.len() == flags.len()
-                && reasons
-                    .iter()
-                    .zip(flags)
-                    .all(|(reason, flag)| reason.flag() == *flag)
-        }
+        (Ok(reasons), Ok(accepted)) => are_of(reasons.as_slice(), accepted.flags.as_slice()),
         (Err(one), Err(other)) => one == other,
         _ => false,
     }
@@ -69,24 +71,33 @@ fn is_same_value(one: &Option<Part>, other: &Option<Part>) -> bool {
     }
 }
 
+fn has_text(alloc: Global, policy: &Policy, text: &str) -> Result<bool, AllocError> {
+    let own = policy.text(alloc)?;
+    Ok(own.as_str() == text)
+}
+
+fn is_same_policy(alloc: Global, one: &Policy, other: &Policy) -> Result<bool, AllocError> {
+    let text = one.text(alloc)?;
+    has_text(alloc, other, text.as_str())
+}
+
 fn has_same_policy(alloc: Global, one: &Row, other: &Row) -> Result<bool, AllocError> {
-    Ok(match (&one.policy, &other.policy) {
-        (None, None) => true,
-        (Some(one), Some(other)) => {
-            one.get().text(alloc)?.as_str() == other.get().text(alloc)?.as_str()
-        }
-        _ => false,
-    })
+    match (&one.policy, &other.policy) {
+        (None, None) => Ok(true),
+        (Some(one), Some(other)) => is_same_policy(alloc, one.get(), other.get()),
+        _ => Ok(false),
+    }
 }
 
 fn is_same_row(alloc: Global, one: Option<&Row>, other: Option<&Row>) -> Result<bool, AllocError> {
     match (one, other) {
         (None, None) => Ok(true),
-        (Some(one), Some(other)) => Ok(
-            one.version == other.version
-                && one.value.as_slice() == other.value.as_slice()
-                && has_same_policy(alloc, one, other)?,
-        ),
+        (Some(one), Some(other)) => {
+            if one.version != other.version || one.value.as_slice() != other.value.as_slice() {
+                return Ok(false);
+            }
+            has_same_policy(alloc, one, other)
+        }
         _ => Ok(false),
     }
 }
@@ -174,22 +185,20 @@ fn check_linked(world: &World, block: &Block<'_>) -> Result<(), Refused> {
     }
 }
 
-/// The flags of the next block of `plain`, which takes it.
-pub fn flags_of<V: Verify>(
-    alloc: Global,
-    channel: &Configuration,
-    plain: &mut plain::World,
-    block: &Block<'_>,
-    verifier: &V,
-) -> Result<Items<Flag>, AllocError> {
-    let txs = block.txs.as_slice();
-    // no block has more
-    if txs.len() > MAX_TXS {
-        return Ok(Items::new(alloc));
+fn shared(alloc: Global, bytes: &[u8]) -> Result<Shared<Bytes>, AllocError> {
+    let bytes = Bytes::from_slice(alloc, bytes)?;
+    Shared::new(alloc, bytes)
+}
+
+fn is_history(world: &World, namespace: &Name, at: &Key, wanted: &[&HistoryEntry]) -> bool {
+    let mut left = wanted.iter();
+    for entry in world.history(&namespace.lend(), &at.lend()) {
+        match left.next() {
+            Some(other) if is_same_entry(entry, other) => {}
+            _ => return false,
+        }
     }
-    let number = block.header.number;
-    let flags = plain::take_block(alloc, channel, verifier, plain, number, block.version, txs)?;
-    Ok(Items::from_vec(flags))
+    left.next().is_none()
 }
 
 impl Pair {
@@ -199,12 +208,12 @@ impl Pair {
 
     /// The channel has this line more.
     pub fn of(alloc: Global, line: &str) -> Result<Pair, Failed> {
-        let (channel, definitions) = channel_with(alloc, line)?.into_parts();
+        let ledger = ledger_with(alloc, line)?;
+        let plain = PlainPeer::open(alloc, line)?;
         Ok(Pair {
-            channel,
-            plain: plain::World::new(alloc, definitions),
+            plain,
             accepted: Vec::new(alloc),
-            ledger: Ledger::open(alloc, channel_with(alloc, line)?),
+            ledger,
             given: [0; 26],
             faults: [0; 5],
         })
@@ -230,6 +239,21 @@ impl Pair {
         }
     }
 
+    fn wanted_of<V: Verify>(
+        &mut self,
+        alloc: Global,
+        block: &Block<'_>,
+        verifier: &V,
+    ) -> Result<Accepted, Refused> {
+        check_linked(self.ledger.view(), block)?;
+        let flags = self.plain.flags_of(alloc, block, verifier)?;
+        Ok(Accepted {
+            number: block.header.number,
+            header_hash: header_hash(&block.header),
+            flags,
+        })
+    }
+
     // What is to be answered.
     fn wanted<V: Verify>(
         &mut self,
@@ -238,29 +262,41 @@ impl Pair {
         verifier: &V,
     ) -> Result<Accepted, Refused> {
         let block = decoded(alloc, bytes)?;
-        check_linked(self.ledger.view(), &block)?;
-        Ok(Accepted {
-            number: block.header.number,
-            header_hash: header_hash(&block.header),
-            flags: flags_of(alloc, &self.channel, &mut self.plain, &block, verifier)?,
-        })
+        self.wanted_of(alloc, &block, verifier)
+    }
+
+    // Whether the reasons that are asked for have the flags.
+    fn is_told<V: Verify>(
+        &mut self,
+        bytes: &[u8],
+        verifier: &V,
+        wanted: &Result<Accepted, Refused>,
+    ) -> bool {
+        let told = explained(&self.ledger, bytes, verifier);
+        if let Ok(reasons) = &told {
+            count_faults(&mut self.faults, reasons.as_slice());
+        }
+        have_flags(&told, wanted)
+    }
+
+    fn is_answered<V: Verify>(
+        &mut self,
+        bytes: &[u8],
+        verifier: &V,
+        wanted: &Result<Accepted, Refused>,
+    ) -> bool {
+        is_same_answer(&submitted(&mut self.ledger, bytes, verifier), wanted)
     }
 
     fn keep(&mut self, alloc: Global, bytes: &[u8], accepted: Accepted) -> Result<(), AllocError> {
         count(&mut self.given, accepted.flags.as_slice());
-        let version = version_of(bytes);
-        let bytes = Shared::new(alloc, Bytes::from_slice(alloc, bytes)?)?;
-        let Accepted {
-            number: _,
-            header_hash,
-            flags,
-        } = accepted;
-        self.accepted.push(CommittedBlock {
-            bytes,
-            header_hash,
-            version,
-            flags,
-        })?;
+        let block = CommittedBlock {
+            bytes: shared(alloc, bytes)?,
+            header_hash: accepted.header_hash,
+            version: version_of(bytes),
+            flags: accepted.flags,
+        };
+        self.accepted.push(block)?;
         Ok(())
     }
 
@@ -273,107 +309,110 @@ impl Pair {
         verifier: &V,
     ) -> Result<bool, AllocError> {
         let wanted = self.wanted(alloc, bytes, verifier);
-        let told = self.ledger.explain(bytes, verifier);
-        let is_told = have_flags(&told, &wanted);
-        if let Ok(reasons) = &told {
-            count_faults(&mut self.faults, reasons.as_slice());
-        }
-        let is_alike = is_same_answer(&self.ledger.submit_one(bytes, verifier), &wanted);
+        let is_told = self.is_told(bytes, verifier, &wanted);
+        let is_answered = self.is_answered(bytes, verifier, &wanted);
         if let Ok(accepted) = wanted {
             self.keep(alloc, bytes, accepted)?;
         }
-        Ok(is_told && is_alike)
+        Ok(is_told && is_answered)
+    }
+
+    fn has_same_row(&self, alloc: Global, namespace: &Name, at: &Key) -> Result<bool, AllocError> {
+        let row = self.world().row(&namespace.lend(), &at.lend());
+        is_same_row(alloc, row, self.plain.world.row(namespace, at))
+    }
+
+    fn has_same_history(
+        &self,
+        alloc: Global,
+        namespace: &Name,
+        at: &Key,
+    ) -> Result<bool, AllocError> {
+        let wanted = self.plain.world.history(alloc, namespace, at)?;
+        Ok(is_history(self.world(), namespace, at, &wanted))
     }
 
     // Whether the row and the history are the same.
     fn is_same_at(&self, alloc: Global, namespace: &Name, at: &Key) -> Result<bool, AllocError> {
-        let world = self.ledger.view();
-        let wanted = self.plain.history(alloc, namespace, at)?;
-        let mut left = wanted.iter();
-        for entry in world.history(&namespace.lend(), &at.lend()) {
-            match left.next() {
-                Some(other) if is_same_entry(entry, other) => {}
-                _ => return Ok(false),
-            }
-        }
-        if left.next().is_some() {
+        if !self.has_same_row(alloc, namespace, at)? {
             return Ok(false);
         }
-        let row = world.row(&namespace.lend(), &at.lend());
-        is_same_row(alloc, row, self.plain.row(namespace, at))
+        self.has_same_history(alloc, namespace, at)
+    }
+
+    fn is_alike_under(&self, alloc: Global, namespace: &Name, at: &[u8]) -> Result<bool, Failed> {
+        let at = key(alloc, at)?;
+        Ok(self.is_same_at(alloc, namespace, &at)?)
     }
 
     pub fn is_alike_at(&self, alloc: Global, namespace: &[u8], at: &[u8]) -> Result<bool, Failed> {
         let namespace = name(alloc, namespace)?;
-        let at = key(alloc, at)?;
-        Ok(self.is_same_at(alloc, &namespace, &at)?)
+        self.is_alike_under(alloc, &namespace, at)
+    }
+
+    fn is_defined(&self, alloc: Global, chaincode: &[u8], policy: &str) -> Result<bool, Failed> {
+        let text = definition_text(alloc, self.world().definitions(), chaincode)?;
+        Ok(text.as_str() == policy)
     }
 
     /// Whether a chaincode has the same policy, or none in both.
     pub fn is_alike_in(&self, alloc: Global, chaincode: &[u8]) -> Result<bool, Failed> {
-        let text = definition_text(alloc, self.ledger.view().definitions(), chaincode)?;
-        let wanted = definition_text(alloc, self.plain.definitions(), chaincode)?;
-        Ok(text.as_str() == wanted.as_str())
+        let wanted = definition_text(alloc, self.plain.world.definitions(), chaincode)?;
+        self.is_defined(alloc, chaincode, wanted.as_str())
     }
 
     pub fn is_alike_of(&self, id: &TxId) -> bool {
-        self.ledger.view().first_use(id) == self.plain.first_use(id)
+        self.world().first_use(id) == self.plain.world.first_use(id)
+    }
+
+    fn last_hash(&self) -> Option<Hash> {
+        match self.accepted.last() {
+            None => None,
+            Some(last) => Some(last.header_hash),
+        }
     }
 
     pub fn has_same_blocks(&self) -> bool {
-        let world = self.ledger.view();
-        let last = match self.accepted.last() {
-            None => None,
-            Some(last) => Some(last.header_hash),
-        };
-        let mut are_same = world.height() == self.accepted.len() as u64
-            && world.header_hash() == last;
         for number in 0..=self.accepted.len() {
-            are_same = are_same
-                && is_same_block(world.block(number as u64), self.accepted.get(number));
+            let kept = self.world().block(number as u64);
+            if !is_same_block(kept, self.accepted.get(number)) {
+                return false;
+            }
         }
-        are_same
+        self.world().height() == self.accepted.len() as u64
+            && self.world().header_hash() == self.last_hash()
     }
 }
 
-fn take_all(alloc: Global, pair: &mut Pair, blocks: &[Committed]) -> Result<bool, AllocError> {
+fn take_all(alloc: Global, pair: &mut Pair, blocks: &[Committed]) -> Result<(), Failed> {
     for block in blocks {
-        if !pair.take(alloc, block.bytes, &SaysOk)? {
-            return Ok(false);
-        }
+        check(pair.take(alloc, block.bytes, &SaysOk)?)?;
     }
-    Ok(true)
+    Ok(())
 }
 
-fn is_alike_where_left(alloc: Global, pair: &Pair) -> Result<bool, Failed> {
+fn check_left(alloc: Global, pair: &Pair) -> Result<(), Failed> {
     for left in rows() {
-        if !pair.is_alike_at(alloc, left.namespace, left.key)? {
-            return Ok(false);
-        }
+        check(pair.is_alike_at(alloc, left.namespace, left.key)?)?;
     }
     for used in uses() {
-        if !pair.is_alike_of(&read_use(used).id) {
-            return Ok(false);
-        }
+        check(pair.is_alike_of(&read_use(used).id))?;
     }
-    Ok(pair.has_same_blocks())
+    check(pair.has_same_blocks())
 }
 
-fn is_alike(alloc: Global, pair: &mut Pair) -> Result<bool, Failed> {
-    Ok(
-        take_all(alloc, pair, first_blocks())?
-            && take_all(alloc, pair, later_blocks())?
-            && is_alike_where_left(alloc, pair)?,
-    )
+fn check_pair(alloc: Global, pair: &mut Pair) -> Result<(), Failed> {
+    take_all(alloc, pair, first_blocks())?;
+    take_all(alloc, pair, later_blocks())?;
+    check_left(alloc, pair)
 }
 
-fn is_chain_alike(alloc: Global) -> Result<bool, Failed> {
+fn check_chain(alloc: Global) -> Result<(), Failed> {
     let mut pair = Pair::open(alloc)?;
-    is_alike(alloc, &mut pair)
+    check_pair(alloc, &mut pair)
 }
 
 #[test]
 fn the_chain(rt: HostRuntime) -> Result<(), Failed> {
-    assert!(rt; is_chain_alike(rt.alloc())?);
-    Ok(())
+    check_chain(rt.alloc())
 }

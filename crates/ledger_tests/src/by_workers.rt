@@ -1,8 +1,9 @@
 //! The chains once more, by committers of few and of many workers.
 
-use crate::asked::is_left;
-use crate::fixture::{are_numbered, configuration};
-use crate::refusals::{Changed, changed_bytes};
+use crate::asked::check_left;
+use crate::committers::{Trial, check_by, refusal_of, submitted, worker_counts};
+use crate::fixture::{are_numbered, channel_with, named};
+use crate::refusals::{Change, changed, changes, refusal};
 use crate::scripted::ScriptedPeer;
 use crate::worked_chains::worked;
 use block::{BlockVersion, MAX_TXS};
@@ -11,18 +12,15 @@ use chain_vectors::later_blocks::later_blocks;
 use chain_vectors::rows::rows;
 use chain_vectors::uses::uses;
 use chain_vectors::worked_reads::worked_reads;
-use chain_vectors::{Committed, SaysOk, WorkedChain};
-use channel::Channel;
+use chain_vectors::{Committed, SaysOk, Scripted, WorkedChain};
 use commit::{Committer, NotCommitted, QueryHandle};
-use failing::Failed;
+use failing::{Failed, check};
 use gates::{Gate, Open, Reverse};
 use key_book::KeyBook;
 use std::alloc::{AllocError, Global};
 use std::sync::Wait;
 use std::thread::Threads;
 use values::Bytes;
-
-pub const WORKERS: [usize; 3] = [1, 2, 64];
 
 /// How blocks are handed in: by how many workers, and whether checks go in reverse.
 #[derive(Clone, Copy)]
@@ -31,7 +29,11 @@ pub struct Way {
     pub is_reverse: bool,
 }
 
-pub const WAYS: [Way; 6] = [
+pub fn ways() -> &'static [Way] {
+    &WAYS
+}
+
+static WAYS: [Way; 6] = [
     Way {
         workers: 1,
         is_reverse: false,
@@ -58,28 +60,6 @@ pub const WAYS: [Way; 6] = [
     },
 ];
 
-/// A committer with this many workers and one handle.
-pub fn opened<R: Wait>(
-    rt: &R,
-    alloc: Global,
-    workers: usize,
-) -> Result<(Committer, Vec<QueryHandle>), Failed> {
-    opened_of(rt, alloc, configuration(alloc)?, workers)
-}
-
-/// The same of this channel.
-pub fn opened_of<R: Wait>(
-    rt: &R,
-    alloc: Global,
-    channel: Channel,
-    workers: usize,
-) -> Result<(Committer, Vec<QueryHandle>), Failed> {
-    match Committer::open(alloc, rt, channel, workers, 1) {
-        Ok(opened) => Ok(opened),
-        Err(_) => Err(Failed::Missing("a committer")),
-    }
-}
-
 fn is_committed<R: Threads + Wait + Sync, G: Gate + Sync>(
     rt: &R,
     committer: &mut Committer,
@@ -88,12 +68,25 @@ fn is_committed<R: Threads + Wait + Sync, G: Gate + Sync>(
     flags: &[u8],
     gate: &G,
 ) -> bool {
-    match committer.submit(rt, bytes, keys, gate) {
+    match submitted(rt, committer, bytes, keys, gate) {
         Ok(receipt) => are_numbered(receipt.flags.as_slice(), flags) && committer.gathered() == 0,
         Err(_) => false,
     }
 }
 
+fn is_committed_in_reverse<R: Threads + Wait + Sync>(
+    rt: &R,
+    alloc: Global,
+    committer: &mut Committer,
+    keys: &KeyBook,
+    bytes: &[u8],
+    flags: &[u8],
+) -> Result<bool, AllocError> {
+    let reverse = Reverse::new(alloc, flags.len().min(MAX_TXS) as u32)?;
+    Ok(is_committed(rt, committer, keys, bytes, flags, &reverse))
+}
+
+/// Whether the block is committed with these flags.
 pub fn is_committed_in<R: Threads + Wait + Sync>(
     rt: &R,
     alloc: Global,
@@ -103,87 +96,104 @@ pub fn is_committed_in<R: Threads + Wait + Sync>(
     bytes: &[u8],
     flags: &[u8],
 ) -> Result<bool, AllocError> {
-    if !way.is_reverse {
-        return Ok(is_committed(rt, committer, keys, bytes, flags, &Open));
+    if way.is_reverse {
+        is_committed_in_reverse(rt, alloc, committer, keys, bytes, flags)
+    } else {
+        Ok(is_committed(rt, committer, keys, bytes, flags, &Open))
     }
-    let reverse = Reverse::new(alloc, flags.len().min(MAX_TXS) as u32)?;
-    Ok(is_committed(rt, committer, keys, bytes, flags, &reverse))
 }
 
-fn are_committed<R: Threads + Wait + Sync>(
-    rt: &R,
-    alloc: Global,
+/// The blocks of a short chain, handed in one by one.
+#[derive(Clone, Copy)]
+pub struct ShortChain<'a> {
     way: Way,
-    committer: &mut Committer,
-    keys: &KeyBook,
-    blocks: &[Bytes],
-    chain: &WorkedChain,
-) -> Result<bool, AllocError> {
-    for (bytes, block) in blocks.iter().zip(chain.blocks) {
+    keys: &'a KeyBook,
+    blocks: &'a [Bytes],
+    chain: &'a WorkedChain,
+}
+
+impl ShortChain<'_> {
+    fn check_next<R: Threads + Wait + Sync>(
+        &self,
+        rt: &R,
+        alloc: Global,
+        committer: &mut Committer,
+        bytes: &Bytes,
+        block: &Scripted,
+    ) -> Result<(), Failed> {
         let (bytes, flags) = (bytes.as_slice(), block.flags);
-        if !is_committed_in(rt, alloc, way, committer, keys, bytes, flags)? {
-            return Ok(false);
-        }
+        check(is_committed_in(rt, alloc, self.way, committer, self.keys, bytes, flags)?)
     }
-    Ok(blocks.len() == chain.blocks.len())
+
+    fn check_committed<R: Threads + Wait + Sync>(
+        &self,
+        rt: &R,
+        alloc: Global,
+        committer: &mut Committer,
+    ) -> Result<(), Failed> {
+        for (bytes, block) in self.blocks.iter().zip(self.chain.blocks) {
+            self.check_next(rt, alloc, committer, bytes, block)?;
+        }
+        check(self.blocks.len() == self.chain.blocks.len())
+    }
+
+    /// Wants the flags, and what is left told by the handle.
+    pub fn check_with<R: Threads + Wait + Sync>(
+        &self,
+        rt: &R,
+        alloc: Global,
+        committer: &mut Committer,
+        handle: &mut QueryHandle,
+    ) -> Result<(), Failed> {
+        self.check_committed(rt, alloc, committer)?;
+        check_left(
+            alloc,
+            handle,
+            self.chain.left,
+            self.chain.uses.as_chunks().0,
+        )
+    }
 }
 
-// Whether the committer finds the flags, and its handle what is left.
-fn is_so_of<R: Threads + Wait + Sync>(
+fn check_in<R: Threads + Wait + Sync>(
     rt: &R,
     alloc: Global,
     way: Way,
-    committer: &mut Committer,
-    handles: &mut Vec<QueryHandle>,
     keys: &KeyBook,
     blocks: &[Bytes],
     chain: &WorkedChain,
-) -> Result<bool, Failed> {
-    let Some(handle) = handles.first_mut() else {
-        return Err(Failed::Missing("a handle"));
-    };
-    Ok(
-        are_committed(rt, alloc, way, committer, keys, blocks, chain)?
-            && is_left(alloc, handle, chain.left, chain.uses.as_chunks().0)?,
-    )
-}
-
-fn is_so_in<R: Threads + Wait + Sync>(
-    rt: &R,
-    alloc: Global,
-    way: Way,
-    keys: &KeyBook,
-    blocks: &[Bytes],
-    chain: &WorkedChain,
-) -> Result<bool, Failed> {
-    let (mut committer, mut handles) = opened(rt, alloc, way.workers)?;
-    let is_so = is_so_of(
-        rt,
-        alloc,
+) -> Result<(), Failed> {
+    let channel = channel_with(alloc, "")?;
+    let trial = Trial::Short(ShortChain {
         way,
-        &mut committer,
-        &mut handles,
         keys,
         blocks,
         chain,
-    );
-    committer.close(rt);
-    is_so
+    });
+    check_by(rt, alloc, channel, way.workers, &trial)
 }
 
-fn is_so_in_all<R: Threads + Wait + Sync>(
+fn check_in_all<R: Threads + Wait + Sync>(
     rt: &R,
     alloc: Global,
     keys: &KeyBook,
     blocks: &[Bytes],
     chain: &WorkedChain,
-) -> Result<bool, Failed> {
-    for way in WAYS {
-        if !is_so_in(rt, alloc, way, keys, blocks, chain)? {
-            return Ok(false);
-        }
+) -> Result<(), Failed> {
+    for way in ways() {
+        check_in(rt, alloc, *way, keys, blocks, chain)?;
     }
-    Ok(true)
+    Ok(())
+}
+
+fn add_drafted(
+    alloc: Global,
+    peer: &mut ScriptedPeer,
+    block: &Scripted,
+    blocks: &mut Vec<Bytes>,
+) -> Result<(), Failed> {
+    let bytes = peer.taken(alloc, block.script, block.flags)?;
+    Ok(blocks.push(bytes)?)
 }
 
 // The blocks of the chain, which the peer has taken.
@@ -194,122 +204,93 @@ fn drafted(
 ) -> Result<Vec<Bytes>, Failed> {
     let mut blocks = Vec::new(alloc);
     for block in chain.blocks {
-        blocks.push(peer.block(alloc, block.script)?)?;
-        if !peer.is_taken(alloc, block.script, block.flags)? {
-            return Err(Failed::Missing("the flags by one thread"));
-        }
+        add_drafted(alloc, peer, block, &mut blocks)?;
     }
     Ok(blocks)
 }
 
-fn is_so_by(
-    rt: &(impl Threads + Wait + Sync),
+fn check_drafted<R: Threads + Wait + Sync>(
+    rt: &R,
     alloc: Global,
     peer: &mut ScriptedPeer,
     chain: &WorkedChain,
-) -> Result<bool, Failed> {
+) -> Result<(), Failed> {
     let blocks = drafted(alloc, peer, chain)?;
-    is_so_in_all(rt, alloc, peer.keys(), &blocks, chain)
+    check_in_all(rt, alloc, peer.keys(), &blocks, chain)
 }
 
-fn is_so<R: Threads + Wait + Sync>(
+fn check_short<R: Threads + Wait + Sync>(
     rt: &R,
     alloc: Global,
     version: BlockVersion,
     chain: &WorkedChain,
-) -> Result<bool, Failed> {
+) -> Result<(), Failed> {
     let mut peer = ScriptedPeer::of(alloc, version)?;
-    is_so_by(rt, alloc, &mut peer, chain)
+    check_drafted(rt, alloc, &mut peer, chain)
 }
 
-// The name of the first of these chains that isn't so in blocks of this version.
-fn first_other_of<R: Threads + Wait + Sync>(
+// Wants these chains in blocks of this version.
+fn check_each<R: Threads + Wait + Sync>(
     rt: &R,
     alloc: Global,
     version: BlockVersion,
     chains: &'static [WorkedChain],
-) -> Result<Option<&'static str>, Failed> {
+) -> Result<(), Failed> {
     for chain in chains {
-        if !is_so(rt, alloc, version, chain)? {
-            return Ok(Some(chain.name));
-        }
+        named(chain.name, check_short(rt, alloc, version, chain))?;
     }
-    Ok(None)
-}
-
-fn first_other<R: Threads + Wait + Sync>(
-    rt: &R,
-    alloc: Global,
-) -> Result<Option<&'static str>, Failed> {
-    for chains in worked() {
-        let other = first_other_of(rt, alloc, BlockVersion::V1, chains)?;
-        if other.is_some() {
-            return Ok(other);
-        }
-    }
-    Ok(None)
+    Ok(())
 }
 
 #[test]
 fn flags_and_what_is_left_by_workers(rt: HostRuntime) -> Result<(), Failed> {
-    let other = first_other(&rt, rt.alloc())?;
-    assert!(rt; other.is_none(), "{other:?}");
+    for part in 0..3 {
+        check_each(&rt, rt.alloc(), BlockVersion::V1, worked(part))?;
+    }
     Ok(())
 }
 
 #[test]
 fn the_same_in_version_2_by_workers(rt: HostRuntime) -> Result<(), Failed> {
-    let other = first_other_of(&rt, rt.alloc(), BlockVersion::V2, worked_reads())?;
-    assert!(rt; other.is_none(), "{other:?}");
-    Ok(())
+    check_each(&rt, rt.alloc(), BlockVersion::V2, worked_reads())
 }
 
-// Whether the bytes are refused so, and the handle still answers this height.
-fn is_refused<R: Threads + Wait + Sync>(
-    rt: &R,
-    committer: &mut Committer,
-    handle: &mut QueryHandle,
-    changed: &Changed,
-    height: u64,
-) -> Result<bool, Failed> {
-    let answer = committer.submit(rt, changed.bytes.as_slice(), &SaysOk, &Open);
+fn is_at_height(handle: &mut QueryHandle, height: u64) -> Result<bool, Failed> {
     let reply = handle.height()?;
-    Ok(
-        answer.err() == Some(NotCommitted::Refused(changed.refused))
-            && reply.answer == height
-            && reply.height == height,
-    )
+    Ok(reply.answer == height && reply.height == height)
 }
 
-fn are_refused<R: Threads + Wait + Sync>(
+// Wants the bytes refused where they are changed so.
+fn check_refused<R: Threads + Wait + Sync>(
     rt: &R,
+    alloc: Global,
     committer: &mut Committer,
-    handle: &mut QueryHandle,
-    all: &[Changed],
+    bytes: &[u8],
+    change: Change,
     height: u64,
-) -> Result<bool, Failed> {
-    for changed in all {
-        if !is_refused(rt, committer, handle, changed, height)? {
-            return Ok(false);
-        }
-    }
-    Ok(true)
+) -> Result<(), Failed> {
+    let bytes = changed(alloc, bytes, change)?;
+    let wanted = NotCommitted::Refused(refusal(change, height));
+    check(refusal_of(rt, committer, &bytes, &SaysOk) == Some(wanted))
 }
 
-// Before every sixteenth block it is handed in changed.
-fn refuses_changed<R: Threads + Wait + Sync>(
+// Before every sixteenth block it is handed in changed, and the handle still answers this height.
+fn check_all_refused<R: Threads + Wait + Sync>(
     rt: &R,
     alloc: Global,
     committer: &mut Committer,
     handle: &mut QueryHandle,
     bytes: &[u8],
     height: u64,
-) -> Result<bool, Failed> {
+) -> Result<(), Failed> {
     if height % 16 != 3 {
-        return Ok(true);
+        return Ok(());
     }
-    let all = changed_bytes(alloc, bytes, height)?;
-    are_refused(rt, committer, handle, &all, height)
+    for change in changes() {
+        check_refused(rt, alloc, committer, bytes, *change, height)?;
+        check(is_at_height(handle, height)?)?;
+    }
+    Ok(())
 }
 
 // Whether the committer accepts this block of the chain with its header hash and flags.
@@ -318,7 +299,7 @@ fn is_accepted<R: Threads + Wait + Sync>(
     committer: &mut Committer,
     block: &Committed,
 ) -> bool {
-    match committer.submit(rt, block.bytes, &SaysOk, &Open) {
+    match submitted(rt, committer, block.bytes, &SaysOk, &Open) {
         Ok(receipt) => {
             receipt.header_hash == *block.header_hash
                 && are_numbered(receipt.flags.as_slice(), block.flags)
@@ -328,44 +309,45 @@ fn is_accepted<R: Threads + Wait + Sync>(
     }
 }
 
-fn are_accepted<R: Threads + Wait + Sync>(
+fn check_next<R: Threads + Wait + Sync>(
     rt: &R,
     alloc: Global,
     committer: &mut Committer,
     handle: &mut QueryHandle,
-) -> Result<bool, Failed> {
-    for (number, block) in first_blocks()
-        .iter()
-        .chain(later_blocks().iter())
-        .enumerate()
-    {
-        if !refuses_changed(rt, alloc, committer, handle, block.bytes, number as u64)?
-            || !is_accepted(rt, committer, block)
-        {
-            return Ok(false);
-        }
-    }
-    is_left(alloc, handle, rows(), uses())
+    block: &Committed,
+    height: u64,
+) -> Result<(), Failed> {
+    check_all_refused(rt, alloc, committer, handle, block.bytes, height)?;
+    check(is_accepted(rt, committer, block))
 }
 
-fn is_chain_accepted<R: Threads + Wait + Sync>(
+/// Wants the chain of 32 blocks accepted, and what is left told by the handle.
+pub fn check_chain<R: Threads + Wait + Sync>(
+    rt: &R,
+    alloc: Global,
+    committer: &mut Committer,
+    handle: &mut QueryHandle,
+) -> Result<(), Failed> {
+    let blocks = first_blocks().iter().chain(later_blocks().iter());
+    for (number, block) in blocks.enumerate() {
+        check_next(rt, alloc, committer, handle, block, number as u64)?;
+    }
+    check_left(alloc, handle, rows(), uses())
+}
+
+fn check_chain_by<R: Threads + Wait + Sync>(
     rt: &R,
     alloc: Global,
     workers: usize,
-) -> Result<bool, Failed> {
-    let (mut committer, mut handles) = opened(rt, alloc, workers)?;
-    let are_accepted = match handles.first_mut() {
-        Some(handle) => are_accepted(rt, alloc, &mut committer, handle),
-        None => Err(Failed::Missing("a handle")),
-    };
-    committer.close(rt);
-    are_accepted
+) -> Result<(), Failed> {
+    let channel = channel_with(alloc, "")?;
+    check_by(rt, alloc, channel, workers, &Trial::Chain)
 }
 
 #[test]
 fn the_chain_by_workers(rt: HostRuntime) -> Result<(), Failed> {
-    for workers in &WORKERS {
-        assert!(rt; is_chain_accepted(&rt, rt.alloc(), *workers)?);
+    for workers in worker_counts() {
+        check_chain_by(&rt, rt.alloc(), *workers)?;
     }
     Ok(())
 }

@@ -1,42 +1,31 @@
 //! Want of memory while a block is explained.
 
 use crate::explained_memory::vectors::{first_block, flags, keys, second_block};
-use crate::fixture::configuration;
+use crate::fixture::{explained, have_flags, ledger_with, read_keys, submitted};
 use crate::shown::shown;
-use commit::{Ledger, Reason};
-use failing::{Failed, Outcome, begins};
+use commit::Ledger;
+use failing::{Failed, Outcome, begins, check};
 use key_book::KeyBook;
 use rules::Refused;
 use std::alloc::Global;
 
 mod vectors;
 
-// Whether these are reasons of the block's flags.
-fn have_flags(reasons: &[Reason]) -> bool {
-    reasons.len() == flags().len()
-        && reasons
-            .iter()
-            .zip(flags())
-            .all(|(reason, flag)| reason.flag().number() == *flag)
-}
-
 fn is_explained(ledger: &Ledger, keys: &KeyBook) -> Result<bool, Refused> {
-    Ok(have_flags(ledger.explain(second_block(), keys)?.as_slice()))
+    let reasons = explained(ledger, second_block(), keys)?;
+    Ok(have_flags(reasons.as_slice(), flags()))
 }
 
-// Whether that was want of memory, which left the ledger as it was shown, and the block is explained next.
-fn is_made_good(
+// Wants the ledger as it was shown, and the block explained next.
+fn check_made_good(
     alloc: Global,
     ledger: &Ledger,
     keys: &KeyBook,
-    refused: Refused,
     before: &[u8],
-) -> Result<bool, Failed> {
-    Ok(
-        refused == Refused::Memory
-            && shown(alloc, ledger.view())?.as_slice() == before
-            && is_explained(ledger, keys)?,
-    )
+) -> Result<(), Failed> {
+    let shown = shown(alloc, ledger.view())?;
+    check(shown.as_slice() == before)?;
+    check(is_explained(ledger, keys)?)
 }
 
 fn outcome_of_explain(
@@ -48,23 +37,33 @@ fn outcome_of_explain(
     begins(alloc)?;
     match is_explained(ledger, keys) {
         Ok(true) => Ok(Outcome::Done),
-        Err(refused) if is_made_good(alloc, ledger, keys, refused, before)? => {
+        Err(Refused::Memory) => {
+            check_made_good(alloc, ledger, keys, before)?;
             Ok(Outcome::MadeGood)
         }
         _ => Ok(Outcome::Wrong),
     }
 }
 
-fn outcome_by(alloc: Global, ledger: &mut Ledger, keys: &KeyBook) -> Result<Outcome, Failed> {
-    ledger.submit_one(first_block(), keys)?;
+fn outcome_behind_first(alloc: Global, ledger: &Ledger, keys: &KeyBook) -> Result<Outcome, Failed> {
     let before = shown(alloc, ledger.view())?;
     outcome_of_explain(alloc, ledger, keys, &before)
 }
 
+fn take_first(ledger: &mut Ledger, keys: &KeyBook) -> Result<(), Refused> {
+    submitted(ledger, first_block(), keys)?;
+    Ok(())
+}
+
+fn outcome_by(alloc: Global, keys: &KeyBook) -> Result<Outcome, Failed> {
+    let mut ledger = ledger_with(alloc, "")?;
+    take_first(&mut ledger, keys)?;
+    outcome_behind_first(alloc, &ledger, keys)
+}
+
 pub fn outcome(alloc: Global) -> Result<Outcome, Failed> {
-    let keys = KeyBook::read(alloc, keys())?;
-    let mut ledger = Ledger::open(alloc, configuration(alloc)?);
-    outcome_by(alloc, &mut ledger, &keys)
+    let keys = read_keys(alloc, keys())?;
+    outcome_by(alloc, &keys)
 }
 
 // To be tried with memory that is refused at any one allocation of the call, by `bench/refused_memory.py`. Where it is

@@ -2,13 +2,14 @@
 
 use chain_vectors::CHANNEL;
 use channel::{Channel, ChannelFault};
-use commit::Ledger;
-use failing::Failed;
+use commit::{Ledger, Reason};
+use failing::{Failed, Text};
+use key_book::{KeyBook, KeyBookFault};
 use policy::Definitions;
 use policy_eval::Verify;
-use rules::{Flag, Refused, Row};
+use rules::{Accepted, Flag, Refused, Row};
 use std::alloc::{AllocError, Global};
-use values::{Key, Name, is_key, is_name};
+use values::{Items, Key, KeyRef, Name, NameRef, is_key, is_name};
 use world::World;
 
 /// The bytes of the identity `Org1:client:c0`.
@@ -28,15 +29,28 @@ pub fn key(alloc: Global, bytes: &[u8]) -> Result<Key, Failed> {
     Ok(Key::from_slice(alloc, bytes)?)
 }
 
+pub fn lent_name(bytes: &[u8]) -> Result<NameRef<'_>, Failed> {
+    if !is_name(bytes) {
+        return Err(Failed::Missing("a name"));
+    }
+    Ok(NameRef::new(bytes))
+}
+
+pub fn lent_key(bytes: &[u8]) -> Result<KeyRef<'_>, Failed> {
+    if !is_key(bytes) {
+        return Err(Failed::Missing("a key"));
+    }
+    Ok(KeyRef::new(bytes))
+}
+
 pub fn row_at<'a>(
-    alloc: Global,
     world: &'a World,
     namespace: &[u8],
     at: &[u8],
 ) -> Result<Option<&'a Row>, Failed> {
-    let namespace = name(alloc, namespace)?;
-    let at = key(alloc, at)?;
-    Ok(world.row(&namespace.lend(), &at.lend()))
+    let namespace = lent_name(namespace)?;
+    let at = lent_key(at)?;
+    Ok(world.row(&namespace, &at))
 }
 
 pub fn policy_text(alloc: Global, row: &Row) -> Result<String, AllocError> {
@@ -54,14 +68,23 @@ pub fn are_numbered(flags: &[Flag], numbers: &[u8]) -> bool {
             .all(|(flag, number)| flag.number() == *number)
 }
 
+/// Whether the reasons are of flags with these numbers.
+pub fn have_flags(reasons: &[Reason], numbers: &[u8]) -> bool {
+    for (reason, number) in reasons.iter().zip(numbers) {
+        if reason.flag().number() != *number {
+            return false;
+        }
+    }
+    reasons.len() == numbers.len()
+}
+
 /// The text of a chaincode's policy, which is empty where it has none.
 pub fn definition_text(
     alloc: Global,
     definitions: &Definitions,
     chaincode: &[u8],
 ) -> Result<String, Failed> {
-    let chaincode = name(alloc, chaincode)?;
-    match definitions.of(&chaincode.lend()) {
+    match definitions.of(&lent_name(chaincode)?) {
         None => Ok(String::new(alloc)),
         Some(policy) => Ok(policy.text(alloc)?),
     }
@@ -70,11 +93,78 @@ pub fn definition_text(
 /// The channel of all chains with this line more.
 pub fn channel_with(alloc: Global, line: &str) -> Result<Channel, Failed> {
     let text = format!(in alloc; "{CHANNEL}{line}")?;
-    Ok(Channel::read(alloc, text.as_str())?)
+    Ok(read_channel(alloc, text.as_str())?)
 }
 
-pub fn configuration(alloc: Global) -> Result<Channel, ChannelFault> {
-    Channel::read(alloc, CHANNEL)
+fn read_channel(alloc: Global, text: &str) -> Result<Channel, ChannelFault> {
+    Channel::read(alloc, text)
+}
+
+/// The book of these lines.
+pub fn read_keys(alloc: Global, lines: &str) -> Result<KeyBook, KeyBookFault> {
+    KeyBook::read(alloc, lines)
+}
+
+/// The ledger of this channel.
+fn ledger_of(alloc: Global, channel: Channel) -> Ledger {
+    Ledger::open(alloc, channel)
+}
+
+/// The ledger of the channel that has this line more.
+pub fn ledger_with(alloc: Global, line: &str) -> Result<Ledger, Failed> {
+    let channel = channel_with(alloc, line)?;
+    Ok(ledger_of(alloc, channel))
+}
+
+/// The ledger of a channel without chaincodes.
+pub fn bare_ledger(alloc: Global) -> Result<Ledger, Failed> {
+    let channel = read_channel(alloc, "channel ch")?;
+    Ok(ledger_of(alloc, channel))
+}
+
+/// Hands in the bytes of the next block.
+pub fn submitted<V: Verify>(
+    ledger: &mut Ledger,
+    bytes: &[u8],
+    verifier: &V,
+) -> Result<Accepted, Refused> {
+    ledger.submit_one(bytes, verifier)
+}
+
+/// The reasons of the next block.
+pub fn explained<V: Verify>(
+    ledger: &Ledger,
+    bytes: &[u8],
+    verifier: &V,
+) -> Result<Items<Reason>, Refused> {
+    ledger.explain(bytes, verifier)
+}
+
+/// Takes the next block, and tells whether its flags have these numbers.
+pub fn is_taken_by<V: Verify>(
+    ledger: &mut Ledger,
+    bytes: &[u8],
+    verifier: &V,
+    flags: &[u8],
+) -> Result<bool, Refused> {
+    let accepted = submitted(ledger, bytes, verifier)?;
+    Ok(are_numbered(accepted.flags.as_slice(), flags))
+}
+
+/// Says what it is that isn't as wanted.
+pub fn named(name: &'static str, checked: Result<(), Failed>) -> Result<(), Failed> {
+    match checked {
+        Err(Failed::Unlike) => Err(Failed::Missing(name)),
+        other => other,
+    }
+}
+
+/// Says the number of what isn't as wanted.
+pub fn numbered(number: u64, checked: Result<(), Failed>) -> Result<(), Failed> {
+    match checked {
+        Err(Failed::Unlike) => Err(Failed::Fault(Text::of(&number))),
+        other => other,
+    }
 }
 
 /// A ledger of that channel.
@@ -84,14 +174,14 @@ pub struct Peer {
 }
 
 impl Peer {
-    pub fn open(alloc: Global) -> Result<Peer, ChannelFault> {
-        Ok(Peer::of(alloc, configuration(alloc)?))
+    pub fn open(alloc: Global) -> Result<Peer, Failed> {
+        Peer::with_line(alloc, "")
     }
 
-    pub fn of(alloc: Global, channel: Channel) -> Peer {
-        Peer {
-            ledger: Ledger::open(alloc, channel),
-        }
+    /// Of the channel that has this line more.
+    pub fn with_line(alloc: Global, line: &str) -> Result<Peer, Failed> {
+        let ledger = ledger_with(alloc, line)?;
+        Ok(Peer { ledger })
     }
 
     pub fn world(&self) -> &World {
@@ -99,7 +189,7 @@ impl Peer {
     }
 
     pub fn refusal_of<V: Verify>(&mut self, bytes: &[u8], verifier: &V) -> Option<Refused> {
-        self.ledger.submit_one(bytes, verifier).err()
+        submitted(&mut self.ledger, bytes, verifier).err()
     }
 
     /// Takes the next block, and tells whether its flags have these numbers.
@@ -109,7 +199,6 @@ impl Peer {
         verifier: &V,
         flags: &[u8],
     ) -> Result<bool, Refused> {
-        let accepted = self.ledger.submit_one(bytes, verifier)?;
-        Ok(are_numbered(accepted.flags.as_slice(), flags))
+        is_taken_by(&mut self.ledger, bytes, verifier, flags)
     }
 }

@@ -1,9 +1,9 @@
 //! Who signs with other keys than those by which signatures verify, so that bad signatures can be drafted.
 
-use crate::fixture::{CREATOR, Peer};
+use crate::fixture::{CREATOR, Peer, read_keys};
 use crate::scripted::drafted;
 use block::BlockVersion;
-use failing::Failed;
+use failing::{Failed, check};
 use header_hash::tx_id;
 use key_book::KeyBook;
 use rules::{FirstUse, Flag};
@@ -40,10 +40,9 @@ pub struct Books {
 }
 
 pub fn read_books(alloc: Global) -> Result<Books, Failed> {
-    Ok(Books {
-        signing: KeyBook::read(alloc, SIGNING)?,
-        verifying: KeyBook::read(alloc, VERIFYING)?,
-    })
+    let signing = read_keys(alloc, SIGNING)?;
+    let verifying = read_keys(alloc, VERIFYING)?;
+    Ok(Books { signing, verifying })
 }
 
 const SCRIPT: &str = "\
@@ -69,64 +68,78 @@ tx Org1:client:f n0 cc
 tx Org1:client:c0 n1 cc
 ";
 
-// Where the forgers' keys verify, all but the last two, which have ids of the first two, are valid.
-const TRUE: [u8; 6] = [0, 0, 0, 0, 9, 9];
-
-// A bad creator's signature is told before an id that was used, and uses none; a bad endorsement doesn't count.
-const FORGED: [u8; 6] = [4, 10, 10, 0, 4, 9];
-
-fn uses(world: &World) -> (Option<FirstUse>, Option<FirstUse>) {
-    (
-        world.first_use(&tx_id(b"n0", FORGER)),
-        world.first_use(&tx_id(b"n1", CREATOR)),
-    )
+/// The flags of the script's block, and the first uses of the ids of its first two transactions.
+struct Taken {
+    flags: [u8; 6],
+    forger: Option<FirstUse>,
+    other: Option<FirstUse>,
 }
 
-const NONE_AND_REFUSED: (Option<FirstUse>, Option<FirstUse>) = (
-    None,
-    Some(FirstUse {
+// Where the forgers' keys verify, all but the last two, which have ids of the first two, are valid.
+static TRUE: Taken = Taken {
+    flags: [0, 0, 0, 0, 9, 9],
+    forger: Some(FirstUse {
+        block: 0,
+        place: 0,
+        flag: Flag::Valid,
+    }),
+    other: Some(FirstUse {
+        block: 0,
+        place: 1,
+        flag: Flag::Valid,
+    }),
+};
+
+// A bad creator's signature is told before an id that was used, and uses none; a bad endorsement doesn't count.
+static FORGED: Taken = Taken {
+    flags: [4, 10, 10, 0, 4, 9],
+    forger: None,
+    other: Some(FirstUse {
         block: 0,
         place: 1,
         flag: Flag::EndorsementPolicyFailure,
     }),
-);
+};
 
-// Whether the script's block, drafted by the one book, has these flags by the other.
-fn has_flags(
+fn are_used(world: &World, taken: &Taken) -> bool {
+    world.first_use(&tx_id(b"n0", FORGER)) == taken.forger
+        && world.first_use(&tx_id(b"n1", CREATOR)) == taken.other
+}
+
+// Wants the script's block, drafted by the one book, taken so by the other.
+fn check_taken(
     alloc: Global,
     peer: &mut Peer,
     signing: &KeyBook,
     verifying: &KeyBook,
-    flags: &[u8],
-) -> Result<bool, Failed> {
+    taken: &Taken,
+) -> Result<(), Failed> {
     let block = drafted(alloc, signing, BlockVersion::V1, None, SCRIPT)?;
-    Ok(peer.is_taken(block.as_slice(), verifying, flags)?)
+    check(peer.is_taken(block.as_slice(), verifying, &taken.flags)?)?;
+    check(are_used(peer.world(), taken))
 }
 
-fn is_true(alloc: Global, books: &Books) -> Result<bool, Failed> {
+fn check_by(
+    alloc: Global,
+    signing: &KeyBook,
+    verifying: &KeyBook,
+    taken: &Taken,
+) -> Result<(), Failed> {
     let mut peer = Peer::open(alloc)?;
-    has_flags(alloc, &mut peer, &books.signing, &books.signing, &TRUE)
+    check_taken(alloc, &mut peer, signing, verifying, taken)
 }
 
-fn is_forged(alloc: Global, books: &Books) -> Result<bool, Failed> {
-    let mut peer = Peer::open(alloc)?;
-    Ok(
-        has_flags(alloc, &mut peer, &books.signing, &books.verifying, &FORGED)?
-            && uses(peer.world()) == NONE_AND_REFUSED,
-    )
+fn check_both(alloc: Global, books: &Books) -> Result<(), Failed> {
+    check_by(alloc, &books.signing, &books.signing, &TRUE)?;
+    check_by(alloc, &books.signing, &books.verifying, &FORGED)
 }
 
-fn are_so(alloc: Global, books: &Books) -> Result<bool, Failed> {
-    Ok(is_true(alloc, books)? && is_forged(alloc, books)?)
-}
-
-fn is_so(alloc: Global) -> Result<bool, Failed> {
+fn check_signatures(alloc: Global) -> Result<(), Failed> {
     let books = read_books(alloc)?;
-    are_so(alloc, &books)
+    check_both(alloc, &books)
 }
 
 #[test]
 fn signatures_by_other_keys(rt: HostRuntime) -> Result<(), Failed> {
-    assert!(rt; is_so(rt.alloc())?);
-    Ok(())
+    check_signatures(rt.alloc())
 }

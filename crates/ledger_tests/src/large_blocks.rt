@@ -2,14 +2,18 @@
 
 use crate::fixture::row_at;
 use crate::scripted::ScriptedPeer;
-use failing::Failed;
+use failing::{Failed, check};
 use rules::Row;
 use std::alloc::{AllocError, Global};
 use world::World;
 
 const LARGE: usize = 400_000;
 
-const KEYS: [&str; 3] = ["a", "b", "c"];
+static KEYS: [&str; 3] = ["a", "b", "c"];
+
+fn keys() -> &'static [&'static str] {
+    &KEYS
+}
 
 fn put_tx(alloc: Global, script: &mut String, key: &str, value: &str) -> Result<(), AllocError> {
     let tx = format!(in alloc;
@@ -18,13 +22,22 @@ fn put_tx(alloc: Global, script: &mut String, key: &str, value: &str) -> Result<
     script.push_str(tx.as_str())
 }
 
+fn put_txs(alloc: Global, script: &mut String, value: &str) -> Result<(), AllocError> {
+    for key in keys() {
+        put_tx(alloc, script, key, value)?;
+    }
+    Ok(())
+}
+
+fn put_large(alloc: Global, script: &mut String) -> Result<(), AllocError> {
+    let value = "v".repeat(alloc, LARGE)?;
+    put_txs(alloc, script, value.as_str())
+}
+
 // Each key gets a value of LARGE bytes.
 fn large_script(alloc: Global) -> Result<String, AllocError> {
-    let value = "v".repeat(alloc, LARGE)?;
     let mut script = String::new(alloc);
-    for key in KEYS {
-        put_tx(alloc, &mut script, key, value.as_str())?;
-    }
+    put_large(alloc, &mut script)?;
     Ok(script)
 }
 
@@ -35,27 +48,29 @@ fn is_large(row: Option<&Row>) -> bool {
     }
 }
 
-fn are_large(alloc: Global, world: &World) -> Result<bool, Failed> {
-    for key in KEYS {
-        if !is_large(row_at(alloc, world, b"cc", key.as_bytes())?) {
-            return Ok(false);
-        }
+fn check_large(world: &World) -> Result<(), Failed> {
+    for key in keys() {
+        check(is_large(row_at(world, b"cc", key.as_bytes())?))?;
     }
-    Ok(true)
+    Ok(())
 }
 
-fn is_taken_by(alloc: Global, peer: &mut ScriptedPeer) -> Result<bool, Failed> {
+fn check_taken(alloc: Global, peer: &mut ScriptedPeer) -> Result<(), Failed> {
     let script = large_script(alloc)?;
-    Ok(peer.is_taken(alloc, script.as_str(), &[0, 0, 0])? && are_large(alloc, peer.world())?)
+    check(peer.is_taken(alloc, script.as_str(), &[0, 0, 0])?)
 }
 
-fn is_taken(alloc: Global) -> Result<bool, Failed> {
+fn check_by(alloc: Global, peer: &mut ScriptedPeer) -> Result<(), Failed> {
+    check_taken(alloc, peer)?;
+    check_large(peer.world())
+}
+
+fn check_block(alloc: Global) -> Result<(), Failed> {
     let mut peer = ScriptedPeer::open(alloc)?;
-    is_taken_by(alloc, &mut peer)
+    check_by(alloc, &mut peer)
 }
 
 #[test]
 fn more_than_a_mebibyte(rt: HostRuntime) -> Result<(), Failed> {
-    assert!(rt; is_taken(rt.alloc())?);
-    Ok(())
+    check_block(rt.alloc())
 }

@@ -11,6 +11,10 @@ mod by_workers;
 #[cfg(test)]
 mod chain;
 #[cfg(test)]
+mod changed_updates;
+#[cfg(test)]
+mod committers;
+#[cfg(test)]
 mod explained_memory;
 #[cfg(test)]
 mod fixture;
@@ -24,6 +28,8 @@ mod limits;
 mod long_block;
 #[cfg(test)]
 mod memory;
+#[cfg(test)]
+mod plain_peer;
 #[cfg(test)]
 mod random_chains;
 #[cfg(test)]
@@ -45,11 +51,15 @@ mod told;
 #[cfg(test)]
 mod update_chains;
 #[cfg(test)]
+mod update_faults;
+#[cfg(test)]
 mod update_messages;
 #[cfg(test)]
 mod update_rows;
 #[cfg(test)]
 mod updates;
+#[cfg(test)]
+mod updates_by_workers;
 #[cfg(test)]
 mod versions;
 #[cfg(test)]

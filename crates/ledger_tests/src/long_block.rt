@@ -4,7 +4,7 @@ use crate::fixture::CREATOR;
 use crate::scripted::ScriptedPeer;
 use crate::shown::is_row;
 use chain_vectors::LeftRow;
-use failing::Failed;
+use failing::{Failed, check};
 use header_hash::tx_id;
 use rules::{FirstUse, Flag};
 use std::alloc::Global;
@@ -14,51 +14,52 @@ use world::World;
 // Of the last two transactions the first is valid and the second isn't.
 const LENGTH: u32 = 1000;
 
-fn is_first_taken(alloc: Global, peer: &mut ScriptedPeer) -> Result<bool, Failed> {
+fn check_first(alloc: Global, peer: &mut ScriptedPeer) -> Result<(), Failed> {
     let script = keys_script(alloc, LENGTH)?;
-    peer.is_taken(alloc, script.as_str(), &[0])
+    check(peer.is_taken(alloc, script.as_str(), &[0])?)
 }
 
-fn is_later_taken(alloc: Global, peer: &mut ScriptedPeer, flags: &[u8]) -> Result<bool, Failed> {
-    let script = chain_script(alloc, LENGTH)?;
-    peer.is_taken(alloc, script.as_str(), flags)
-}
-
-fn are_taken(alloc: Global, peer: &mut ScriptedPeer) -> Result<bool, Failed> {
+fn check_flags(alloc: Global, peer: &mut ScriptedPeer, script: &str) -> Result<(), Failed> {
     let flags = chain_flags(alloc, LENGTH)?;
-    Ok(is_first_taken(alloc, peer)? && is_later_taken(alloc, peer, &flags)?)
+    check(peer.is_taken(alloc, script, &flags)?)
+}
+
+fn check_later(alloc: Global, peer: &mut ScriptedPeer) -> Result<(), Failed> {
+    let script = chain_script(alloc, LENGTH)?;
+    check_flags(alloc, peer, script.as_str())
 }
 
 // The last valid one, at place 998, has written key 999.
-fn is_left(alloc: Global, world: &World) -> Result<bool, Failed> {
-    let row = LeftRow {
-        value: b"v",
-        block: 1,
-        tx: 998,
-        policy: "",
-    };
-    let used = FirstUse {
-        block: 1,
-        place: 999,
-        flag: Flag::MvccReadConflict,
-    };
-    Ok(
-        world.first_use(&tx_id(b"n999", CREATOR)) == Some(used)
-            && is_row(alloc, world, b"cc", b"k999", &Some(row))?,
-    )
+static LAST_ROW: Option<LeftRow> = Some(LeftRow {
+    value: b"v",
+    block: 1,
+    tx: 998,
+    policy: "",
+});
+
+const LAST_USE: FirstUse = FirstUse {
+    block: 1,
+    place: 999,
+    flag: Flag::MvccReadConflict,
+};
+
+fn check_left(alloc: Global, world: &World) -> Result<(), Failed> {
+    check(is_row(alloc, world, b"cc", b"k999", &LAST_ROW)?)?;
+    check(world.first_use(&tx_id(b"n999", CREATOR)) == Some(LAST_USE))
 }
 
-fn is_so_by(alloc: Global, peer: &mut ScriptedPeer) -> Result<bool, Failed> {
-    Ok(are_taken(alloc, peer)? && is_left(alloc, peer.world())?)
+fn check_by(alloc: Global, peer: &mut ScriptedPeer) -> Result<(), Failed> {
+    check_first(alloc, peer)?;
+    check_later(alloc, peer)?;
+    check_left(alloc, peer.world())
 }
 
-fn is_so(alloc: Global) -> Result<bool, Failed> {
+fn check_blocks(alloc: Global) -> Result<(), Failed> {
     let mut peer = ScriptedPeer::open(alloc)?;
-    is_so_by(alloc, &mut peer)
+    check_by(alloc, &mut peer)
 }
 
 #[test]
 fn every_second_one_is_stale(rt: HostRuntime) -> Result<(), Failed> {
-    assert!(rt; is_so(rt.alloc())?);
-    Ok(())
+    check_blocks(rt.alloc())
 }

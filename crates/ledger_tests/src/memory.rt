@@ -4,9 +4,10 @@ use crate::shown::{is_row, shown};
 use crate::update_rows::FIRST_POLICY;
 use block::BlockVersion;
 use chain_vectors::LeftRow;
-use failing::{Failed, Outcome, begins};
+use failing::{Failed, Outcome, begins, check};
 use rules::Refused;
 use std::alloc::Global;
+use values::Bytes;
 use world::World;
 
 const FIRST: &str = "\
@@ -65,46 +66,34 @@ static UPDATE: Second = Second {
     policy: "AND('Org1.peer','Org2.peer')",
 };
 
-// Whether the refusal was want of memory, and left the world as it was shown before, in which `k` isn't written.
-fn is_as_before(
-    alloc: Global,
-    peer: &ScriptedPeer,
-    refused: Refused,
-    before: &[u8],
-) -> Result<bool, Failed> {
-    Ok(
-        refused == Refused::Memory
-            && shown(alloc, peer.world())?.as_slice() == before
-            && is_row(alloc, peer.world(), b"cc", b"k", &None)?,
-    )
+// Wants the world as it was shown before, in which `k` isn't written.
+fn check_as_before(alloc: Global, world: &World, before: &[u8]) -> Result<(), Failed> {
+    let shown = shown(alloc, world)?;
+    check(shown.as_slice() == before)?;
+    check(is_row(alloc, world, b"cc", b"k", &None)?)
 }
 
-fn is_policy(alloc: Global, world: &World, policy: &str) -> Result<bool, Failed> {
+fn check_policy(alloc: Global, world: &World, policy: &str) -> Result<(), Failed> {
     let text = definition_text(alloc, world.definitions(), b"cc")?;
-    Ok(text.as_str() == policy)
+    check(text.as_str() == policy)
 }
 
-fn is_behind_both(alloc: Global, peer: &ScriptedPeer, second: &Second) -> Result<bool, Failed> {
-    Ok(
-        peer.world().height() == 2
-            && is_row(alloc, peer.world(), b"cc", b"k", &second.row)?
-            && is_policy(alloc, peer.world(), second.policy)?,
-    )
+fn check_behind_both(alloc: Global, world: &World, second: &Second) -> Result<(), Failed> {
+    check(world.height() == 2)?;
+    check(is_row(alloc, world, b"cc", b"k", &second.row)?)?;
+    check_policy(alloc, world, second.policy)
 }
 
-// Whether the refused bytes changed nothing, and the same are taken next.
-fn is_made_good(
+// Wants that the refused bytes changed nothing, and the same are taken next.
+fn check_made_good(
     alloc: Global,
     peer: &mut ScriptedPeer,
     second: &Second,
-    refused: Refused,
     before: &[u8],
-) -> Result<bool, Failed> {
-    Ok(
-        is_as_before(alloc, peer, refused, before)?
-            && peer.is_taken(alloc, second.script, second.flags)?
-            && is_behind_both(alloc, peer, second)?,
-    )
+) -> Result<(), Failed> {
+    check_as_before(alloc, peer.world(), before)?;
+    check(peer.is_taken(alloc, second.script, second.flags)?)?;
+    check_behind_both(alloc, peer.world(), second)
 }
 
 fn outcome_of_submit(
@@ -112,24 +101,45 @@ fn outcome_of_submit(
     peer: &mut ScriptedPeer,
     second: &Second,
     before: &[u8],
+    block: &Bytes,
 ) -> Result<Outcome, Failed> {
-    let block = peer.block(alloc, second.script)?;
     begins(alloc)?;
     match peer.refusal_of(block.as_slice()) {
-        None if is_behind_both(alloc, peer, second)? => Ok(Outcome::Done),
-        Some(refused) if is_made_good(alloc, peer, second, refused, before)? => {
+        None => {
+            check_behind_both(alloc, peer.world(), second)?;
+            Ok(Outcome::Done)
+        }
+        Some(Refused::Memory) => {
+            check_made_good(alloc, peer, second, before)?;
             Ok(Outcome::MadeGood)
         }
-        _ => Ok(Outcome::Wrong),
+        Some(_) => Ok(Outcome::Wrong),
     }
 }
 
-fn outcome_by(alloc: Global, peer: &mut ScriptedPeer, second: &Second) -> Result<Outcome, Failed> {
-    if !peer.is_taken(alloc, FIRST, &[0])? || !is_policy(alloc, peer.world(), FIRST_POLICY)? {
-        return Ok(Outcome::Wrong);
-    }
+fn outcome_of_block(
+    alloc: Global,
+    peer: &mut ScriptedPeer,
+    second: &Second,
+    before: &[u8],
+) -> Result<Outcome, Failed> {
+    let block = peer.block(alloc, second.script)?;
+    outcome_of_submit(alloc, peer, second, before, &block)
+}
+
+fn outcome_behind_first(
+    alloc: Global,
+    peer: &mut ScriptedPeer,
+    second: &Second,
+) -> Result<Outcome, Failed> {
     let before = shown(alloc, peer.world())?;
-    outcome_of_submit(alloc, peer, second, &before)
+    outcome_of_block(alloc, peer, second, &before)
+}
+
+fn outcome_by(alloc: Global, peer: &mut ScriptedPeer, second: &Second) -> Result<Outcome, Failed> {
+    check(peer.is_taken(alloc, FIRST, &[0])?)?;
+    check_policy(alloc, peer.world(), FIRST_POLICY)?;
+    outcome_behind_first(alloc, peer, second)
 }
 
 fn outcome_of_second(alloc: Global, second: &Second) -> Result<Outcome, Failed> {

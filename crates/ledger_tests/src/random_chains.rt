@@ -1,18 +1,17 @@
 //! Chains at random, which the ledger takes as they are to be taken.
 
 use crate::alike::Pair;
-use crate::fixture::CREATOR;
+use crate::fixture::{CREATOR, named, numbered};
 use crate::forgers::{Books, FORGER, read_books};
-use crate::random_scripts::{KEYS, NAMESPACES, NONCES, script_at_random};
+use crate::random_scripts::{NONCES, keys, namespaces, script_at_random};
 use crate::scripted::next_block;
 use block::BlockVersion;
-use failing::Failed;
+use failing::{Failed, check};
 use header_hash::tx_id;
 use key_book::KeyBook;
 use random_numbers::Random;
 use std::alloc::{AllocError, Global};
 use std::ops::Range;
-use std::process::Abort;
 use transaction::TxId;
 use values::Bytes;
 use world::World;
@@ -25,13 +24,8 @@ fn drafted_at_random(
     nonces: &mut Vec<u8>,
 ) -> Result<Bytes, Failed> {
     let script = script_at_random(alloc, random, keys, world, nonces)?;
-    next_block(
-        alloc,
-        keys,
-        version_at_random(random, world),
-        world,
-        script.as_str(),
-    )
+    let version = version_at_random(random, world);
+    next_block(alloc, keys, version, world, script.as_str())
 }
 
 // Seldom another one than the last block's.
@@ -64,41 +58,57 @@ pub fn with_other_front(random: &mut Random, block: Bytes) -> Vec<u8> {
     bytes
 }
 
-// Takes 1 to 4 blocks at random, and tells whether they are answered alike.
-fn take_at_random(
+// Takes a block at random, and tells whether it is answered alike.
+fn take_next(
     alloc: Global,
     random: &mut Random,
     books: &Books,
     pair: &mut Pair,
     nonces: &mut Vec<u8>,
 ) -> Result<bool, Failed> {
+    let bytes = block_at_random(alloc, random, &books.signing, pair.world(), nonces)?;
+    Ok(pair.take(alloc, &bytes, &books.verifying)?)
+}
+
+// 1 to 4 blocks.
+fn take_at_random(
+    alloc: Global,
+    random: &mut Random,
+    books: &Books,
+    pair: &mut Pair,
+    nonces: &mut Vec<u8>,
+) -> Result<(), Failed> {
     let mut are_alike = true;
     for _ in 0..=random.below(4) {
-        let bytes = block_at_random(alloc, random, &books.signing, pair.world(), nonces)?;
-        are_alike = pair.take(alloc, &bytes, &books.verifying)? && are_alike;
+        are_alike = take_next(alloc, random, books, pair, nonces)? && are_alike;
     }
-    Ok(are_alike)
+    check(are_alike)
 }
 
-pub fn are_keys_alike(alloc: Global, pair: &Pair) -> Result<bool, Failed> {
-    for namespace in NAMESPACES {
-        for at in KEYS {
-            if !pair.is_alike_at(alloc, namespace.as_bytes(), at)? {
-                return Ok(false);
-            }
-        }
+fn check_namespace(alloc: Global, pair: &Pair, namespace: &str) -> Result<(), Failed> {
+    for at in keys() {
+        check(pair.is_alike_at(alloc, namespace.as_bytes(), at)?)?;
     }
-    Ok(true)
+    Ok(())
 }
 
-fn push_id(
-    alloc: Global,
-    ids: &mut Vec<TxId>,
-    nonce: u8,
-    creator: &[u8],
-) -> Result<(), AllocError> {
+fn check_keys(alloc: Global, pair: &Pair) -> Result<(), Failed> {
+    for namespace in namespaces() {
+        check_namespace(alloc, pair, namespace)?;
+    }
+    Ok(())
+}
+
+/// Wants the same at each key, of each id that was drawn, and of each block.
+pub fn check_alike(alloc: Global, pair: &Pair, ids: &[TxId], nonces: &[u8]) -> Result<(), Failed> {
+    check_keys(alloc, pair)?;
+    check(are_uses_alike(pair, ids, nonces) && pair.has_same_blocks())
+}
+
+fn push_ids(alloc: Global, ids: &mut Vec<TxId>, nonce: u8) -> Result<(), AllocError> {
     let nonce = format!(in alloc; "n{nonce}")?;
-    ids.push(tx_id(nonce.as_bytes(), creator))?;
+    ids.push(tx_id(nonce.as_bytes(), CREATOR))?;
+    ids.push(tx_id(nonce.as_bytes(), FORGER))?;
     Ok(())
 }
 
@@ -106,51 +116,48 @@ fn push_id(
 pub fn all_ids(alloc: Global) -> Result<Vec<TxId>, AllocError> {
     let mut ids = Vec::new(alloc);
     for nonce in 0..=NONCES {
-        push_id(alloc, &mut ids, nonce, CREATOR)?;
-        push_id(alloc, &mut ids, nonce, FORGER)?;
+        push_ids(alloc, &mut ids, nonce)?;
     }
     Ok(ids)
 }
 
-pub fn are_uses_alike(pair: &Pair, ids: &[TxId], nonces: &[u8]) -> bool {
-    nonces.iter().all(|nonce| {
+fn are_uses_alike(pair: &Pair, ids: &[TxId], nonces: &[u8]) -> bool {
+    for nonce in nonces {
         let first = *nonce as usize * 2;
-        ids.iter()
-            .skip(first)
-            .take(2)
-            .all(|id| pair.is_alike_of(id))
-    })
+        for id in ids.iter().skip(first).take(2) {
+            if !pair.is_alike_of(id) {
+                return false;
+            }
+        }
+    }
+    true
 }
 
-fn is_pair_alike(
+fn check_pair(
     alloc: Global,
     random: &mut Random,
     books: &Books,
     ids: &[TxId],
     pair: &mut Pair,
-) -> Result<bool, Failed> {
+) -> Result<(), Failed> {
     let mut nonces = Vec::from_slice(alloc, &[NONCES])?;
-    Ok(
-        take_at_random(alloc, random, books, pair, &mut nonces)?
-            && are_keys_alike(alloc, pair)?
-            && are_uses_alike(pair, ids, &nonces)
-            && pair.has_same_blocks(),
-    )
+    take_at_random(alloc, random, books, pair, &mut nonces)?;
+    check_alike(alloc, pair, ids, &nonces)
 }
 
-// Whether a chain of this seed is answered alike.
-fn is_chain_alike(
+// Wants a chain of this seed answered alike.
+fn check_chain(
     alloc: Global,
     seed: u64,
     books: &Books,
     ids: &[TxId],
     given: &mut [u32; 26],
-) -> Result<bool, Failed> {
+) -> Result<(), Failed> {
     let mut random = Random::new(seed);
     let mut pair = Pair::open(alloc)?;
-    let is_alike = is_pair_alike(alloc, &mut random, books, ids, &mut pair);
+    let checked = check_pair(alloc, &mut random, books, ids, &mut pair);
     add(given, pair.given());
-    is_alike
+    checked
 }
 
 /// Adds counts.
@@ -161,49 +168,47 @@ pub fn add(all: &mut [u32], given: &[u32]) {
 }
 
 // The numbers of all flags.
-const FLAGS: [u8; 11] = [0, 2, 4, 8, 9, 10, 11, 12, 14, 22, 25];
+static FLAGS: [u8; 11] = [0, 2, 4, 8, 9, 10, 11, 12, 14, 22, 25];
 
 fn is_each_given(given: &[u32; 26]) -> bool {
-    FLAGS
-        .iter()
-        .all(|number| given[(*number % 26) as usize] >= 20)
+    for number in &FLAGS {
+        if given[(*number % 26) as usize] < 20 {
+            return false;
+        }
+    }
+    true
 }
 
-// How often each flag is given by these chains, up to the first that isn't taken alike.
-fn given_of(
+fn check_seeds(
     alloc: Global,
     seeds: Range<u64>,
     books: &Books,
     ids: &[TxId],
-) -> Result<([u32; 26], Option<u64>), Failed> {
+) -> Result<(), Failed> {
     let mut given = [0; 26];
     for seed in seeds {
-        if !is_chain_alike(alloc, seed, books, ids, &mut given)? {
-            return Ok((given, Some(seed)));
-        }
+        numbered(seed, check_chain(alloc, seed, books, ids, &mut given))?;
     }
-    Ok((given, None))
+    named("20 of each flag", check(is_each_given(&given)))
 }
 
-fn given_by(alloc: Global, seeds: Range<u64>) -> Result<([u32; 26], Option<u64>), Failed> {
-    let books = read_books(alloc)?;
+fn check_by(alloc: Global, seeds: Range<u64>, books: &Books) -> Result<(), Failed> {
     let ids = all_ids(alloc)?;
-    given_of(alloc, seeds, &books, &ids)
+    check_seeds(alloc, seeds, books, &ids)
 }
 
-fn expect_alike(rt: &impl Abort, alloc: Global, seeds: Range<u64>) -> Result<(), Failed> {
-    let (given, other) = given_by(alloc, seeds)?;
-    assert!(rt; other.is_none(), "chain {other:?}");
-    assert!(rt; is_each_given(&given), "{given:?}");
-    Ok(())
+// Wants the chains of these seeds answered alike, and each flag given often. A chain that isn't is told by its seed.
+fn check_chains(alloc: Global, seeds: Range<u64>) -> Result<(), Failed> {
+    let books = read_books(alloc)?;
+    check_by(alloc, seeds, &books)
 }
 
 #[test]
 fn chains_at_random(rt: HostRuntime) -> Result<(), Failed> {
-    expect_alike(&rt, rt.alloc(), 1..501)
+    check_chains(rt.alloc(), 1..501)
 }
 
 #[test]
 fn more_chains_at_random(rt: HostRuntime) -> Result<(), Failed> {
-    expect_alike(&rt, rt.alloc(), 501..1001)
+    check_chains(rt.alloc(), 501..1001)
 }

@@ -1,6 +1,6 @@
 //! Transactions at random, as lines of a script: few keys, operations and reads of every kind, most of them right.
 
-use crate::fixture::{key, name};
+use crate::fixture::{lent_name, row_at};
 use crate::spoiling::raw_line;
 use failing::Failed;
 use key_book::KeyBook;
@@ -12,10 +12,30 @@ use transaction::Version;
 use values::{BoundRef, is_bound};
 use world::World;
 
-pub const KEYS: [&[u8]; 5] = [b"a", b"ab", b"b", b"c", b"\xff"];
+static KEYS: [&[u8]; 5] = [b"a", b"ab", b"b", b"c", b"\xff"];
+
+pub fn keys() -> &'static [&'static [u8]] {
+    &KEYS
+}
 
 // The last has no definition.
-pub const NAMESPACES: [&str; 4] = ["cc", "dd", "both", "zz"];
+static NAMESPACES: [&str; 4] = ["cc", "dd", "both", "zz"];
+
+pub fn namespaces() -> &'static [&'static str] {
+    &NAMESPACES
+}
+
+/// The namespace that has no definition.
+pub const UNDEFINED: &str = "zz";
+
+/// One of the others.
+pub fn defined(number: u8) -> &'static str {
+    match number % 3 {
+        0 => "cc",
+        1 => "dd",
+        _ => "both",
+    }
+}
 
 /// How many nonces there are: `n` with a number.
 pub const NONCES: u8 = 96;
@@ -42,11 +62,11 @@ fn key_at_random(random: &mut Random) -> &'static [u8] {
 // Seldom the one without a definition.
 fn namespace_at_random(random: &mut Random) -> &'static str {
     let number = random.below(24);
-    NAMESPACES[if number == 23 {
-        3
+    if number == 23 {
+        UNDEFINED
     } else {
-        (number % 3) as usize
-    }]
+        defined(number)
+    }
 }
 
 // One that an earlier transaction of the next block may give.
@@ -59,7 +79,6 @@ fn version_of_block(random: &mut Random, world: &World) -> Version {
 
 // One that the state has, or that the next block may give.
 fn version_at_random(
-    alloc: Global,
     random: &mut Random,
     world: &World,
     namespace: &str,
@@ -68,9 +87,7 @@ fn version_at_random(
     if random.one_of(4) {
         return Ok(Some(version_of_block(random, world)));
     }
-    let namespace = name(alloc, namespace.as_bytes())?;
-    let at = key(alloc, at)?;
-    match world.row(&namespace.lend(), &at.lend()) {
+    match row_at(world, namespace.as_bytes(), at)? {
         None => Ok(None),
         Some(row) => Ok(Some(row.version)),
     }
@@ -103,7 +120,7 @@ fn put_read(
     namespace: &str,
 ) -> Result<(), Failed> {
     let at = key_at_random(random);
-    match version_at_random(alloc, random, world, namespace, at)? {
+    match version_at_random(random, world, namespace, at)? {
         None => put_absent(alloc, script, at)?,
         Some(version) => put_version(alloc, script, "read", at, version)?,
     }
@@ -156,7 +173,24 @@ fn put_results(
     Ok(())
 }
 
-// The rows that the state has in the range, of which some may be left out, and whether it was read to its end.
+// The rows that the state has in the range, of which some may be left out.
+fn put_rows(
+    alloc: Global,
+    script: &mut String,
+    random: &mut Random,
+    world: &World,
+    namespace: &str,
+    start: &[u8],
+    end: &[u8],
+) -> Result<(), Failed> {
+    let limit = random.below(6) as usize;
+    let namespace = lent_name(namespace.as_bytes())?;
+    let (start, end) = (bound(start)?, bound(end)?);
+    let answer = world.range(alloc, &namespace, &start, &end, limit)?;
+    Ok(put_results(alloc, script, random, world, &answer.rows)?)
+}
+
+// A range, and whether it was read to its end.
 fn put_range(
     alloc: Global,
     script: &mut String,
@@ -167,16 +201,7 @@ fn put_range(
     let start = bound_at_random(random);
     let end = bound_at_random(random);
     put_range_line(alloc, script, start, end, random.one_of(2))?;
-    let limit = random.below(6) as usize;
-    let namespace = name(alloc, namespace.as_bytes())?;
-    let answer = world.range(
-        alloc,
-        &namespace.lend(),
-        &bound(start)?,
-        &bound(end)?,
-        limit,
-    )?;
-    Ok(put_results(alloc, script, random, world, &answer.rows)?)
+    put_rows(alloc, script, random, world, namespace, start, end)
 }
 
 fn put_write(alloc: Global, script: &mut String, random: &mut Random) -> Result<(), AllocError> {

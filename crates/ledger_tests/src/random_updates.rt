@@ -1,6 +1,8 @@
 //! Scripts at random with many updates: of each cause for which one isn't valid, and more that are valid.
 
-use crate::random_scripts::{NAMESPACES, NONCES, creator_at_random, put_endorsements, put_tx};
+use crate::random_scripts::{
+    NONCES, UNDEFINED, creator_at_random, defined, put_endorsements, put_tx,
+};
 use crate::spoiling::{drafted_tx, raw_line, raw_line_of};
 use block::BlockVersion;
 use failing::Failed;
@@ -25,11 +27,11 @@ const PEERS: [&str; 2] = ["Org1:peer:p0", "Org2:peer:q0"];
 
 // Mostly the first one, so that updates and writes meet.
 fn chaincode_at_random(random: &mut Random) -> &'static str {
-    NAMESPACES[if random.one_of(3) {
-        random.below(3) as usize
+    if random.one_of(3) {
+        defined(random.below(3))
     } else {
-        0
-    }]
+        "cc"
+    }
 }
 
 fn put_update(
@@ -40,7 +42,7 @@ fn put_update(
 ) -> Result<(), AllocError> {
     let creator = creator_at_random(random);
     let chaincode = if random.one_of(9) {
-        NAMESPACES[3]
+        UNDEFINED
     } else {
         chaincode_at_random(random)
     };

@@ -5,207 +5,160 @@ use crate::shown::shown;
 use block::BlockFault;
 use chain_vectors::SaysOk;
 use chain_vectors::first_blocks::first_blocks;
-use chain_vectors::later_blocks::later_blocks;
-use failing::Failed;
+use failing::{Failed, check};
 use rules::Refused;
-use std::alloc::Global;
-use values::Hash;
+use std::alloc::{AllocError, Global};
 
-/// Bytes that were a block's, and why they are refused.
-#[derive(Drop)]
-pub struct Changed {
-    pub bytes: Vec<u8>,
-    pub refused: Refused,
+/// How the bytes of a block are spoilt.
+#[derive(Clone, Copy)]
+enum Spoilt {
+    /// The lowest bit of the byte at this place is flipped.
+    Flipped(usize),
+    /// So many bytes are left.
+    Cut(usize),
+    /// There is a byte more.
+    Longer,
 }
 
-// The bytes with the lowest bit of one flipped.
-pub fn flipped(alloc: Global, bytes: &[u8], place: usize) -> Result<Vec<u8>, Failed> {
+/// Bytes of a block that has a previous hash and a transaction, spoilt, and why they are refused: for their number where nothing is
+/// said.
+#[derive(Clone, Copy)]
+pub struct Change(Spoilt, Option<Refused>);
+
+/// Each change for which bytes are refused.
+pub fn changes() -> &'static [Change] {
+    &CHANGES
+}
+
+const BAD_MAGIC: Option<Refused> = Some(Refused::Malformed(BlockFault::BadMagic));
+
+const BAD_LENGTH: Option<Refused> = Some(Refused::Malformed(BlockFault::PreviousLength));
+
+const TOO_MANY_TXS: Option<Refused> = Some(Refused::Malformed(BlockFault::TooManyTxs));
+
+const TX_TOO_LONG: Option<Refused> = Some(Refused::Malformed(BlockFault::TxTooLong));
+
+const TRUNCATED: Option<Refused> = Some(Refused::Malformed(BlockFault::Truncated));
+
+const TRAILING: Option<Refused> = Some(Refused::Malformed(BlockFault::TrailingBytes));
+
+/// The lowest byte of the number.
+pub const NUMBER: usize = 11;
+
+// The header: 4 bytes of magic, 8 of the number, 1, 32 of the previous hash, 32 of the data hash, 4 of the count. Behind it the
+// highest bytes of the first transaction's length.
+static CHANGES: [Change; 19] = [
+    Change(Spoilt::Flipped(0), BAD_MAGIC),
+    Change(Spoilt::Flipped(3), BAD_MAGIC),
+    Change(Spoilt::Flipped(NUMBER), None),
+    Change(Spoilt::Flipped(12), BAD_LENGTH),
+    Change(Spoilt::Flipped(13), Some(Refused::WrongPrevious)),
+    Change(Spoilt::Flipped(44), Some(Refused::WrongPrevious)),
+    Change(Spoilt::Flipped(45), Some(Refused::WrongDataHash)),
+    Change(Spoilt::Flipped(76), Some(Refused::WrongDataHash)),
+    Change(Spoilt::Flipped(77), TOO_MANY_TXS),
+    Change(Spoilt::Flipped(81), TX_TOO_LONG),
+    Change(Spoilt::Cut(0), BAD_MAGIC),
+    Change(Spoilt::Cut(3), BAD_MAGIC),
+    Change(Spoilt::Cut(4), TRUNCATED),
+    Change(Spoilt::Cut(12), TRUNCATED),
+    Change(Spoilt::Cut(44), TRUNCATED),
+    Change(Spoilt::Cut(76), TRUNCATED),
+    Change(Spoilt::Cut(80), TRUNCATED),
+    Change(Spoilt::Cut(84), TRUNCATED),
+    Change(Spoilt::Longer, TRAILING),
+];
+
+/// Flips the lowest bit of the byte at a place.
+pub fn flip(bytes: &mut [u8], place: usize) {
+    if let Some(byte) = bytes.get_mut(place) {
+        *byte ^= 1;
+    }
+}
+
+fn spoil(bytes: &mut Vec<u8>, spoilt: Spoilt) -> Result<(), AllocError> {
+    match spoilt {
+        Spoilt::Flipped(place) => flip(bytes.as_mut_slice(), place),
+        Spoilt::Cut(length) => bytes.truncate(length),
+        Spoilt::Longer => bytes.push(0)?,
+    }
+    Ok(())
+}
+
+/// The bytes, spoilt.
+pub fn changed(alloc: Global, bytes: &[u8], change: Change) -> Result<Vec<u8>, AllocError> {
     let mut changed = Vec::from_slice(alloc, bytes)?;
-    let byte = changed.get_mut(place).ok_or(Failed::Missing("a byte"))?;
-    *byte ^= 1;
+    spoil(&mut changed, change.0)?;
     Ok(changed)
 }
 
-// Bytes of a header with a previous hash: 4 of magic, 8 of the number, 1, 32 of the previous hash, 32 of the
-// data hash, 4 of the count.
-const FLIPS: [(usize, Refused); 8] = [
-    (0, Refused::Malformed(BlockFault::BadMagic)),
-    (3, Refused::Malformed(BlockFault::BadMagic)),
-    (12, Refused::Malformed(BlockFault::PreviousLength)),
-    (13, Refused::WrongPrevious),
-    (44, Refused::WrongPrevious),
-    (45, Refused::WrongDataHash),
-    (76, Refused::WrongDataHash),
-    (77, Refused::Malformed(BlockFault::TooManyTxs)),
-];
-
-// The lowest byte of the number.
-pub const NUMBER: usize = 11;
-
-// The highest bytes of the first transaction's length.
-const LENGTH: usize = 81;
-
-const CUTS: [(usize, BlockFault); 8] = [
-    (0, BlockFault::BadMagic),
-    (3, BlockFault::BadMagic),
-    (4, BlockFault::Truncated),
-    (12, BlockFault::Truncated),
-    (44, BlockFault::Truncated),
-    (76, BlockFault::Truncated),
-    (80, BlockFault::Truncated),
-    (84, BlockFault::Truncated),
-];
-
-fn add_flips(alloc: Global, bytes: &[u8], all: &mut Vec<Changed>) -> Result<(), Failed> {
-    for (place, refused) in FLIPS {
-        let bytes = flipped(alloc, bytes, place)?;
-        all.push(Changed { bytes, refused })?;
-    }
-    Ok(())
+/// Why they are refused at this height.
+pub fn refusal(change: Change, height: u64) -> Refused {
+    change.1.unwrap_or(Refused::WrongNumber {
+        want: height,
+        got: height ^ 1,
+    })
 }
 
-fn add_cuts(alloc: Global, bytes: &[u8], all: &mut Vec<Changed>) -> Result<(), Failed> {
-    for (length, fault) in CUTS {
-        let front = bytes.get(..length).ok_or(Failed::Missing("so many bytes"))?;
-        let bytes = Vec::from_slice(alloc, front)?;
-        let refused = Refused::Malformed(fault);
-        all.push(Changed { bytes, refused })?;
-    }
-    Ok(())
-}
-
-// Another number, a byte more, and a first transaction that is too long.
-fn add_others(
+// Wants the bytes refused so, and the world shown as before.
+fn check_refused(
     alloc: Global,
+    peer: &mut Peer,
+    before: &[u8],
     bytes: &[u8],
-    height: u64,
-    all: &mut Vec<Changed>,
+    wanted: Refused,
 ) -> Result<(), Failed> {
-    all.push(Changed {
-        bytes: flipped(alloc, bytes, NUMBER)?,
-        refused: Refused::WrongNumber {
-            want: height,
-            got: height ^ 1,
-        },
-    })?;
-    all.push(Changed {
-        bytes: [bytes, b"\0"].concat(alloc)?,
-        refused: Refused::Malformed(BlockFault::TrailingBytes),
-    })?;
-    all.push(Changed {
-        bytes: flipped(alloc, bytes, LENGTH)?,
-        refused: Refused::Malformed(BlockFault::TxTooLong),
-    })?;
-    Ok(())
+    check(peer.refusal_of(bytes, &SaysOk) == Some(wanted))?;
+    let behind = shown(alloc, peer.world())?;
+    check(behind.as_slice() == before)
 }
 
-/// The bytes of the block at this height, which has a transaction, changed in each way for which they are refused.
-pub fn changed_bytes(alloc: Global, bytes: &[u8], height: u64) -> Result<Vec<Changed>, Failed> {
-    let mut all = Vec::new(alloc);
-    add_flips(alloc, bytes, &mut all)?;
-    add_cuts(alloc, bytes, &mut all)?;
-    add_others(alloc, bytes, height, &mut all)?;
-    Ok(all)
-}
-
-// Whether the bytes are refused so, and the world is shown as before.
-fn is_refused(
+fn check_change(
     alloc: Global,
     peer: &mut Peer,
     before: &[u8],
     bytes: &[u8],
-    want: Refused,
-) -> Result<bool, Failed> {
-    let answer = peer.refusal_of(bytes, &SaysOk);
-    Ok(answer == Some(want) && shown(alloc, peer.world())?.as_slice() == before)
+    change: Change,
+) -> Result<(), Failed> {
+    let wanted = refusal(change, peer.world().height());
+    let bytes = changed(alloc, bytes, change)?;
+    check_refused(alloc, peer, before, &bytes, wanted)
 }
 
-fn are_refused(
-    alloc: Global,
-    peer: &mut Peer,
-    before: &[u8],
-    all: &[Changed],
-) -> Result<bool, Failed> {
-    for changed in all {
-        if !is_refused(
-            alloc,
-            peer,
-            before,
-            changed.bytes.as_slice(),
-            changed.refused,
-        )? {
-            return Ok(false);
-        }
+fn check_each(alloc: Global, peer: &mut Peer, before: &[u8], bytes: &[u8]) -> Result<(), Failed> {
+    for change in changes() {
+        check_change(alloc, peer, before, bytes, *change)?;
     }
-    Ok(true)
-}
-
-fn refuses_changed(alloc: Global, peer: &mut Peer, bytes: &[u8]) -> Result<bool, Failed> {
-    let before = shown(alloc, peer.world())?;
-    let all = changed_bytes(alloc, bytes, peer.world().height())?;
-    are_refused(alloc, peer, &before, &all)
-}
-
-// Before every sixteenth block it is handed in changed.
-fn are_taken(alloc: Global, peer: &mut Peer) -> Result<bool, Failed> {
-    for block in first_blocks().iter().chain(later_blocks().iter()) {
-        if peer.world().height() % 16 == 3 && !refuses_changed(alloc, peer, block.bytes)? {
-            return Ok(false);
-        }
-        if !peer.is_taken(block.bytes, &SaysOk, block.flags)? {
-            return Ok(false);
-        }
-    }
-    Ok(peer.world().header_hash() == Some(*last_hash()))
-}
-
-fn is_chain_taken(alloc: Global) -> Result<bool, Failed> {
-    let mut peer = Peer::open(alloc)?;
-    are_taken(alloc, &mut peer)
-}
-
-#[test]
-fn between_blocks(rt: HostRuntime) -> Result<(), Failed> {
-    assert!(rt; is_chain_taken(rt.alloc())?);
     Ok(())
 }
 
-fn last_hash() -> &'static Hash {
-    match later_blocks().last() {
-        Some(block) => block.header_hash,
-        None => &[0; 32],
-    }
+fn check_changed(alloc: Global, peer: &mut Peer, bytes: &[u8]) -> Result<(), Failed> {
+    let before = shown(alloc, peer.world())?;
+    check_each(alloc, peer, &before, bytes)
 }
 
-// Whether each block is refused where block 4 is next.
-fn refuses_other_numbers(alloc: Global, peer: &mut Peer) -> Result<bool, Failed> {
-    let before = shown(alloc, peer.world())?;
+fn check_numbers(alloc: Global, peer: &mut Peer, before: &[u8]) -> Result<(), Failed> {
     for (number, block) in first_blocks().iter().enumerate() {
         let got = number as u64;
-        let want = Refused::WrongNumber { want: 4, got };
-        if got != 4 && !is_refused(alloc, peer, &before, block.bytes, want)? {
-            return Ok(false);
+        if got != 4 {
+            let wanted = Refused::WrongNumber { want: 4, got };
+            check_refused(alloc, peer, before, block.bytes, wanted)?;
         }
     }
-    Ok(true)
-}
-
-fn are_four_taken(peer: &mut Peer) -> Result<bool, Refused> {
-    for block in first_blocks().iter().take(4) {
-        if !peer.is_taken(block.bytes, &SaysOk, block.flags)? {
-            return Ok(false);
-        }
-    }
-    Ok(true)
-}
-
-fn refuses_behind_four(alloc: Global) -> Result<bool, Failed> {
-    let mut peer = Peer::open(alloc)?;
-    Ok(are_four_taken(&mut peer)? && refuses_other_numbers(alloc, &mut peer)?)
-}
-
-#[test]
-fn other_numbers(rt: HostRuntime) -> Result<(), Failed> {
-    assert!(rt; refuses_behind_four(rt.alloc())?);
     Ok(())
+}
+
+// Wants each block refused where block 4 is next.
+fn check_other_numbers(alloc: Global, peer: &mut Peer) -> Result<(), Failed> {
+    let before = shown(alloc, peer.world())?;
+    check_numbers(alloc, peer, &before)
+}
+
+/// Before every sixteenth block wants it refused where it is changed, and before block 4 all others of the first ones.
+pub fn check_refusals(alloc: Global, peer: &mut Peer, bytes: &[u8]) -> Result<(), Failed> {
+    match peer.world().height() {
+        4 => check_other_numbers(alloc, peer),
+        height if height % 16 == 3 => check_changed(alloc, peer, bytes),
+        _ => Ok(()),
+    }
 }

@@ -1,13 +1,13 @@
 //! A peer whose blocks are drafted from scripts.
 
-use crate::fixture::{Peer, channel_with, name};
-use block::{BlockVersion, Header, decode_block};
+use crate::fixture::{Peer, name, read_keys};
+use block::{BlockFault, BlockVersion, Header, decode_block};
 use drafts::draft;
-use failing::Failed;
+use failing::{Failed, check};
 use key_book::KeyBook;
 use rules::Refused;
 use std::alloc::Global;
-use values::Bytes;
+use values::{Bytes, Name};
 use world::World;
 
 const KEYS: &str = "\
@@ -18,20 +18,25 @@ Org1:admin:a 44
 Org2:peer:q0 55
 ";
 
+fn header_of(alloc: Global, bytes: &[u8]) -> Result<Header, BlockFault> {
+    let block = decode_block(alloc, bytes)?;
+    Ok(block.header)
+}
+
 // The header that the next block stands behind.
 fn last_header(alloc: Global, world: &World) -> Result<Option<Header>, Failed> {
     let Some(last) = world.height().checked_sub(1) else {
         return Ok(None);
     };
     match world.block(last) {
-        Some(block) => Ok(Some(decode_block(alloc, block.bytes.get().as_slice())?.header)),
+        Some(block) => Ok(Some(header_of(alloc, block.bytes.get().as_slice())?)),
         None => Err(Failed::Missing("the last block")),
     }
 }
 
-/// The bytes of this script's block, of this version and behind the one with this header.
-pub fn drafted(
+fn drafted_in(
     alloc: Global,
+    channel: &Name,
     keys: &KeyBook,
     version: BlockVersion,
     after: Option<Header>,
@@ -42,8 +47,19 @@ pub fn drafted(
             return Err(Failed::Missing("a number"));
         }
     }
+    Ok(draft(alloc, channel, keys, version, after, script)?)
+}
+
+/// The bytes of this script's block, of this version and behind the one with this header.
+pub fn drafted(
+    alloc: Global,
+    keys: &KeyBook,
+    version: BlockVersion,
+    after: Option<Header>,
+    script: &str,
+) -> Result<Bytes, Failed> {
     let channel = name(alloc, b"ch")?;
-    Ok(draft(alloc, &channel, keys, version, after, script)?)
+    drafted_in(alloc, &channel, keys, version, after, script)
 }
 
 /// The bytes of the next block, of this version, which a script drafts.
@@ -81,8 +97,8 @@ impl ScriptedPeer {
         version: BlockVersion,
         line: &str,
     ) -> Result<ScriptedPeer, Failed> {
-        let keys = KeyBook::read(alloc, KEYS)?;
-        let peer = Peer::of(alloc, channel_with(alloc, line)?);
+        let keys = read_keys(alloc, KEYS)?;
+        let peer = Peer::with_line(alloc, line)?;
         Ok(ScriptedPeer {
             peer,
             keys,
@@ -107,9 +123,20 @@ impl ScriptedPeer {
         self.peer.refusal_of(bytes, &self.keys)
     }
 
+    fn takes(&mut self, bytes: &Bytes, flags: &[u8]) -> Result<bool, Refused> {
+        self.peer.is_taken(bytes.as_slice(), &self.keys, flags)
+    }
+
     /// Takes the next block, which a script drafts, and tells whether its flags have these numbers.
     pub fn is_taken(&mut self, alloc: Global, script: &str, flags: &[u8]) -> Result<bool, Failed> {
         let bytes = self.block(alloc, script)?;
-        Ok(self.peer.is_taken(bytes.as_slice(), &self.keys, flags)?)
+        Ok(self.takes(&bytes, flags)?)
+    }
+
+    /// The bytes of the next block, which a script drafts and which was taken with these flags.
+    pub fn taken(&mut self, alloc: Global, script: &str, flags: &[u8]) -> Result<Bytes, Failed> {
+        let bytes = self.block(alloc, script)?;
+        check(self.takes(&bytes, flags)?)?;
+        Ok(bytes)
     }
 }

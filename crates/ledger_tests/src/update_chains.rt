@@ -1,23 +1,24 @@
 //! Chains at random with many updates, which the ledger takes as they are to be taken; beside them the same blocks over a channel
 //! in which nobody may update, so that it shows which flags the updates change.
 
-use crate::alike::{Pair, flags_of};
-use crate::fixture::channel_with;
+use crate::alike::Pair;
+use crate::fixture::{named, numbered};
 use crate::forgers::{Books, read_books};
-use crate::random_chains::{add, all_ids, are_keys_alike, are_uses_alike, with_other_front};
-use crate::random_scripts::{NAMESPACES, NONCES};
+use crate::plain_peer::PlainPeer;
+use crate::random_chains::{add, all_ids, check_alike, with_other_front};
+use crate::random_scripts::{NONCES, namespaces};
 use crate::random_updates::script_with_updates;
 use crate::scripted::next_block;
-use block::{BlockVersion, decode_block};
-use channel::Configuration;
-use failing::Failed;
+use block::{Block, BlockVersion, decode_block};
+use failing::{Failed, check};
+use key_book::KeyBook;
 use policy_eval::Verify;
 use random_numbers::Random;
 use rules::Flag;
 use std::alloc::Global;
 use std::ops::Range;
-use std::process::Abort;
 use transaction::TxId;
+use values::Bytes;
 use world::World;
 
 const ADMIN: &str = "admin 'Org1.peer'\n";
@@ -25,26 +26,40 @@ const ADMIN: &str = "admin 'Org1.peer'\n";
 /// The same blocks where nobody may update.
 #[derive(Drop)]
 struct Unchanged {
-    channel: Configuration,
-    plain: plain::World,
+    plain: PlainPeer,
     // whether a transaction was flagged otherwise
     is_other: bool,
 }
 
 // An update that is alone has this flag where nobody may update, and one that is valid another one: it isn't a later one.
 fn are_other(flags: &[Flag], unchanged: &[Flag]) -> bool {
-    flags.iter().zip(unchanged).any(|(flag, other)| *other != Flag::InvalidConfigTransaction
-        && flag != other)
+    for (flag, other) in flags.iter().zip(unchanged) {
+        if *other != Flag::InvalidConfigTransaction && flag != other {
+            return true;
+        }
+    }
+    false
 }
 
 impl Unchanged {
     fn open(alloc: Global) -> Result<Unchanged, Failed> {
-        let (channel, definitions) = channel_with(alloc, "")?.into_parts();
+        let plain = PlainPeer::open(alloc, "")?;
         Ok(Unchanged {
-            channel,
-            plain: plain::World::new(alloc, definitions),
+            plain,
             is_other: false,
         })
+    }
+
+    fn take_block<V: Verify>(
+        &mut self,
+        alloc: Global,
+        block: &Block<'_>,
+        verifier: &V,
+        flags: &[Flag],
+    ) -> Result<(), Failed> {
+        let unchanged = self.plain.flags_of(alloc, block, verifier)?;
+        self.is_other = are_other(flags, unchanged.as_slice());
+        Ok(())
     }
 
     // Takes a block that has these flags where updates may be, until one shows what they change.
@@ -59,9 +74,7 @@ impl Unchanged {
             return Ok(());
         }
         let block = decode_block(alloc, bytes)?;
-        let unchanged = flags_of(alloc, &self.channel, &mut self.plain, &block, verifier)?;
-        self.is_other = are_other(flags, unchanged.as_slice());
-        Ok(())
+        self.take_block(alloc, &block, verifier, flags)
     }
 }
 
@@ -78,31 +91,33 @@ fn version_at_random(random: &mut Random, world: &World) -> BlockVersion {
     }
 }
 
-fn block_at_random(
+fn drafted_at_random(
     alloc: Global,
     random: &mut Random,
-    books: &Books,
+    keys: &KeyBook,
     world: &World,
     nonces: &mut Vec<u8>,
-) -> Result<Vec<u8>, Failed> {
+) -> Result<Bytes, Failed> {
     let version = version_at_random(random, world);
     // blocks of updates and of transactions in turn
     let is_of_updates = world.height() % 2 == 0;
-    let script = script_with_updates(
-        alloc,
-        random,
-        &books.signing,
-        version,
-        world,
-        nonces,
-        is_of_updates,
-    )?;
-    let bytes = next_block(alloc, &books.signing, version, world, script.as_str())?;
-    Ok(with_other_front(random, bytes))
+    let script = script_with_updates(alloc, random, keys, version, world, nonces, is_of_updates)?;
+    next_block(alloc, keys, version, world, script.as_str())
+}
+
+fn block_at_random(
+    alloc: Global,
+    random: &mut Random,
+    keys: &KeyBook,
+    world: &World,
+    nonces: &mut Vec<u8>,
+) -> Result<Vec<u8>, Failed> {
+    let block = drafted_at_random(alloc, random, keys, world, nonces)?;
+    Ok(with_other_front(random, block))
 }
 
 fn are_definitions_alike(alloc: Global, pair: &Pair) -> Result<bool, Failed> {
-    for chaincode in NAMESPACES {
+    for chaincode in namespaces() {
         if !pair.is_alike_in(alloc, chaincode.as_bytes())? {
             return Ok(false);
         }
@@ -110,8 +125,23 @@ fn are_definitions_alike(alloc: Global, pair: &Pair) -> Result<bool, Failed> {
     Ok(true)
 }
 
-// Takes a block at random, and tells whether it is answered alike and leaves the same definitions.
-fn take_next(
+// Whether the block is answered alike, which is taken too where nobody may update if it is accepted.
+fn take(
+    alloc: Global,
+    books: &Books,
+    pair: &mut Pair,
+    unchanged: &mut Unchanged,
+    bytes: &[u8],
+) -> Result<bool, Failed> {
+    let height = pair.world().height();
+    let is_alike = pair.take(alloc, bytes, &books.verifying)?;
+    if pair.world().height() > height {
+        unchanged.take(alloc, bytes, &books.verifying, pair.last_flags())?;
+    }
+    Ok(is_alike)
+}
+
+fn take_at_random(
     alloc: Global,
     random: &mut Random,
     books: &Books,
@@ -119,16 +149,11 @@ fn take_next(
     unchanged: &mut Unchanged,
     nonces: &mut Vec<u8>,
 ) -> Result<bool, Failed> {
-    let height = pair.world().height();
-    let bytes = block_at_random(alloc, random, books, pair.world(), nonces)?;
-    let is_alike = pair.take(alloc, &bytes, &books.verifying)?;
-    if pair.world().height() > height {
-        unchanged.take(alloc, &bytes, &books.verifying, pair.last_flags())?;
-    }
-    Ok(is_alike && are_definitions_alike(alloc, pair)?)
+    let bytes = block_at_random(alloc, random, &books.signing, pair.world(), nonces)?;
+    take(alloc, books, pair, unchanged, &bytes)
 }
 
-// 6 to 8 blocks, of which some are refused.
+// 6 to 8 blocks, of which some are refused; each is to be answered alike and to leave the same definitions.
 fn take_all(
     alloc: Global,
     random: &mut Random,
@@ -136,36 +161,31 @@ fn take_all(
     pair: &mut Pair,
     unchanged: &mut Unchanged,
     nonces: &mut Vec<u8>,
-) -> Result<bool, Failed> {
+) -> Result<(), Failed> {
     let mut are_alike = true;
     for _ in 0..random.below(3) + 6 {
-        are_alike = take_next(alloc, random, books, pair, unchanged, nonces)? && are_alike;
+        are_alike = take_at_random(alloc, random, books, pair, unchanged, nonces)? && are_alike;
+        are_alike = are_definitions_alike(alloc, pair)? && are_alike;
     }
-    Ok(are_alike)
+    check(are_alike)
 }
 
-fn is_pair_alike(
+fn check_pair(
     alloc: Global,
     random: &mut Random,
     books: &Books,
     ids: &[TxId],
     pair: &mut Pair,
     unchanged: &mut Unchanged,
-) -> Result<bool, Failed> {
+) -> Result<(), Failed> {
     let mut nonces = Vec::from_slice(alloc, &[NONCES])?;
-    Ok(
-        take_all(alloc, random, books, pair, unchanged, &mut nonces)?
-            && are_keys_alike(alloc, pair)?
-            && are_uses_alike(pair, ids, &nonces)
-            && pair.has_same_blocks(),
-    )
+    take_all(alloc, random, books, pair, unchanged, &mut nonces)?;
+    check_alike(alloc, pair, ids, &nonces)
 }
 
 /// What came in chains.
-#[derive(Clone, Copy, Debug)]
+#[derive(Clone, Copy)]
 struct Came {
-    /// How often each flag was given.
-    flags: [u32; 26],
     /// How often each cause of an update that isn't valid was told.
     faults: [u32; 5],
     /// In how many chains updates changed the flag of a transaction.
@@ -177,48 +197,33 @@ fn line_of(seed: u64) -> &'static str {
     if seed % 10 == 0 { "" } else { ADMIN }
 }
 
-// Whether a chain of this seed is answered alike.
-fn is_chain_alike(
+fn check_beside(
+    alloc: Global,
+    seed: u64,
+    books: &Books,
+    ids: &[TxId],
+    pair: &mut Pair,
+    came: &mut Came,
+) -> Result<(), Failed> {
+    let mut random = Random::new(seed);
+    let mut unchanged = Unchanged::open(alloc)?;
+    let checked = check_pair(alloc, &mut random, books, ids, pair, &mut unchanged);
+    came.changing = came.changing.saturating_add(u32::from(unchanged.is_other));
+    checked
+}
+
+// Wants a chain of this seed answered alike.
+fn check_chain(
     alloc: Global,
     seed: u64,
     books: &Books,
     ids: &[TxId],
     came: &mut Came,
-) -> Result<bool, Failed> {
-    let mut random = Random::new(seed);
+) -> Result<(), Failed> {
     let mut pair = Pair::of(alloc, line_of(seed))?;
-    let mut unchanged = Unchanged::open(alloc)?;
-    let is_alike = is_pair_alike(alloc, &mut random, books, ids, &mut pair, &mut unchanged);
-    add(&mut came.flags, pair.given());
+    let checked = check_beside(alloc, seed, books, ids, &mut pair, came);
     add(&mut came.faults, pair.faults());
-    came.changing = came.changing.saturating_add(u32::from(unchanged.is_other));
-    is_alike
-}
-
-// What comes in the chains of these seeds, up to the first that isn't taken alike.
-fn came_of(
-    alloc: Global,
-    seeds: Range<u64>,
-    books: &Books,
-    ids: &[TxId],
-) -> Result<(Came, Option<u64>), Failed> {
-    let mut came = Came {
-        flags: [0; 26],
-        faults: [0; 5],
-        changing: 0,
-    };
-    for seed in seeds {
-        if !is_chain_alike(alloc, seed, books, ids, &mut came)? {
-            return Ok((came, Some(seed)));
-        }
-    }
-    Ok((came, None))
-}
-
-fn came_by(alloc: Global, seeds: Range<u64>) -> Result<(Came, Option<u64>), Failed> {
-    let books = read_books(alloc)?;
-    let ids = all_ids(alloc)?;
-    came_of(alloc, seeds, &books, &ids)
+    checked
 }
 
 // By half of the chains.
@@ -226,19 +231,42 @@ fn is_each_there(came: &Came) -> bool {
     came.faults.iter().all(|times| *times >= 50) && came.changing >= 100
 }
 
-fn expect_alike(rt: &impl Abort, alloc: Global, seeds: Range<u64>) -> Result<(), Failed> {
-    let (came, other) = came_by(alloc, seeds)?;
-    assert!(rt; other.is_none(), "chain {other:?}");
-    assert!(rt; is_each_there(&came), "{came:?}");
-    Ok(())
+fn check_seeds(
+    alloc: Global,
+    seeds: Range<u64>,
+    books: &Books,
+    ids: &[TxId],
+) -> Result<(), Failed> {
+    let mut came = Came {
+        faults: [0; 5],
+        changing: 0,
+    };
+    for seed in seeds {
+        numbered(seed, check_chain(alloc, seed, books, ids, &mut came))?;
+    }
+    named(
+        "50 of each cause, and 100 changing chains",
+        check(is_each_there(&came)),
+    )
+}
+
+fn check_by(alloc: Global, seeds: Range<u64>, books: &Books) -> Result<(), Failed> {
+    let ids = all_ids(alloc)?;
+    check_seeds(alloc, seeds, books, &ids)
+}
+
+// Wants the chains of these seeds answered alike, and each cause and each change to come often. A chain that isn't is told by its seed.
+fn check_chains(alloc: Global, seeds: Range<u64>) -> Result<(), Failed> {
+    let books = read_books(alloc)?;
+    check_by(alloc, seeds, &books)
 }
 
 #[test]
 fn updates_at_random(rt: HostRuntime) -> Result<(), Failed> {
-    expect_alike(&rt, rt.alloc(), 1..301)
+    check_chains(rt.alloc(), 1..301)
 }
 
 #[test]
 fn more_updates_at_random(rt: HostRuntime) -> Result<(), Failed> {
-    expect_alike(&rt, rt.alloc(), 301..601)
+    check_chains(rt.alloc(), 301..601)
 }

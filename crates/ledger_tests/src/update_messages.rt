@@ -1,18 +1,18 @@
 //! What the creator and an endorser of an update sign, put together by hand from the grammar.
 
-use crate::fixture::channel_with;
+use crate::fixture::{Peer, named, numbered, read_keys};
 use crate::scripted::next_block;
 use crate::spoiling::raw_line_of;
 use crate::update_rows::ADMIN;
 use block::BlockVersion;
-use commit::Ledger;
-use failing::Failed;
+use failing::{Failed, check};
 use header_hash::tx_id;
 use key_book::KeyBook;
 use policy_eval::Verify;
 use std::alloc::{AllocError, Global};
 use transaction::Identity;
 use values::Bytes;
+use world::World;
 
 // The bytes of the identity `Org1:admin:a0`.
 const SIGNER: &[u8] = b"\x04Org1\0\x02a0";
@@ -21,6 +21,9 @@ const SIGNER: &[u8] = b"\x04Org1\0\x02a0";
 const BEHIND_ID: &[u8] = b"\x04Org1\0\x02a0\x02n2\x02cc\0\x0fOR('Org2.peer')";
 
 const ENDORSEMENTS: &[u8] = b"\x01\x04Org1\0\x02a0\0\x01e";
+
+// The same and the creator's signature.
+const REST: &[u8] = b"\x01\x04Org1\0\x02a0\0\x01e\0\x01c";
 
 /// A verifier by which `c` is the creator's signature, over this message alone, and `e` the endorser's.
 #[derive(Drop)]
@@ -42,72 +45,115 @@ impl Verify for Messages {
     }
 }
 
-fn followed(alloc: Global, front: &[u8], rest: &[u8]) -> Result<Vec<u8>, AllocError> {
-    let mut bytes = Vec::from_slice(alloc, front)?;
-    bytes.extend_from_slice(rest)?;
-    Ok(bytes)
+/// What may be signed.
+#[derive(Clone, Copy)]
+enum Message {
+    Body,
+    /// What the endorser is to sign.
+    Endorser,
+    /// What the creator is to sign.
+    Creator,
+    Whole,
 }
 
-fn body(alloc: Global) -> Result<Vec<u8>, AllocError> {
-    let id = tx_id(b"n2", SIGNER);
-    let mut bytes = followed(alloc, b"\0\x02ch", &id)?;
-    bytes.extend_from_slice(BEHIND_ID)?;
-    Ok(bytes)
+fn behind_body(message: Message) -> &'static [u8] {
+    match message {
+        Message::Body => b"",
+        Message::Endorser => SIGNER,
+        Message::Creator => ENDORSEMENTS,
+        Message::Whole => REST,
+    }
 }
 
-// The block of the update that has these signatures.
-fn block_of(alloc: Global, ledger: &Ledger, creator: &[u8]) -> Result<Bytes, Failed> {
-    let update = followed(alloc, creator, b"\0\x01c")?;
-    let line = raw_line_of(alloc, &update)?;
-    let keys = KeyBook::read(alloc, "")?;
-    next_block(alloc, &keys, BlockVersion::V2, ledger.view(), line.as_str())
+fn put_body(bytes: &mut Vec<u8>) -> Result<(), AllocError> {
+    bytes.extend_from_slice(b"\0\x02ch")?;
+    bytes.extend_from_slice(&tx_id(b"n2", SIGNER))?;
+    bytes.extend_from_slice(BEHIND_ID)
 }
 
-// The flag of the update where signatures are over these messages.
-fn flag_by(ledger: &mut Ledger, bytes: &Bytes, messages: &Messages) -> Result<Option<u8>, Failed> {
-    let accepted = ledger.submit_one(bytes.as_slice(), messages)?;
-    Ok(accepted.flags.as_slice().first().map(|flag| flag.number()))
+fn put(bytes: &mut Vec<u8>, message: Message) -> Result<(), AllocError> {
+    put_body(bytes)?;
+    bytes.extend_from_slice(behind_body(message))
 }
 
-fn flag_of(
+fn bytes_of(alloc: Global, message: Message) -> Result<Bytes, AllocError> {
+    let mut bytes = Vec::new(alloc);
+    put(&mut bytes, message)?;
+    Ok(Bytes::from_vec(bytes))
+}
+
+fn messages_of(alloc: Global, creator: Message, endorser: Message) -> Result<Messages, AllocError> {
+    let creator = bytes_of(alloc, creator)?;
+    let endorser = bytes_of(alloc, endorser)?;
+    Ok(Messages { creator, endorser })
+}
+
+fn drafted(alloc: Global, world: &World, line: &str) -> Result<Bytes, Failed> {
+    let keys = read_keys(alloc, "")?;
+    next_block(alloc, &keys, BlockVersion::V2, world, line)
+}
+
+fn line(alloc: Global) -> Result<String, AllocError> {
+    let update = bytes_of(alloc, Message::Whole)?;
+    raw_line_of(alloc, update.as_slice())
+}
+
+// The block of the update.
+fn block(alloc: Global, world: &World) -> Result<Bytes, Failed> {
+    let line = line(alloc)?;
+    drafted(alloc, world, line.as_str())
+}
+
+fn check_taken(
     alloc: Global,
-    creator: &[u8],
-    signed_by_creator: &[u8],
-    signed_by_endorser: &[u8],
-) -> Result<Option<u8>, Failed> {
-    let messages = Messages {
-        creator: Bytes::from_slice(alloc, signed_by_creator)?,
-        endorser: Bytes::from_slice(alloc, signed_by_endorser)?,
-    };
-    let mut ledger = Ledger::open(alloc, channel_with(alloc, ADMIN)?);
-    let bytes = block_of(alloc, &ledger, creator)?;
-    flag_by(&mut ledger, &bytes, &messages)
+    peer: &mut Peer,
+    messages: &Messages,
+    flag: u8,
+) -> Result<(), Failed> {
+    let block = block(alloc, peer.world())?;
+    check(peer.is_taken(block.as_slice(), messages, &[flag])?)
 }
 
-// The flags where the messages are these, where the creator signs the body alone, the whole, or the endorser's message, and
-// where the endorser signs the body alone or the creator's message.
-fn flags(alloc: Global) -> Result<[Option<u8>; 6], Failed> {
-    let body = body(alloc)?;
-    let endorser = followed(alloc, &body, SIGNER)?;
-    let creator = followed(alloc, &body, ENDORSEMENTS)?;
-    let whole = followed(alloc, &creator, b"\0\x01c")?;
-    Ok([
-        flag_of(alloc, &creator, &creator, &endorser)?,
-        flag_of(alloc, &creator, &body, &endorser)?,
-        flag_of(alloc, &creator, &whole, &endorser)?,
-        flag_of(alloc, &creator, &endorser, &endorser)?,
-        flag_of(alloc, &creator, &creator, &body)?,
-        flag_of(alloc, &creator, &creator, &creator)?,
-    ])
+fn check_flag(alloc: Global, messages: &Messages, flag: u8) -> Result<(), Failed> {
+    let mut peer = Peer::with_line(alloc, ADMIN)?;
+    check_taken(alloc, &mut peer, messages, flag)
+}
+
+// Wants this flag of the update where its signatures are over these messages.
+fn check_signed(
+    alloc: Global,
+    creator: Message,
+    endorser: Message,
+    flag: u8,
+) -> Result<(), Failed> {
+    let messages = messages_of(alloc, creator, endorser)?;
+    check_flag(alloc, &messages, flag)
+}
+
+fn signed() -> &'static [(Message, Message, u8)] {
+    &SIGNED
+}
+
+static SIGNED: [(Message, Message, u8); 6] = [
+    (Message::Creator, Message::Endorser, 0),
+    (Message::Body, Message::Endorser, 4),
+    (Message::Whole, Message::Endorser, 4),
+    (Message::Endorser, Message::Endorser, 4),
+    (Message::Creator, Message::Body, 6),
+    (Message::Creator, Message::Creator, 6),
+];
+
+fn check_length(alloc: Global) -> Result<(), Failed> {
+    let body = bytes_of(alloc, Message::Body)?;
+    named("100 bytes", check(body.len() == 100))
 }
 
 #[test]
 fn what_is_signed(rt: HostRuntime) -> Result<(), Failed> {
-    assert!(rt; body(rt.alloc())?.len() == 100);
-    let flags = flags(rt.alloc())?;
-    assert!(rt;
-        flags == [Some(0), Some(4), Some(4), Some(4), Some(6), Some(6)],
-        "{flags:?}"
-    );
+    check_length(rt.alloc())?;
+    for (number, &(creator, endorser, flag)) in signed().iter().enumerate() {
+        let checked = check_signed(rt.alloc(), creator, endorser, flag);
+        numbered(number as u64, checked)?;
+    }
     Ok(())
 }

@@ -25,15 +25,8 @@ pub struct UpdateChain<'a> {
     pub blocks: &'a [UpdateBlock<'a>],
 }
 
-/// One block that changes no definition.
-pub struct Refusal {
-    pub line: &'static str,
-    pub script: &'static str,
-    pub flags: &'static [u8],
-    pub faults: &'static [&'static [u8]],
-}
-
-pub fn refusals() -> &'static [Refusal] {
+/// Chains of one block that changes no definition.
+pub fn refusals() -> &'static [UpdateChain<'static>] {
     &REFUSALS
 }
 
@@ -45,11 +38,12 @@ const NOT_ALONE: &[u8] = b"not alone";
 
 const UNSATISFIED: &[u8] = b"OR('Org1.admin') by Org1.peer.p0";
 
-static REFUSALS: [Refusal; 16] = [
+static REFUSALS: [UpdateChain<'static>; 16] = [
     // beside an endorsed transaction
-    Refusal {
+    UpdateChain {
         line: ADMIN,
-        script: "\
+        blocks: &[UpdateBlock {
+            script: "\
 update Org1:admin:a0 n2 cc OR('Org2.peer')
 endorse Org1:admin:a0
 tx Org1:client:c0 n3 cc
@@ -57,12 +51,15 @@ ns cc
 write k v
 endorse Org1:peer:p0
 ",
-        flags: &[6, 0],
-        faults: &[NOT_ALONE],
+            flags: &[6, 0],
+            faults: &[NOT_ALONE],
+            policy: FIRST_POLICY,
+        }],
     },
-    Refusal {
+    UpdateChain {
         line: ADMIN,
-        script: "\
+        blocks: &[UpdateBlock {
+            script: "\
 tx Org1:client:c0 n3 cc
 ns cc
 write k v
@@ -70,108 +67,152 @@ endorse Org1:peer:p0
 update Org1:admin:a0 n2 cc OR('Org2.peer')
 endorse Org1:admin:a0
 ",
-        flags: &[0, 6],
-        faults: &[NOT_ALONE],
+            flags: &[0, 6],
+            faults: &[NOT_ALONE],
+            policy: FIRST_POLICY,
+        }],
     },
     // beside another update
-    Refusal {
+    UpdateChain {
         line: ADMIN,
-        script: "\
+        blocks: &[UpdateBlock {
+            script: "\
 update Org1:admin:a0 n2 cc OR('Org2.peer')
 endorse Org1:admin:a0
 update Org1:admin:a0 n3 cc OR('Org2.peer')
 endorse Org1:admin:a0
 ",
-        flags: &[6, 6],
-        faults: &[NOT_ALONE, NOT_ALONE],
+            flags: &[6, 6],
+            faults: &[NOT_ALONE, NOT_ALONE],
+            policy: FIRST_POLICY,
+        }],
     },
-    Refusal {
+    UpdateChain {
         line: ADMIN,
-        script: "\
+        blocks: &[UpdateBlock {
+            script: "\
 update Org1:admin:a0 n2 cc OR('Org2.peer')
 endorse Org1:admin:a0
 update Org1:admin:a0 n2 cc OR('Org2.peer')
 endorse Org1:admin:a0
 ",
-        flags: &[6, 9],
-        faults: &[NOT_ALONE],
+            flags: &[6, 9],
+            faults: &[NOT_ALONE],
+            policy: FIRST_POLICY,
+        }],
     },
     // beside bytes that spell nothing
-    Refusal {
+    UpdateChain {
         line: ADMIN,
-        script: "update Org1:admin:a0 n2 cc OR('Org2.peer')\nendorse Org1:admin:a0\nraw 00\n",
-        flags: &[6, 2],
-        faults: &[NOT_ALONE],
+        blocks: &[UpdateBlock {
+            script: "update Org1:admin:a0 n2 cc OR('Org2.peer')\nendorse Org1:admin:a0\nraw 00\n",
+            flags: &[6, 2],
+            faults: &[NOT_ALONE],
+            policy: FIRST_POLICY,
+        }],
     },
-    Refusal {
+    UpdateChain {
         line: ADMIN,
-        script: "raw\nupdate Org1:admin:a0 n2 cc OR('Org2.peer')\nendorse Org1:admin:a0\n",
-        flags: &[2, 6],
-        faults: &[NOT_ALONE],
+        blocks: &[UpdateBlock {
+            script: "raw\nupdate Org1:admin:a0 n2 cc OR('Org2.peer')\nendorse Org1:admin:a0\n",
+            flags: &[2, 6],
+            faults: &[NOT_ALONE],
+            policy: FIRST_POLICY,
+        }],
     },
     // by another one than the admin
-    Refusal {
+    UpdateChain {
         line: ADMIN,
-        script: "update Org1:admin:a0 n2 cc OR('Org2.peer')\nendorse Org1:peer:p0\n",
-        flags: &[6],
-        faults: &[UNSATISFIED],
+        blocks: &[UpdateBlock {
+            script: "update Org1:admin:a0 n2 cc OR('Org2.peer')\nendorse Org1:peer:p0\n",
+            flags: &[6],
+            faults: &[UNSATISFIED],
+            policy: FIRST_POLICY,
+        }],
     },
-    Refusal {
+    UpdateChain {
         line: ADMIN,
-        script: "update Org1:admin:a0 n2 cc OR('Org2.peer')\n",
-        flags: &[6],
-        faults: &[b"OR('Org1.admin') by"],
+        blocks: &[UpdateBlock {
+            script: "update Org1:admin:a0 n2 cc OR('Org2.peer')\n",
+            flags: &[6],
+            faults: &[b"OR('Org1.admin') by"],
+            policy: FIRST_POLICY,
+        }],
     },
     // where nobody may
-    Refusal {
+    UpdateChain {
         line: "",
-        script: "update Org1:admin:a0 n2 cc OR('Org2.peer')\nendorse Org1:admin:a0\n",
-        flags: &[6],
-        faults: &[b"no admin"],
+        blocks: &[UpdateBlock {
+            script: "update Org1:admin:a0 n2 cc OR('Org2.peer')\nendorse Org1:admin:a0\n",
+            flags: &[6],
+            faults: &[b"no admin"],
+            policy: FIRST_POLICY,
+        }],
     },
     // of another chaincode, and to what is no policy
-    Refusal {
+    UpdateChain {
         line: ADMIN,
-        script: "update Org1:admin:a0 n2 zz OR('Org2.peer')\nendorse Org1:admin:a0\n",
-        flags: &[6],
-        faults: &[b"no definition of zz"],
+        blocks: &[UpdateBlock {
+            script: "update Org1:admin:a0 n2 zz OR('Org2.peer')\nendorse Org1:admin:a0\n",
+            flags: &[6],
+            faults: &[b"no definition of zz"],
+            policy: FIRST_POLICY,
+        }],
     },
-    Refusal {
+    UpdateChain {
         line: ADMIN,
-        script: "update Org1:admin:a0 n2 cc AND(\nendorse Org1:admin:a0\n",
-        flags: &[6],
-        faults: &[b"no policy: Syntax"],
+        blocks: &[UpdateBlock {
+            script: "update Org1:admin:a0 n2 cc AND(\nendorse Org1:admin:a0\n",
+            flags: &[6],
+            faults: &[b"no policy: Syntax"],
+            policy: FIRST_POLICY,
+        }],
     },
-    Refusal {
+    UpdateChain {
         line: ADMIN,
-        script: "update Org1:admin:a0 n2 cc OutOf(2,'Org1.peer')\nendorse Org1:admin:a0\n",
-        flags: &[6],
-        faults: &[b"no policy: Threshold"],
+        blocks: &[UpdateBlock {
+            script: "update Org1:admin:a0 n2 cc OutOf(2,'Org1.peer')\nendorse Org1:admin:a0\n",
+            flags: &[6],
+            faults: &[b"no policy: Threshold"],
+            policy: FIRST_POLICY,
+        }],
     },
     // of several faults the first one
-    Refusal {
+    UpdateChain {
         line: "",
-        script: "update Org1:admin:a0 n2 zz AND(\nupdate Org1:admin:a0 n3 zz AND(\n",
-        flags: &[6, 6],
-        faults: &[NOT_ALONE, NOT_ALONE],
+        blocks: &[UpdateBlock {
+            script: "update Org1:admin:a0 n2 zz AND(\nupdate Org1:admin:a0 n3 zz AND(\n",
+            flags: &[6, 6],
+            faults: &[NOT_ALONE, NOT_ALONE],
+            policy: FIRST_POLICY,
+        }],
     },
-    Refusal {
+    UpdateChain {
         line: "",
-        script: "update Org1:admin:a0 n2 zz AND(\n",
-        flags: &[6],
-        faults: &[b"no admin"],
+        blocks: &[UpdateBlock {
+            script: "update Org1:admin:a0 n2 zz AND(\n",
+            flags: &[6],
+            faults: &[b"no admin"],
+            policy: FIRST_POLICY,
+        }],
     },
-    Refusal {
+    UpdateChain {
         line: ADMIN,
-        script: "update Org1:admin:a0 n2 zz AND(\n",
-        flags: &[6],
-        faults: &[b"no definition of zz"],
+        blocks: &[UpdateBlock {
+            script: "update Org1:admin:a0 n2 zz AND(\n",
+            flags: &[6],
+            faults: &[b"no definition of zz"],
+            policy: FIRST_POLICY,
+        }],
     },
-    Refusal {
+    UpdateChain {
         line: ADMIN,
-        script: "update Org1:admin:a0 n2 cc AND(\n",
-        flags: &[6],
-        faults: &[b"no policy: Syntax"],
+        blocks: &[UpdateBlock {
+            script: "update Org1:admin:a0 n2 cc AND(\n",
+            flags: &[6],
+            faults: &[b"no policy: Syntax"],
+            policy: FIRST_POLICY,
+        }],
     },
 ];
 

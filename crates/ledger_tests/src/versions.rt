@@ -1,12 +1,12 @@
 //! Blocks of both versions, one behind the other.
 
-use crate::by_workers::{WORKERS, opened};
-use crate::fixture::configuration;
-use crate::refusals::{NUMBER, flipped};
-use crate::scripted::drafted;
-use block::{BlockVersion, Header, decode_block};
-use commit::{Committer, Ledger, NotCommitted};
-use failing::Failed;
+use crate::committers::{Trial, check_by, refusal_of, worker_counts};
+use crate::fixture::{channel_with, ledger_with, read_keys, submitted};
+use crate::refusals::{NUMBER, flip};
+use crate::scripted::next_block;
+use block::BlockVersion;
+use commit::{Committer, Ledger, NotCommitted, Receipt};
+use failing::{Failed, check};
 use gates::Open;
 use key_book::KeyBook;
 use rules::Refused;
@@ -18,181 +18,226 @@ use values::Bytes;
 // Behind the magic, the number, and the previous hash with its length.
 const DATA_HASH: usize = 45;
 
-/// Bytes that are handed in, why they are refused if they are, and the ledger's version behind them.
-#[derive(Drop)]
-struct Submitted {
-    bytes: Bytes,
-    refused: Option<Refused>,
+/// What would be the next block, but for a bit at this place; why it is refused if it is, and the ledger's version behind it.
+struct Handed {
     version: BlockVersion,
+    flipped: Option<usize>,
+    refused: Option<Refused>,
+    behind: BlockVersion,
 }
 
-fn header_of(alloc: Global, bytes: &Bytes) -> Result<Header, Failed> {
-    Ok(decode_block(alloc, bytes.as_slice())?.header)
-}
-
-fn accepted(bytes: Bytes, version: BlockVersion) -> Submitted {
-    Submitted {
-        bytes,
-        refused: None,
-        version,
-    }
-}
-
-// Behind a block of version 2.
-fn refused(bytes: Bytes, refused: Refused) -> Submitted {
-    Submitted {
-        bytes,
-        refused: Some(refused),
-        version: BlockVersion::V2,
-    }
-}
-
-// The block of version 1 that would be the next one, and the same with another data hash and another number.
-fn add_old(
-    alloc: Global,
-    keys: &KeyBook,
-    last: Header,
-    all: &mut Vec<Submitted>,
-) -> Result<(), Failed> {
-    let old = drafted(alloc, keys, BlockVersion::V1, Some(last), "")?;
-    let wrong_data = flipped(alloc, old.as_slice(), DATA_HASH)?;
-    let wrong_number = flipped(alloc, old.as_slice(), NUMBER)?;
-    all.push(refused(old, Refused::OldVersion))?;
-    all.push(refused(Bytes::from_vec(wrong_data), Refused::WrongDataHash))?;
-    let numbers = Refused::WrongNumber { want: 2, got: 3 };
-    all.push(refused(Bytes::from_vec(wrong_number), numbers))?;
-    Ok(())
+fn all_handed() -> &'static [Handed] {
+    &ALL_HANDED
 }
 
 // Block 0 of version 1 and block 1 of version 2; behind them some of version 1, and block 2 of version 2.
-fn handed_in(alloc: Global, keys: &KeyBook) -> Result<Vec<Submitted>, Failed> {
-    let mut all = Vec::new(alloc);
-    let first = drafted(alloc, keys, BlockVersion::V1, None, "")?;
-    let after = header_of(alloc, &first)?;
-    all.push(accepted(first, BlockVersion::V1))?;
-    let second = drafted(alloc, keys, BlockVersion::V2, Some(after), "")?;
-    let after = header_of(alloc, &second)?;
-    all.push(accepted(second, BlockVersion::V2))?;
-    add_old(alloc, keys, after, &mut all)?;
-    let third = drafted(alloc, keys, BlockVersion::V2, Some(after), "")?;
-    all.push(accepted(third, BlockVersion::V2))?;
-    Ok(all)
-}
+static ALL_HANDED: [Handed; 6] = [
+    Handed {
+        version: BlockVersion::V1,
+        flipped: None,
+        refused: None,
+        behind: BlockVersion::V1,
+    },
+    Handed {
+        version: BlockVersion::V2,
+        flipped: None,
+        refused: None,
+        behind: BlockVersion::V2,
+    },
+    Handed {
+        version: BlockVersion::V1,
+        flipped: None,
+        refused: Some(Refused::OldVersion),
+        behind: BlockVersion::V2,
+    },
+    Handed {
+        version: BlockVersion::V1,
+        flipped: Some(DATA_HASH),
+        refused: Some(Refused::WrongDataHash),
+        behind: BlockVersion::V2,
+    },
+    Handed {
+        version: BlockVersion::V1,
+        flipped: Some(NUMBER),
+        refused: Some(Refused::WrongNumber { want: 2, got: 3 }),
+        behind: BlockVersion::V2,
+    },
+    Handed {
+        version: BlockVersion::V2,
+        flipped: None,
+        refused: None,
+        behind: BlockVersion::V2,
+    },
+];
 
-fn are_answered_by_ledger(ledger: &mut Ledger, keys: &KeyBook, all: &[Submitted]) -> bool {
-    for one in all {
-        if ledger.submit_one(one.bytes.as_slice(), keys).err() != one.refused
-            || ledger.view().version() != one.version
-        {
-            return false;
-        }
+fn block_of(alloc: Global, ledger: &Ledger, keys: &KeyBook, one: &Handed) -> Result<Bytes, Failed> {
+    let mut bytes = next_block(alloc, keys, one.version, ledger.view(), "")?.into_vec();
+    if let Some(place) = one.flipped {
+        flip(bytes.as_mut_slice(), place);
     }
-    ledger.view().height() == 3
+    Ok(Bytes::from_vec(bytes))
 }
 
-fn is_so(alloc: Global) -> Result<bool, Failed> {
-    let keys = KeyBook::read(alloc, "")?;
-    let all = handed_in(alloc, &keys)?;
-    let mut ledger = Ledger::open(alloc, configuration(alloc)?);
-    Ok(are_answered_by_ledger(&mut ledger, &keys, &all))
+fn is_answered(ledger: &mut Ledger, keys: &KeyBook, bytes: &Bytes, one: &Handed) -> bool {
+    submitted(ledger, bytes.as_slice(), keys).err() == one.refused
+        && ledger.view().version() == one.behind
+}
+
+fn add_answered(
+    alloc: Global,
+    ledger: &mut Ledger,
+    keys: &KeyBook,
+    one: &Handed,
+    blocks: &mut Vec<Bytes>,
+) -> Result<(), Failed> {
+    let bytes = block_of(alloc, ledger, keys, one)?;
+    check(is_answered(ledger, keys, &bytes, one))?;
+    Ok(blocks.push(bytes)?)
+}
+
+fn add_all(
+    alloc: Global,
+    ledger: &mut Ledger,
+    keys: &KeyBook,
+    blocks: &mut Vec<Bytes>,
+) -> Result<(), Failed> {
+    for one in all_handed() {
+        add_answered(alloc, ledger, keys, one, blocks)?;
+    }
+    check(ledger.view().height() == 3)
+}
+
+fn add_by_ledger(alloc: Global, keys: &KeyBook, blocks: &mut Vec<Bytes>) -> Result<(), Failed> {
+    let mut ledger = ledger_with(alloc, "")?;
+    add_all(alloc, &mut ledger, keys, blocks)
+}
+
+// What is handed in, which a ledger has answered.
+fn answered(alloc: Global, keys: &KeyBook) -> Result<Vec<Bytes>, Failed> {
+    let mut blocks = Vec::new(alloc);
+    add_by_ledger(alloc, keys, &mut blocks)?;
+    Ok(blocks)
+}
+
+fn check_by_ledger(alloc: Global) -> Result<(), Failed> {
+    let keys = read_keys(alloc, "")?;
+    let blocks = answered(alloc, &keys)?;
+    check(blocks.len() == all_handed().len())
 }
 
 #[test]
 fn old_versions_by_one_thread(rt: HostRuntime) -> Result<(), Failed> {
-    assert!(rt; is_so(rt.alloc())?);
-    Ok(())
+    check_by_ledger(rt.alloc())
 }
 
-fn not_committed(one: &Submitted) -> Option<NotCommitted> {
+/// The same for a committer, one by one or at once.
+#[derive(Clone, Copy)]
+pub struct HandedIn<'a> {
+    keys: &'a KeyBook,
+    blocks: &'a [Bytes],
+    is_run: bool,
+}
+
+fn not_committed(one: &Handed) -> Option<NotCommitted> {
     one.refused.map(NotCommitted::Refused)
 }
 
-fn are_answered_one_by_one<R: Threads + Wait + Sync>(
-    rt: &R,
-    committer: &mut Committer,
-    keys: &KeyBook,
-    all: &[Submitted],
-) -> bool {
-    for one in all {
-        if committer
-            .submit(rt, one.bytes.as_slice(), keys, &Open)
-            .err()
-            != not_committed(one)
-        {
+fn is_answer(answer: &Result<Receipt, NotCommitted>, one: &Handed) -> bool {
+    match answer {
+        Ok(_) => one.refused.is_none(),
+        Err(why) => Some(*why) == not_committed(one),
+    }
+}
+
+fn are_answers(answers: &[Result<Receipt, NotCommitted>]) -> bool {
+    for (answer, one) in answers.iter().zip(all_handed()) {
+        if !is_answer(answer, one) {
             return false;
         }
     }
-    true
+    answers.len() == all_handed().len()
 }
 
-fn are_answered_in_a_run<R: Threads + Wait + Sync>(
-    rt: &R,
-    committer: &mut Committer,
-    keys: &KeyBook,
-    blocks: &[Bytes],
-    all: &[Submitted],
-) -> Result<bool, Failed> {
-    let answers = committer.run(rt, blocks, keys, &Open)?;
-    for (answer, one) in answers.into_iter().zip(all) {
-        if answer.err() != not_committed(one) {
-            return Ok(false);
+impl HandedIn<'_> {
+    fn are_answered_one_by_one<R: Threads + Wait + Sync>(
+        &self,
+        rt: &R,
+        committer: &mut Committer,
+    ) -> bool {
+        for (bytes, one) in self.blocks.iter().zip(all_handed()) {
+            if refusal_of(rt, committer, bytes.as_slice(), self.keys) != not_committed(one) {
+                return false;
+            }
+        }
+        true
+    }
+
+    fn are_answered_in_a_run<R: Threads + Wait + Sync>(
+        &self,
+        rt: &R,
+        committer: &mut Committer,
+    ) -> Result<bool, Failed> {
+        let answers = committer.run(rt, self.blocks, self.keys, &Open)?;
+        Ok(are_answers(answers.as_slice()))
+    }
+
+    pub fn check_with<R: Threads + Wait + Sync>(
+        &self,
+        rt: &R,
+        committer: &mut Committer,
+    ) -> Result<(), Failed> {
+        if self.is_run {
+            check(self.are_answered_in_a_run(rt, committer)?)
+        } else {
+            check(self.are_answered_one_by_one(rt, committer))
         }
     }
-    Ok(blocks.len() == all.len())
 }
 
-fn copies(alloc: Global, all: &[Submitted]) -> Result<Vec<Bytes>, Failed> {
-    let mut blocks = Vec::with_capacity(alloc, all.len())?;
-    for one in all {
-        blocks.push(one.bytes.copy(alloc)?)?;
+fn check_handed<R: Threads + Wait + Sync>(
+    rt: &R,
+    alloc: Global,
+    workers: usize,
+    blocks: HandedIn<'_>,
+) -> Result<(), Failed> {
+    let channel = channel_with(alloc, "")?;
+    check_by(rt, alloc, channel, workers, &Trial::Versions(blocks))
+}
+
+fn check_by_each<R: Threads + Wait + Sync>(
+    rt: &R,
+    alloc: Global,
+    keys: &KeyBook,
+    blocks: &[Bytes],
+    is_run: bool,
+) -> Result<(), Failed> {
+    let blocks = HandedIn {
+        keys,
+        blocks,
+        is_run,
+    };
+    for workers in worker_counts() {
+        check_handed(rt, alloc, *workers, blocks)?;
     }
-    Ok(blocks)
+    Ok(())
 }
 
-fn is_so_one_by_one<R: Threads + Wait + Sync>(
+fn check_blocks<R: Threads + Wait + Sync>(
     rt: &R,
     alloc: Global,
-    workers: usize,
     keys: &KeyBook,
-    all: &[Submitted],
-) -> Result<bool, Failed> {
-    let (mut committer, _handles) = opened(rt, alloc, workers)?;
-    let are_answered = are_answered_one_by_one(rt, &mut committer, keys, all);
-    committer.close(rt);
-    Ok(are_answered)
+) -> Result<(), Failed> {
+    let blocks = answered(alloc, keys)?;
+    check_by_each(rt, alloc, keys, &blocks, false)?;
+    check_by_each(rt, alloc, keys, &blocks, true)
 }
 
-fn is_so_in_a_run<R: Threads + Wait + Sync>(
-    rt: &R,
-    alloc: Global,
-    workers: usize,
-    keys: &KeyBook,
-    all: &[Submitted],
-) -> Result<bool, Failed> {
-    let blocks = copies(alloc, all)?;
-    let (mut committer, _handles) = opened(rt, alloc, workers)?;
-    let are_answered = are_answered_in_a_run(rt, &mut committer, keys, &blocks, all);
-    committer.close(rt);
-    are_answered
-}
-
-fn is_so_by_workers<R: Threads + Wait + Sync>(
-    rt: &R,
-    alloc: Global,
-    workers: usize,
-) -> Result<bool, Failed> {
-    let keys = KeyBook::read(alloc, "")?;
-    let all = handed_in(alloc, &keys)?;
-    Ok(
-        is_so_one_by_one(rt, alloc, workers, &keys, &all)?
-            && is_so_in_a_run(rt, alloc, workers, &keys, &all)?,
-    )
+fn check_by_workers<R: Threads + Wait + Sync>(rt: &R, alloc: Global) -> Result<(), Failed> {
+    let keys = read_keys(alloc, "")?;
+    check_blocks(rt, alloc, &keys)
 }
 
 #[test]
 fn old_versions_by_workers(rt: HostRuntime) -> Result<(), Failed> {
-    for workers in &WORKERS {
-        assert!(rt; is_so_by_workers(&rt, rt.alloc(), *workers)?);
-    }
-    Ok(())
+    check_by_workers(&rt, rt.alloc())
 }

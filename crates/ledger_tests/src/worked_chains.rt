@@ -1,91 +1,64 @@
 //! Short chains that each show one thing. The flags were worked out by hand, and what is left comes from a committer in Python.
 
+use crate::fixture::named;
 use crate::scripted::ScriptedPeer;
-use crate::shown::{is_history, is_row, is_wanted_use};
+use crate::shown::{are_used, check_rows};
 use block::BlockVersion;
+use chain_vectors::WorkedChain;
 use chain_vectors::worked_endorsers::worked_endorsers;
 use chain_vectors::worked_ranges::worked_ranges;
 use chain_vectors::worked_reads::worked_reads;
-use chain_vectors::{Left, WorkedChain, read_use};
-use failing::Failed;
+use failing::{Failed, check};
 use std::alloc::Global;
-use world::World;
 
-/// All of them.
-pub fn worked() -> [&'static [WorkedChain]; 3] {
-    [worked_reads(), worked_endorsers(), worked_ranges()]
-}
-
-fn are_rows_left(alloc: Global, world: &World, rows: &[Left]) -> Result<bool, Failed> {
-    for left in rows {
-        if !is_row(alloc, world, left.namespace, left.key, &left.row)?
-            || !is_history(alloc, world, left)?
-        {
-            return Ok(false);
-        }
+/// All of them, in three parts.
+pub fn worked(part: u8) -> &'static [WorkedChain] {
+    match part {
+        0 => worked_reads(),
+        1 => worked_endorsers(),
+        _ => worked_ranges(),
     }
-    Ok(true)
 }
 
-fn are_uses_left(world: &World, uses: &[u8]) -> bool {
-    for bytes in uses.as_chunks::<67>().0 {
-        let used = read_use(bytes);
-        if !is_wanted_use(world.first_use(&used.id), used) {
-            return false;
-        }
-    }
-    true
-}
-
-// Whether the blocks have these flags, and leave behind what they are to leave.
-fn is_so_by(alloc: Global, peer: &mut ScriptedPeer, chain: &WorkedChain) -> Result<bool, Failed> {
+// Wants the blocks taken with these flags, and what they are to leave behind.
+fn check_by(alloc: Global, peer: &mut ScriptedPeer, chain: &WorkedChain) -> Result<(), Failed> {
     for block in chain.blocks {
-        if !peer.is_taken(alloc, block.script, block.flags)? {
-            return Ok(false);
-        }
+        check(peer.is_taken(alloc, block.script, block.flags)?)?;
     }
-    Ok(are_rows_left(alloc, peer.world(), chain.left)? && are_uses_left(peer.world(), chain.uses))
+    check_rows(alloc, peer.world(), chain.left)?;
+    check(are_used(peer.world(), chain.uses.as_chunks().0))
 }
 
-fn is_so(alloc: Global, version: BlockVersion, chain: &WorkedChain) -> Result<bool, Failed> {
+fn check_chain(alloc: Global, version: BlockVersion, chain: &WorkedChain) -> Result<(), Failed> {
     let mut peer = ScriptedPeer::of(alloc, version)?;
-    is_so_by(alloc, &mut peer, chain)
+    check_by(alloc, &mut peer, chain)
 }
 
-fn first_other_of(
+fn check_part(
     alloc: Global,
     version: BlockVersion,
     chains: &'static [WorkedChain],
-) -> Result<Option<&'static str>, Failed> {
+) -> Result<(), Failed> {
     for chain in chains {
-        if !is_so(alloc, version, chain)? {
-            return Ok(Some(chain.name));
-        }
+        named(chain.name, check_chain(alloc, version, chain))?;
     }
-    Ok(None)
+    Ok(())
 }
 
-// The name of the first chain that isn't so in blocks of this version.
-fn first_other(alloc: Global, version: BlockVersion) -> Result<Option<&'static str>, Failed> {
-    for chains in worked() {
-        let other = first_other_of(alloc, version, chains)?;
-        if other.is_some() {
-            return Ok(other);
-        }
+// Wants all of them in blocks of this version.
+fn check_all(alloc: Global, version: BlockVersion) -> Result<(), Failed> {
+    for part in 0..3 {
+        check_part(alloc, version, worked(part))?;
     }
-    Ok(None)
+    Ok(())
 }
 
 #[test]
 fn flags_and_what_is_left(rt: HostRuntime) -> Result<(), Failed> {
-    let other = first_other(rt.alloc(), BlockVersion::V1)?;
-    assert!(rt; other.is_none(), "{other:?}");
-    Ok(())
+    check_all(rt.alloc(), BlockVersion::V1)
 }
 
 #[test]
 fn the_same_in_version_2(rt: HostRuntime) -> Result<(), Failed> {
-    let other = first_other(rt.alloc(), BlockVersion::V2)?;
-    assert!(rt; other.is_none(), "{other:?}");
-    Ok(())
+    check_all(rt.alloc(), BlockVersion::V2)
 }

@@ -2,11 +2,11 @@
 
 use policy_eval::{Signers, Verify, signers};
 use std::alloc::{AllocError, Global};
-use transaction::{EncodeFault, Identity, TxFault, append_identity, decode_tx};
+use transaction::{EncodeFault, Identity, SpelledTx, TxFault, append_identity, decode_tx};
 
+mod answers;
 mod calls;
 mod limits;
-mod memory;
 mod policies;
 mod signing;
 mod updates;
@@ -31,34 +31,55 @@ impl Verify for Echo {
     }
 }
 
-// Channel `ch`, creator `Org1:client:c0`, nonce `n1`, chaincode `cc`, no namespaces.
-fn body(alloc: Global) -> Result<Vec<u8>, AllocError> {
-    let mut bytes = Vec::from_slice(alloc, b"\x02ch")?;
-    bytes.extend_from_slice(&[5; 64])?;
-    bytes.extend_from_slice(b"\x04Org1\x01\x02c0\x02n1\x02cc\0\0")?;
-    Ok(bytes)
+fn body() -> &'static [u8] {
+    BODY
 }
 
-// What the identity signs of this body, or nothing where its signature is to be refused.
-fn signature(
-    alloc: Global,
-    body: &[u8],
-    identity: &[u8],
-    is_good: bool,
-) -> Result<Vec<u8>, AllocError> {
-    if !is_good {
-        return Ok(Vec::new(alloc));
-    }
-    let mut signature = Vec::from_slice(alloc, body)?;
-    signature.extend_from_slice(identity)?;
-    Ok(signature)
-}
+// Channel `ch`, creator `Org1:client:c0`, nonce `n1`, chaincode `cc`, no namespaces.
+const BODY: &[u8] = b"\x02ch\
+    \x05\x05\x05\x05\x05\x05\x05\x05\x05\x05\x05\x05\x05\x05\x05\x05\x05\x05\x05\x05\x05\x05\x05\x05\x05\x05\x05\x05\x05\x05\x05\x05\
+    \x05\x05\x05\x05\x05\x05\x05\x05\x05\x05\x05\x05\x05\x05\x05\x05\x05\x05\x05\x05\x05\x05\x05\x05\x05\x05\x05\x05\x05\x05\x05\x05\
+    \x04Org1\x01\x02c0\x02n1\x02cc\0\0";
 
 // The bytes behind their number, in two bytes.
 fn push_counted(bytes: &mut Vec<u8>, field: &[u8]) -> Result<(), AllocError> {
     let [.., high, low] = field.len().to_be_bytes();
     bytes.extend_from_slice(&[high, low])?;
     bytes.extend_from_slice(field)
+}
+
+// The identity with its signature, which is of these bytes and of those behind them.
+fn push_endorsement(
+    alloc: Global,
+    bytes: &mut Vec<u8>,
+    identity: &[u8],
+    front: &[u8],
+    behind: &[u8],
+) -> Result<(), AllocError> {
+    let signature = [front, behind].concat(alloc)?;
+    bytes.extend_from_slice(identity)?;
+    push_counted(bytes, &signature)
+}
+
+// The number of endorsers, and each with its signature of this body and of its own bytes, or with none where that is to be
+// refused.
+fn push_endorsements(
+    alloc: Global,
+    bytes: &mut Vec<u8>,
+    body: &[u8],
+    endorsements: &[(&[u8], bool)],
+) -> Result<(), AllocError> {
+    let [.., count] = endorsements.len().to_be_bytes();
+    bytes.push(count)?;
+    for &(identity, is_good) in endorsements {
+        let (front, behind) = if is_good {
+            (body, identity)
+        } else {
+            (b"".as_slice(), b"".as_slice())
+        };
+        push_endorsement(alloc, bytes, identity, front, behind)?;
+    }
+    Ok(())
 }
 
 // This body with these endorsers, and whether the signature of each is good: what the creator signs.
@@ -68,29 +89,30 @@ fn endorsed_body(
     endorsements: &[(&[u8], bool)],
 ) -> Result<Vec<u8>, AllocError> {
     let mut bytes = Vec::from_slice(alloc, body)?;
-    let [.., count] = endorsements.len().to_be_bytes();
-    bytes.push(count)?;
-    for (identity, is_good) in endorsements {
-        let signature = signature(alloc, body, identity, *is_good)?;
-        bytes.extend_from_slice(identity)?;
-        push_counted(&mut bytes, &signature)?;
-    }
+    push_endorsements(alloc, &mut bytes, body, endorsements)?;
     Ok(bytes)
 }
 
 // The bytes of a transaction with these endorsers, and whether the signature of each is good.
 fn endorsed(alloc: Global, endorsements: &[(&[u8], bool)]) -> Result<Vec<u8>, AllocError> {
-    let body = body(alloc)?;
-    let mut bytes = endorsed_body(alloc, &body, endorsements)?;
+    let mut bytes = endorsed_body(alloc, body(), endorsements)?;
     push_counted(&mut bytes, b"")?;
     Ok(bytes)
 }
 
+// Asked again where memory is refused.
+fn signers_at_last<'a>(alloc: Global, spelled: &SpelledTx<'a>) -> Result<Signers<'a>, AllocError> {
+    match signers(alloc, spelled.tx(), &Echo) {
+        Ok(found) => Ok(found),
+        Err(AllocError) => signers(alloc, spelled.tx(), &Echo),
+    }
+}
+
 // The signers of the transaction of these bytes.
 fn signers_of(alloc: Global, bytes: &[u8]) -> Result<Signers<'_>, TxFault> {
-    let tx = decode_tx(alloc, bytes)?;
-    match signers(alloc, tx.tx(), &Echo) {
-        Ok(signers) => Ok(signers),
+    let spelled = decode_tx(alloc, bytes)?;
+    match signers_at_last(alloc, &spelled) {
+        Ok(found) => Ok(found),
         Err(AllocError) => Err(TxFault::Memory),
     }
 }
@@ -102,4 +124,13 @@ fn spellings(alloc: Global, signers: &Signers<'_>) -> Result<Vec<u8>, EncodeFaul
         append_identity(&mut bytes, signer)?;
     }
     Ok(bytes)
+}
+
+// Whether the identities are these, one after another.
+fn are_spelled(alloc: Global, signers: &Signers<'_>, wanted: &[u8]) -> Result<bool, TxFault> {
+    match spellings(alloc, signers) {
+        Ok(bytes) => Ok(bytes.as_slice() == wanted),
+        Err(EncodeFault::TooLarge) => Ok(false),
+        Err(EncodeFault::Memory) => Err(TxFault::Memory),
+    }
 }

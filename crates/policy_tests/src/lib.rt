@@ -5,3 +5,5 @@
 mod evaluating;
 #[cfg(test)]
 mod parsing;
+#[cfg(test)]
+mod parts;

@@ -36,6 +36,12 @@ fn check_row(
     check_row_reply(alloc, &reply, world, world.row(namespace, key))
 }
 
+/// What is answered for a key of the chaincode `cc`.
+pub fn row_of_cc(handle: &mut QueryHandle, at: &[u8]) -> Result<Reply<Option<Row>>, Failed> {
+    let (namespace, at) = (name(b"cc")?, key(at)?);
+    Ok(handle.get(&namespace, &at)?)
+}
+
 fn are_entries_alike(
     entries: &[HistoryEntry],
     world: &World,
@@ -182,8 +188,8 @@ pub fn check_definition(
 ) -> Result<(), Failed> {
     let chaincode = name(chaincode)?;
     let reply = handle.definition(alloc, &chaincode)?;
-    check(is_of(&reply, world))?;
-    check(has_text(alloc, &reply.answer, world.definitions().of(&chaincode))?)
+    let policy = world.definitions().of(&chaincode);
+    check(is_of(&reply, world) && has_text(alloc, &reply.answer, policy)?)
 }
 
 /// Wants the height answered alike.

@@ -3,7 +3,7 @@ ghost use Rattle.std.specs.Prelude.{◌≡◌, ◌+◌, ◌<◌, ◌^◌, IfOk, 
 ghost use Rattle.std.specs.FinMap.{empty};
 ghost use Rattle.rules.specs.World.{empty_world};
 
-use block::{BlockVersion, Header, decode_block};
+use block::{BlockFault, BlockVersion, Header, decode_block};
 use channel::{Channel, ChannelFault};
 use commit::{Accepted, Ledger, Refused};
 use drafts::draft;
@@ -11,8 +11,8 @@ use failing::Failed;
 use key_book::KeyBook;
 use policy::Definitions;
 use rules::Delta;
-use std::alloc::Global;
-use values::{BoundRef, Bytes, Hash, KeyRef, Name, NameRef, is_bound, is_key, is_name};
+use std::alloc::{AllocError, Global};
+use values::{BoundRef, Bytes, KeyRef, Name, NameRef, is_bound, is_key, is_name};
 use world::World;
 
 const CHANNEL: &str = "\
@@ -70,15 +70,21 @@ pub fn bound(bytes: &[u8]) -> Result<BoundRef<'_>, Failed> {
 #[derive(Drop)]
 pub struct Drafter {
     alloc: Global,
-    channel: Name,
     keys: KeyBook,
     ledger: Ledger,
-    last: Option<Header>,
 }
 
-fn header_in(alloc: Global, bytes: &Bytes) -> Result<Header, Failed> {
-    let block = decode_block(alloc, bytes.as_slice())?;
+fn header_of(alloc: Global, bytes: &[u8]) -> Result<Header, BlockFault> {
+    let block = decode_block(alloc, bytes)?;
     Ok(block.header)
+}
+
+// The header that the next block stands behind.
+fn last_header(alloc: Global, world: &World) -> Result<Option<Header>, BlockFault> {
+    match world.block(world.height().saturating_sub(1)) {
+        Some(block) => Ok(Some(header_of(alloc, block.bytes.get().as_slice())?)),
+        None => Ok(None),
+    }
 }
 
 // The header, where another block can follow it.
@@ -91,15 +97,26 @@ fn followed(last: Option<Header>) -> Result<Option<Header>, Failed>
     }
 }
 
+fn drafted_behind(
+    alloc: Global,
+    channel: &Name,
+    keys: &KeyBook,
+    version: BlockVersion,
+    last: Option<Header>,
+    script: &str,
+) -> Result<Bytes, Failed> {
+    let last = followed(last)?;
+    Ok(draft(alloc, channel, keys, version, last, script)?)
+}
+
 impl Drafter {
     pub fn open(alloc: Global) -> Result<Drafter, Failed> {
-        let channel = name(b"ch")?.copy(alloc)?;
+        let keys = KeyBook::read(alloc, KEYS)?;
+        let channel = configuration(alloc)?;
         Ok(Drafter {
             alloc,
-            channel,
-            keys: KeyBook::read(alloc, KEYS)?,
-            ledger: Ledger::open(alloc, configuration(alloc)?),
-            last: None,
+            keys,
+            ledger: Ledger::open(alloc, channel),
         })
     }
 
@@ -113,48 +130,42 @@ impl Drafter {
         self.ledger.view()
     }
 
-    /// The bytes of this script's block, the next one, of version 1.
-    pub fn drafted(&self, script: &str) -> Result<Bytes, Failed> {
-        self.drafted_in(BlockVersion::V1, script)
+    /// The bytes of this script's block, the next one, of this version.
+    pub fn drafted(&self, version: BlockVersion, script: &str) -> Result<Bytes, Failed> {
+        let last = last_header(self.alloc, self.world())?;
+        let channel = name(b"ch")?.copy(self.alloc)?;
+        drafted_behind(self.alloc, &channel, &self.keys, version, last, script)
     }
 
-    /// The same of this version.
-    pub fn drafted_in(&self, version: BlockVersion, script: &str) -> Result<Bytes, Failed> {
-        let last = followed(self.last)?;
-        Ok(draft(self.alloc, &self.channel, &self.keys, version, last, script)?)
+    /// The same of a script that was written, if memory was had for it.
+    pub fn drafted_of(
+        &self,
+        version: BlockVersion,
+        script: Result<String, AllocError>,
+    ) -> Result<Bytes, Failed> {
+        let script = script?;
+        self.drafted(version, script.as_str())
     }
 
     /// What the ledger answers to these bytes. A block that it takes is the one that the next one follows.
-    pub fn submit(&mut self, bytes: &Bytes) -> Result<Result<Accepted, Refused>, Failed> {
-        let answer = self.ledger.submit_one(bytes.as_slice(), &self.keys);
-        if answer.is_ok() {
-            self.last = Some(header_in(self.alloc, bytes)?);
-        }
-        Ok(answer)
+    pub fn submit(&mut self, bytes: &Bytes) -> Result<Accepted, Refused> {
+        self.ledger.submit_one(bytes.as_slice(), &self.keys)
     }
 
     /// What these bytes would change.
-    pub fn delta(&self, bytes: &Bytes) -> Result<Delta, Failed> {
-        Ok(self.ledger.delta(bytes.as_slice(), &self.keys)?)
+    pub fn delta(&self, bytes: &Bytes) -> Result<Delta, Refused> {
+        self.ledger.delta(bytes.as_slice(), &self.keys)
     }
 
-    /// The header hash of these bytes, which the ledger then has.
-    pub fn take(&mut self, bytes: &Bytes) -> Result<Hash, Failed> {
-        match self.submit(bytes)? {
-            Ok(accepted) => Ok(accepted.header_hash),
-            Err(refused) => Err(Failed::from(refused)),
-        }
-    }
-
-    fn changed(&mut self, bytes: &Bytes) -> Result<Delta, Failed> {
+    fn changed(&mut self, bytes: &Bytes) -> Result<Delta, Refused> {
         let delta = self.delta(bytes)?;
-        self.take(bytes)?;
+        self.submit(bytes)?;
         Ok(delta)
     }
 
     /// What the block of this script changes, the next one; the ledger then has it.
     pub fn next(&mut self, script: &str) -> Result<Delta, Failed> {
-        let bytes = self.drafted(script)?;
-        self.changed(&bytes)
+        let bytes = self.drafted(BlockVersion::V1, script)?;
+        Ok(self.changed(&bytes)?)
     }
 }

@@ -1,7 +1,9 @@
 //! Behind the end of its committer a handle gets no entry, and what it was answered before stays.
 
-use crate::blocks::{Drafter, bound, key, name};
-use crate::committing::opened;
+use crate::blocks::{bound, key, name};
+use crate::opening::{opened, submit_next};
+use crate::story::Story;
+use block::BlockVersion;
 use commit::{CommittedBlock, Committer, QueryFault, QueryHandle, Reply};
 use failing::Failed;
 use gates::Open;
@@ -10,7 +12,7 @@ use rules::{HistoryEntry, Row};
 use std::alloc::{AllocError, Global};
 use std::sync::Wait;
 use std::thread::Threads;
-use values::{Bytes, Items};
+use values::Items;
 
 const SCRIPT: &str =
     "tx Org1:client:c0 a cc\nns cc\nwrite k v\npolicy k 'Org1.peer'\nendorse Org1:peer:p0\n";
@@ -18,32 +20,44 @@ const SCRIPT: &str =
 /// The bytes of the identity `Org1:client:c0`.
 const CREATOR: &[u8] = b"\x04Org1\x01\x02c0";
 
+type Asked<A> = Result<Reply<A>, QueryFault>;
+
 /// What was answered before the end.
 #[derive(Drop)]
 struct Seen {
-    row: Reply<Option<Row>>,
-    entries: Reply<Items<HistoryEntry>>,
-    block: Reply<Option<CommittedBlock>>,
+    row: Asked<Option<Row>>,
+    entries: Asked<Items<HistoryEntry>>,
+    block: Asked<Option<CommittedBlock>>,
 }
 
 fn asked(alloc: Global, handle: &mut QueryHandle) -> Result<Seen, Failed> {
     let (namespace, at) = (name(b"cc")?, key(b"k")?);
     Ok(Seen {
-        row: handle.get(&namespace, &at)?,
-        entries: handle.history(alloc, &namespace, &at)?,
-        block: handle.block(alloc, 0)?,
+        row: handle.get(&namespace, &at),
+        entries: handle.history(alloc, &namespace, &at),
+        block: handle.block(alloc, 0),
     })
 }
 
-fn is_row(alloc: Global, row: &Row) -> Result<bool, AllocError> {
-    let Some(policy) = &row.policy else {
+fn is_v(row: &Row) -> bool {
+    row.value.as_slice() == b"v".as_slice() && (row.version.block, row.version.tx) == (0, 0)
+}
+
+fn has_policy(alloc: Global, row: &Row) -> Result<bool, AllocError> {
+    match &row.policy {
+        Some(policy) => Ok(policy.get().text(alloc)?.as_str() == "'Org1.peer'"),
+        None => Ok(false),
+    }
+}
+
+fn is_row(alloc: Global, asked: &Asked<Option<Row>>) -> Result<bool, AllocError> {
+    let Ok(reply) = asked else {
         return Ok(false);
     };
-    Ok(
-        row.value.as_slice() == b"v".as_slice()
-            && (row.version.block, row.version.tx) == (0, 0)
-            && policy.get().text(alloc)?.as_str() == "'Org1.peer'",
-    )
+    match &reply.answer {
+        Some(row) if reply.height == 1 && is_v(row) => has_policy(alloc, row),
+        _ => Ok(false),
+    }
 }
 
 fn is_entry(entry: &HistoryEntry) -> bool {
@@ -55,103 +69,106 @@ fn is_entry(entry: &HistoryEntry) -> bool {
         && value.as_slice() == b"v".as_slice()
 }
 
-fn is_kept(kept: &Option<CommittedBlock>, bytes: &Bytes) -> bool {
-    match kept {
-        Some(kept) => kept.bytes.get().is_same(bytes),
+fn is_history(asked: &Asked<Items<HistoryEntry>>) -> bool {
+    let Ok(reply) = asked else {
+        return false;
+    };
+    match reply.answer.as_slice() {
+        [entry] => reply.height == 1 && is_entry(entry),
+        _ => false,
+    }
+}
+
+fn is_block(asked: &Asked<Option<CommittedBlock>>, bytes: &[u8]) -> bool {
+    let Ok(reply) = asked else {
+        return false;
+    };
+    match &reply.answer {
+        Some(kept) => reply.height == 1 && kept.bytes.get().as_slice() == bytes,
         None => false,
     }
 }
 
 // Whether all of it is still what the script wrote.
-fn stays(alloc: Global, seen: &Seen, bytes: &Bytes) -> Result<bool, AllocError> {
-    let Some(row) = &seen.row.answer else {
+fn stays(story: &Story, seen: &Seen) -> Result<bool, AllocError> {
+    if !is_history(&seen.entries) || !is_block(&seen.block, story.bytes(0)) {
         return Ok(false);
-    };
-    let entries = seen.entries.answer.as_slice();
-    Ok(
-        is_row(alloc, row)?
-            && entries.len() == 1
-            && entries.iter().all(is_entry)
-            && is_kept(&seen.block.answer, bytes)
-            && (seen.row.height, seen.entries.height, seen.block.height) == (1, 1, 1),
-    )
+    }
+    is_row(story.alloc, &seen.row)
 }
 
-fn is_no_entry<A>(asked: &Result<A, QueryFault>) -> bool {
-    matches!(asked, Err(QueryFault::NoEntry))
+fn is_no_entry<A: Drop>(asked: Asked<A>) -> bool {
+    asked.err() == Some(QueryFault::NoEntry)
 }
 
 // Whether the queries of a key have no entry.
 fn has_no_entry_of_keys(alloc: Global, handle: &mut QueryHandle) -> Result<bool, Failed> {
     let (namespace, at, none) = (name(b"cc")?, key(b"k")?, bound(b"")?);
     Ok(
-        is_no_entry(&handle.get(&namespace, &at))
-            && is_no_entry(&handle.history(alloc, &namespace, &at))
-            && is_no_entry(&handle.range(alloc, &namespace, &none, &none, 9)),
+        is_no_entry(handle.get(&namespace, &at))
+            && is_no_entry(handle.history(alloc, &namespace, &at))
+            && is_no_entry(handle.range(alloc, &namespace, &none, &none, 9)),
     )
 }
 
-fn has_no_entry(alloc: Global, handle: &mut QueryHandle) -> Result<bool, Failed> {
-    Ok(
-        has_no_entry_of_keys(alloc, handle)?
-            && is_no_entry(&handle.block(alloc, 0))
-            && is_no_entry(&handle.flag_of(&tx_id(b"a", CREATOR)))
-            && is_no_entry(&handle.height()),
-    )
+fn has_no_entry(alloc: Global, handle: &mut QueryHandle) -> bool {
+    is_no_entry(handle.block(alloc, 0))
+        && is_no_entry(handle.flag_of(&tx_id(b"a", CREATOR)))
+        && is_no_entry(handle.height())
 }
 
-// What the handle of a committer is answered behind the block, which has ended then.
-fn seen_before_the_end<R: Threads + Wait + Sync>(
-    rt: &R,
-    alloc: Global,
-    mut committer: Committer,
-    handle: &mut QueryHandle,
-    drafter: &Drafter,
-    bytes: &Bytes,
-) -> Result<Seen, Failed> {
-    let is_committed = committer
-        .submit(rt, bytes.as_slice(), drafter.keys(), &Open)
-        .is_ok();
-    let seen = asked(alloc, handle);
-    committer.close(rt);
-    if !is_committed {
-        return Err(Failed::Missing("a receipt"));
-    }
-    seen
-}
-
-fn is_so_of<R: Threads + Wait + Sync>(
-    rt: &R,
-    alloc: Global,
-    committer: Committer,
-    handle: &mut QueryHandle,
-    drafter: &Drafter,
-    bytes: &Bytes,
-) -> Result<bool, Failed> {
-    let seen = seen_before_the_end(rt, alloc, committer, handle, drafter, bytes)?;
-    Ok(has_no_entry(alloc, handle)? && has_no_entry(alloc, handle)? && stays(alloc, &seen, bytes)?)
-}
-
-fn is_so_by<R: Threads + Wait + Sync>(
-    rt: &R,
-    alloc: Global,
-    drafter: &Drafter,
-    bytes: &Bytes,
-) -> Result<bool, Failed> {
-    let (committer, mut handles) = opened(rt, alloc, 2)?;
-    match handles.first_mut() {
-        Some(handle) => is_so_of(rt, alloc, committer, handle, drafter, bytes),
-        None => {
-            committer.close(rt);
-            Err(Failed::Missing("a handle"))
+// Twice, since the first time might have changed the handle.
+fn has_no_entries(alloc: Global, handles: &mut Vec<QueryHandle>) -> Result<bool, Failed> {
+    let Some(handle) = handles.first_mut() else {
+        return Err(Failed::Missing("a handle"));
+    };
+    for _ in 0..2 {
+        if !has_no_entry_of_keys(alloc, handle)? || !has_no_entry(alloc, handle) {
+            return Ok(false);
         }
     }
+    Ok(true)
+}
+
+// What the handle of a committer is answered behind the block.
+fn seen_by<R: Threads + Wait + Sync>(
+    rt: &R,
+    committer: &mut Committer,
+    handles: &mut Vec<QueryHandle>,
+    story: &Story,
+) -> Result<Seen, Failed> {
+    submit_next(rt, committer, story.drafter.keys(), story.bytes(0), &Open)?;
+    match handles.first_mut() {
+        Some(handle) => asked(story.alloc, handle),
+        None => Err(Failed::Missing("a handle")),
+    }
+}
+
+fn is_so_of(
+    story: &Story,
+    seen: &Result<Seen, Failed>,
+    handles: &mut Vec<QueryHandle>,
+) -> Result<bool, Failed> {
+    if !has_no_entries(story.alloc, handles)? {
+        return Ok(false);
+    }
+    match seen {
+        Ok(seen) => Ok(stays(story, seen)?),
+        Err(failed) => Err(*failed),
+    }
+}
+
+fn is_so_by<R: Threads + Wait + Sync>(rt: &R, story: &mut Story) -> Result<bool, Failed> {
+    story.take(BlockVersion::V1, SCRIPT)?;
+    let (mut committer, mut handles) = opened(rt, story.alloc, 2, 1)?;
+    let seen = seen_by(rt, &mut committer, &mut handles, story);
+    committer.close(rt);
+    is_so_of(story, &seen, &mut handles)
 }
 
 fn is_so<R: Threads + Wait + Sync>(rt: &R, alloc: Global) -> Result<bool, Failed> {
-    let drafter = Drafter::open(alloc)?;
-    let bytes = drafter.drafted(SCRIPT)?;
-    is_so_by(rt, alloc, &drafter, &bytes)
+    let mut story = Story::open(alloc, 0)?;
+    is_so_by(rt, &mut story)
 }
 
 #[test]

@@ -1,7 +1,10 @@
 //! To be tried with memory that is refused at any one allocation, by `bench/refused_memory.py`: a committer of two workers then
 //! refuses the block and takes the same bytes next, or has stopped, and handles answer the height from before.
 
-use crate::blocks::{Drafter, configuration, name};
+use crate::blocks::name;
+use crate::memory::outcome_if;
+use crate::opening::opened;
+use crate::story::Story;
 use block::BlockVersion;
 use commit::{Committer, NotCommitted, QueryHandle, Receipt, Refused};
 use failing::{Failed, Outcome, begins};
@@ -9,8 +12,7 @@ use gates::Open;
 use std::alloc::Global;
 use std::sync::Wait;
 use std::thread::Threads;
-use values::{Bytes, Hash};
-use world::World;
+use values::Hash;
 
 const WRITES: [&str; 4] = [
     "tx Org1:client:c0 n1 cc\nns cc\nwrite a v\nwrite c v\nendorse Org1:peer:p0\n",
@@ -41,92 +43,112 @@ const UPDATES: [&str; 4] = [
     "update Org1:client:c0 n4 cc 'Org2.peer'\nendorse Org2:peer:q0\n",
 ];
 
-const HANDLES: usize = 3;
+// The policy of `cc`, from its channel and from the updates.
+const OF_CHANNEL: &str = "OR('Org1.peer','Org2.peer')";
 
-/// Blocks, the header hash of each, the policy of `cc` at each height, and who signs.
+const FIRST_UPDATE: &str = "AND('Org1.peer','Org2.peer')";
+
+const SECOND_UPDATE: &str = "'Org2.peer'";
+
+/// Four blocks, and how those behind the first are handed in.
+struct Subject {
+    version: BlockVersion,
+    scripts: [&'static str; 4],
+    /// The policy of `cc` at each height.
+    policies: [&'static str; 5],
+    /// All at once, or else the second one alone.
+    is_run: bool,
+}
+
+static SUBMITTING: Subject = Subject {
+    version: BlockVersion::V1,
+    scripts: WRITES,
+    policies: [OF_CHANNEL, OF_CHANNEL, OF_CHANNEL, OF_CHANNEL, OF_CHANNEL],
+    is_run: false,
+};
+
+static RUNNING: Subject = Subject {
+    version: BlockVersion::V1,
+    scripts: WRITES,
+    policies: [OF_CHANNEL, OF_CHANNEL, OF_CHANNEL, OF_CHANNEL, OF_CHANNEL],
+    is_run: true,
+};
+
+static UPDATING: Subject = Subject {
+    version: BlockVersion::V2,
+    scripts: UPDATES,
+    policies: [
+        OF_CHANNEL,
+        OF_CHANNEL,
+        FIRST_UPDATE,
+        FIRST_UPDATE,
+        SECOND_UPDATE,
+    ],
+    is_run: false,
+};
+
+static RUNNING_UPDATES: Subject = Subject {
+    version: BlockVersion::V2,
+    scripts: UPDATES,
+    policies: [
+        OF_CHANNEL,
+        OF_CHANNEL,
+        FIRST_UPDATE,
+        FIRST_UPDATE,
+        SECOND_UPDATE,
+    ],
+    is_run: true,
+};
+
+/// A subject's blocks.
 #[derive(Drop)]
-struct Story {
-    alloc: Global,
-    drafter: Drafter,
-    blocks: Vec<Bytes>,
-    hashes: Vec<Hash>,
-    policies: Vec<String>,
+struct Scene {
+    story: Story,
+    subject: &'static Subject,
 }
 
-fn policy_in(alloc: Global, world: &World) -> Result<String, Failed> {
-    match world.definitions().of(&name(b"cc")?) {
-        Some(policy) => Ok(policy.text(alloc)?),
-        None => Err(Failed::Missing("a policy")),
+fn take_all(story: &mut Story, subject: &'static Subject) -> Result<(), Failed> {
+    for script in &subject.scripts {
+        story.take(subject.version, script)?;
     }
+    Ok(())
 }
 
-// Whether the policy of `cc` is answered from this height, and is this one.
-fn is_policy(
-    alloc: Global,
-    handle: &mut QueryHandle,
-    height: usize,
-    policy: &str,
-) -> Result<bool, Failed> {
-    let reply = handle.definition(alloc, &name(b"cc")?)?;
-    match &reply.answer {
-        Some(text) => Ok(reply.height == height as u64 && text.as_str() == policy),
-        None => Ok(false),
-    }
-}
-
-impl Story {
-    fn open(alloc: Global) -> Result<Story, Failed> {
-        Ok(Story {
-            alloc,
-            drafter: Drafter::open(alloc)?,
-            blocks: Vec::new(alloc),
-            hashes: Vec::new(alloc),
-            policies: Vec::new(alloc),
-        })
-    }
-
-    fn add_policy(&mut self) -> Result<(), Failed> {
-        self.policies
-            .push(policy_in(self.alloc, self.drafter.world())?)?;
-        Ok(())
-    }
-
-    fn add_all(&mut self, version: BlockVersion, scripts: [&'static str; 4]) -> Result<(), Failed> {
-        self.add_policy()?;
-        for script in scripts {
-            let bytes = self.drafter.drafted_in(version, script)?;
-            self.hashes.push(self.drafter.take(&bytes)?)?;
-            self.blocks.push(bytes)?;
-            self.add_policy()?;
-        }
-        Ok(())
+impl Scene {
+    fn open(alloc: Global, subject: &'static Subject) -> Result<Scene, Failed> {
+        let story = Story::open(alloc, 0)?;
+        Ok(Scene { story, subject })
     }
 
     fn hash_at(&self, height: usize) -> Option<Hash> {
-        self.hashes.get(height.checked_sub(1)?).copied()
+        let number = (height as u64).checked_sub(1)?;
+        match self.story.drafter.world().block(number) {
+            Some(block) => Some(block.header_hash),
+            None => None,
+        }
     }
 
-    // The blocks from this number on.
-    fn from(&self, number: usize) -> &[Bytes] {
-        self.blocks.get(number..).unwrap_or(&[])
-    }
-
-    fn is_shown_to(&self, handle: &mut QueryHandle, height: usize) -> Result<bool, Failed> {
+    // Whether the height is answered, with the hash of its last block.
+    fn is_height(&self, handle: &mut QueryHandle, height: usize) -> Result<bool, Failed> {
         let reply = handle.height()?;
-        let Some(policy) = self.policies.get(height) else {
-            return Err(Failed::Missing("a height"));
-        };
-        Ok(
-            reply.answer == height as u64
-                && reply.header_hash == self.hash_at(height)
-                && is_policy(self.alloc, handle, height, policy.as_str())?,
-        )
+        Ok(reply.answer == height as u64 && reply.header_hash == self.hash_at(height))
+    }
+
+    // Whether the policy of `cc` is answered from this height.
+    fn is_policy(&self, handle: &mut QueryHandle, height: usize) -> Result<bool, Failed> {
+        let reply = handle.definition(self.story.alloc, &name(b"cc")?)?;
+        match (&reply.answer, self.subject.policies.get(height)) {
+            (Some(text), Some(policy)) => {
+                Ok(reply.height == height as u64 && text.as_str() == *policy)
+            }
+            _ => Ok(false),
+        }
     }
 
     // Whether all handles answer this height, and the policy there.
     fn is_at(&self, handles: &mut Vec<QueryHandle>, height: usize) -> Result<bool, Failed> {
         for handle in handles.iter_mut() {
-            if !self.is_shown_to(handle, height)? {
+            if !self.is_height(handle, height)? || !self.is_policy(handle, height)? {
                 return Ok(false);
             }
         }
@@ -140,10 +162,7 @@ fn submitted<R: Threads + Wait + Sync>(
     story: &Story,
     number: usize,
 ) -> Result<Receipt, NotCommitted> {
-    match story.blocks.get(number) {
-        Some(bytes) => committer.submit(rt, bytes.as_slice(), story.drafter.keys(), &Open),
-        None => Err(NotCommitted::Refused(Refused::WrongPrevious)),
-    }
+    committer.submit(rt, story.bytes(number), story.drafter.keys(), &Open)
 }
 
 // Whether nothing more is committed, and the handles answer this height.
@@ -151,12 +170,14 @@ fn has_stopped<R: Threads + Wait + Sync>(
     rt: &R,
     committer: &mut Committer,
     handles: &mut Vec<QueryHandle>,
-    story: &Story,
+    scene: &Scene,
     height: usize,
 ) -> Result<bool, Failed> {
-    for number in [height, height, 0] {
-        let answer = submitted(rt, committer, story, number);
-        if answer.err() != Some(NotCommitted::Stopped) || !story.is_at(handles, height)? {
+    for turn in 0..3 {
+        // the next block twice, and then the first
+        let number = if turn < 2 { height } else { 0 };
+        let refused = submitted(rt, committer, &scene.story, number).err();
+        if refused != Some(NotCommitted::Stopped) || !scene.is_at(handles, height)? {
             return Ok(false);
         }
     }
@@ -168,14 +189,16 @@ fn is_taken_next<R: Threads + Wait + Sync>(
     rt: &R,
     committer: &mut Committer,
     handles: &mut Vec<QueryHandle>,
-    story: &Story,
+    scene: &Scene,
     number: usize,
 ) -> Result<bool, Failed> {
-    Ok(
-        story.is_at(handles, number)?
-            && submitted(rt, committer, story, number).is_ok()
-            && story.is_at(handles, number.saturating_add(1))?,
-    )
+    if !scene.is_at(handles, number)? {
+        return Ok(false);
+    }
+    if submitted(rt, committer, &scene.story, number).is_err() {
+        return Ok(false);
+    }
+    scene.is_at(handles, number.saturating_add(1))
 }
 
 const MEMORY: NotCommitted = NotCommitted::Refused(Refused::Memory);
@@ -185,21 +208,20 @@ fn outcome_of_submit<R: Threads + Wait + Sync>(
     rt: &R,
     committer: &mut Committer,
     handles: &mut Vec<QueryHandle>,
-    story: &Story,
+    scene: &Scene,
 ) -> Result<Outcome, Failed> {
-    let is_so = match submitted(rt, committer, story, 1).err() {
-        None => (story.is_at(handles, 2)?, Outcome::Done),
-        Some(MEMORY) => (
-            is_taken_next(rt, committer, handles, story, 1)?,
-            Outcome::MadeGood,
-        ),
-        Some(NotCommitted::MemoryInCommit) => (
-            has_stopped(rt, committer, handles, story, 1)?,
-            Outcome::Stopped,
-        ),
-        Some(_) => (false, Outcome::Wrong),
-    };
-    Ok(if is_so.0 { is_so.1 } else { Outcome::Wrong })
+    match submitted(rt, committer, &scene.story, 1).err() {
+        None => outcome_if(scene.is_at(handles, 2), Outcome::Done),
+        Some(MEMORY) => {
+            let is_so = is_taken_next(rt, committer, handles, scene, 1);
+            outcome_if(is_so, Outcome::MadeGood)
+        }
+        Some(NotCommitted::MemoryInCommit) => {
+            let is_so = has_stopped(rt, committer, handles, scene, 1);
+            outcome_if(is_so, Outcome::Stopped)
+        }
+        Some(_) => Ok(Outcome::Wrong),
+    }
 }
 
 // Whether the answers behind the first that has no receipt are those of blocks that are out of turn, or of a committer that
@@ -223,21 +245,6 @@ fn are_behind(answers: &[Result<Receipt, NotCommitted>], height: usize, has_stop
     true
 }
 
-// Whether the blocks from this number on are committed when they are handed in once more.
-fn are_taken_next<R: Threads + Wait + Sync>(
-    rt: &R,
-    committer: &mut Committer,
-    handles: &mut Vec<QueryHandle>,
-    story: &Story,
-    number: usize,
-) -> Result<bool, Failed> {
-    if !story.is_at(handles, number)? {
-        return Ok(false);
-    }
-    let answers = committer.run(rt, story.from(number), story.drafter.keys(), &Open)?;
-    Ok(answers.iter().all(|answer| answer.is_ok()) && story.is_at(handles, WRITES.len())?)
-}
-
 fn first_without_receipt(
     answers: &[Result<Receipt, NotCommitted>],
 ) -> Option<(usize, NotCommitted)> {
@@ -249,36 +256,61 @@ fn first_without_receipt(
     None
 }
 
+fn are_committed<R: Threads + Wait + Sync>(
+    rt: &R,
+    committer: &mut Committer,
+    story: &Story,
+    number: usize,
+) -> bool {
+    match committer.run(rt, story.blocks_from(number), story.drafter.keys(), &Open) {
+        Ok(answers) => first_without_receipt(&answers).is_none(),
+        Err(_) => false,
+    }
+}
+
+// Whether the blocks from this number on are committed when they are handed in once more.
+fn are_taken_next<R: Threads + Wait + Sync>(
+    rt: &R,
+    committer: &mut Committer,
+    handles: &mut Vec<QueryHandle>,
+    scene: &Scene,
+    number: usize,
+) -> Result<bool, Failed> {
+    if !scene.is_at(handles, number)? || !are_committed(rt, committer, &scene.story, number) {
+        return Ok(false);
+    }
+    scene.is_at(handles, scene.story.blocks.len())
+}
+
 // Of the blocks from 1 on, which were handed in at once.
 fn outcome_of_answers<R: Threads + Wait + Sync>(
     rt: &R,
     committer: &mut Committer,
     handles: &mut Vec<QueryHandle>,
-    story: &Story,
+    scene: &Scene,
     answers: &[Result<Receipt, NotCommitted>],
 ) -> Result<Outcome, Failed> {
     let Some((place, why)) = first_without_receipt(answers) else {
-        let is_done = answers.len() == 3 && story.is_at(handles, 4)?;
-        return Ok(if is_done {
-            Outcome::Done
+        let is_done = outcome_if(scene.is_at(handles, 4), Outcome::Done);
+        return if answers.len() == 3 {
+            is_done
         } else {
-            Outcome::Wrong
-        });
+            Ok(Outcome::Wrong)
+        };
     };
     let height = place.saturating_add(1);
     let behind = answers.get(height..).unwrap_or(&[]);
-    let is_so = match why {
-        MEMORY if are_behind(behind, height, false) => (
-            are_taken_next(rt, committer, handles, story, height)?,
-            Outcome::MadeGood,
-        ),
-        NotCommitted::MemoryInCommit if are_behind(behind, height, true) => (
-            has_stopped(rt, committer, handles, story, height)?,
-            Outcome::Stopped,
-        ),
-        _ => (false, Outcome::Wrong),
-    };
-    Ok(if is_so.0 { is_so.1 } else { Outcome::Wrong })
+    match why {
+        MEMORY if are_behind(behind, height, false) => {
+            let is_so = are_taken_next(rt, committer, handles, scene, height);
+            outcome_if(is_so, Outcome::MadeGood)
+        }
+        NotCommitted::MemoryInCommit if are_behind(behind, height, true) => {
+            let is_so = has_stopped(rt, committer, handles, scene, height);
+            outcome_if(is_so, Outcome::Stopped)
+        }
+        _ => Ok(Outcome::Wrong),
+    }
 }
 
 // Of the blocks from 1 on, handed in at once. Where `run` has an error of its own, none was handed in.
@@ -286,44 +318,39 @@ fn outcome_of_run<R: Threads + Wait + Sync>(
     rt: &R,
     committer: &mut Committer,
     handles: &mut Vec<QueryHandle>,
-    story: &Story,
+    scene: &Scene,
 ) -> Result<Outcome, Failed> {
-    match committer.run(rt, story.from(1), story.drafter.keys(), &Open) {
-        Ok(answers) => outcome_of_answers(rt, committer, handles, story, &answers),
-        Err(_) if are_taken_next(rt, committer, handles, story, 1)? => Ok(Outcome::MadeGood),
-        Err(_) => Ok(Outcome::Wrong),
+    let story = &scene.story;
+    match committer.run(rt, story.blocks_from(1), story.drafter.keys(), &Open) {
+        Ok(answers) => outcome_of_answers(rt, committer, handles, scene, &answers),
+        Err(_) => {
+            let is_so = are_taken_next(rt, committer, handles, scene, 1);
+            outcome_if(is_so, Outcome::MadeGood)
+        }
     }
 }
 
 fn outcome_behind_first<R: Threads + Wait + Sync>(
     rt: &R,
-    alloc: Global,
     committer: &mut Committer,
     handles: &mut Vec<QueryHandle>,
-    story: &Story,
-    is_run: bool,
+    scene: &Scene,
 ) -> Result<Outcome, Failed> {
-    submitted(rt, committer, story, 0)?;
-    if !story.is_at(handles, 1)? {
+    if submitted(rt, committer, &scene.story, 0).is_err() || !scene.is_at(handles, 1)? {
         return Ok(Outcome::Wrong);
     }
-    begins(alloc)?;
-    if is_run {
-        outcome_of_run(rt, committer, handles, story)
+    begins(scene.story.alloc)?;
+    if scene.subject.is_run {
+        outcome_of_run(rt, committer, handles, scene)
     } else {
-        outcome_of_submit(rt, committer, handles, story)
+        outcome_of_submit(rt, committer, handles, scene)
     }
 }
 
-fn outcome_by<R: Threads + Wait + Sync>(
-    rt: &R,
-    alloc: Global,
-    story: &Story,
-    is_run: bool,
-) -> Result<Outcome, Failed> {
-    let channel = configuration(alloc)?;
-    let (mut committer, mut handles) = Committer::open(alloc, rt, channel, 2, HANDLES)?;
-    let outcome = outcome_behind_first(rt, alloc, &mut committer, &mut handles, story, is_run);
+fn outcome_by<R: Threads + Wait + Sync>(rt: &R, scene: &mut Scene) -> Result<Outcome, Failed> {
+    take_all(&mut scene.story, scene.subject)?;
+    let (mut committer, mut handles) = opened(rt, scene.story.alloc, 2, 3)?;
+    let outcome = outcome_behind_first(rt, &mut committer, &mut handles, scene);
     committer.close(rt);
     outcome
 }
@@ -331,63 +358,25 @@ fn outcome_by<R: Threads + Wait + Sync>(
 fn outcome<R: Threads + Wait + Sync>(
     rt: &R,
     alloc: Global,
-    version: BlockVersion,
-    scripts: [&'static str; 4],
-    is_run: bool,
+    subject: &'static Subject,
 ) -> Result<Outcome, Failed> {
-    let mut story = Story::open(alloc)?;
-    story.add_all(version, scripts)?;
-    outcome_by(rt, alloc, &story, is_run)
+    let mut scene = Scene::open(alloc, subject)?;
+    outcome_by(rt, &mut scene)
 }
 
-pub fn outcome_of_submitting<R: Threads + Wait + Sync>(
+fn is_done<R: Threads + Wait + Sync>(
     rt: &R,
     alloc: Global,
-) -> Result<Outcome, Failed> {
-    outcome(rt, alloc, BlockVersion::V1, WRITES, false)
-}
-
-pub fn outcome_of_running<R: Threads + Wait + Sync>(
-    rt: &R,
-    alloc: Global,
-) -> Result<Outcome, Failed> {
-    outcome(rt, alloc, BlockVersion::V1, WRITES, true)
-}
-
-pub fn outcome_of_updating<R: Threads + Wait + Sync>(
-    rt: &R,
-    alloc: Global,
-) -> Result<Outcome, Failed> {
-    outcome(rt, alloc, BlockVersion::V2, UPDATES, false)
-}
-
-pub fn outcome_of_running_updates<R: Threads + Wait + Sync>(
-    rt: &R,
-    alloc: Global,
-) -> Result<Outcome, Failed> {
-    outcome(rt, alloc, BlockVersion::V2, UPDATES, true)
+    subject: &'static Subject,
+) -> Result<bool, Failed> {
+    Ok(outcome(rt, alloc, subject)? == Outcome::Done)
 }
 
 #[test]
-fn three_transactions(rt: HostRuntime) -> Result<(), Failed> {
-    assert!(rt; outcome_of_submitting(&rt, rt.alloc())? == Outcome::Done);
-    Ok(())
-}
-
-#[test]
-fn three_blocks(rt: HostRuntime) -> Result<(), Failed> {
-    assert!(rt; outcome_of_running(&rt, rt.alloc())? == Outcome::Done);
-    Ok(())
-}
-
-#[test]
-fn an_update(rt: HostRuntime) -> Result<(), Failed> {
-    assert!(rt; outcome_of_updating(&rt, rt.alloc())? == Outcome::Done);
-    Ok(())
-}
-
-#[test]
-fn a_run_of_updates(rt: HostRuntime) -> Result<(), Failed> {
-    assert!(rt; outcome_of_running_updates(&rt, rt.alloc())? == Outcome::Done);
+fn blocks_and_updates_submitted_and_run(rt: HostRuntime) -> Result<(), Failed> {
+    assert!(rt; is_done(&rt, rt.alloc(), &SUBMITTING)?);
+    assert!(rt; is_done(&rt, rt.alloc(), &RUNNING)?);
+    assert!(rt; is_done(&rt, rt.alloc(), &UPDATING)?);
+    assert!(rt; is_done(&rt, rt.alloc(), &RUNNING_UPDATES)?);
     Ok(())
 }

@@ -1,7 +1,7 @@
 //! At each height of the chain of 32 blocks each query answers what a world of its own answers.
 
 use crate::asking::{check_blocks, check_key, check_range, check_use};
-use crate::blocks::empty_world;
+use crate::opening::opened_publisher;
 use crate::publishing::publish_next;
 use chain_vectors::first_blocks::first_blocks;
 use chain_vectors::later_blocks::later_blocks;
@@ -11,7 +11,7 @@ use chain_vectors::{CHANNEL, Left, SaysOk, read_use};
 use channel::Channel;
 use commit::Ledger;
 use failing::Failed;
-use query::{Publisher, QueryHandle, open};
+use query::{Publisher, QueryHandle};
 use rules::Delta;
 use std::alloc::Global;
 use std::sync::Wait;
@@ -104,7 +104,7 @@ fn alike_up_to<R: Wait>(
 }
 
 fn alike_height<R: Wait>(rt: &R, alloc: Global) -> Result<u64, Failed> {
-    let (mut publisher, mut handles) = open(alloc, rt, empty_world(alloc), empty_world(alloc), 1)?;
+    let (mut publisher, mut handles) = opened_publisher(rt, alloc, 1)?;
     let height = alike_up_to(rt, alloc, &mut publisher, &mut handles);
     publisher.close(rt);
     height

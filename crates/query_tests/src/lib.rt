@@ -8,6 +8,8 @@ mod alike;
 #[cfg(test)]
 mod asking;
 #[cfg(test)]
+mod at_random;
+#[cfg(test)]
 mod blocks;
 #[cfg(test)]
 mod closing;
@@ -24,11 +26,15 @@ mod many_rows;
 #[cfg(test)]
 mod memory;
 #[cfg(test)]
+mod opening;
+#[cfg(test)]
 mod publishing;
 #[cfg(test)]
 mod running;
 #[cfg(test)]
 mod spoiling;
+#[cfg(test)]
+mod story;
 #[cfg(test)]
 mod telling;
 #[cfg(test)]

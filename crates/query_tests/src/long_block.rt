@@ -2,38 +2,36 @@
 //! reverse. A handle is told of its receipt; another one asks all the while in a thread of its own.
 ghost use Rattle.std.specs.Prelude.{◌≡◌, All, IfOk};
 
-use crate::blocks::{Drafter, configuration};
-use crate::threads::submit_next;
+use crate::opening::{opened, submit_next};
+use crate::story::Story;
+use block::BlockVersion;
 use commit::{Committer, Flag, QueryFault, QueryHandle, Receipt};
 use failing::Failed;
 use gates::{Open, Reverse};
-use key_book::KeyBook;
-use std::alloc::Global;
+use std::alloc::{AllocError, Global};
 use std::sync::Wait;
 use std::thread;
 use std::thread::Threads;
 use trials::{chain_flags, chain_script, keys_script};
-use values::Bytes;
 
 const LENGTH: u32 = 1000;
 
 /// How often the handle that nobody tells asks at most.
 const TURNS: u32 = 2_000_000;
 
-/// The block of the keys and the long one, and the long one's flags.
-#[derive(Drop)]
-struct Long {
-    keys: Bytes,
-    chain: Bytes,
-    flags: Vec<u8>,
+fn are_numbered(flags: &[Flag], numbers: &[u8]) -> bool {
+    for (flag, number) in flags.iter().zip(numbers) {
+        if flag.number() != *number {
+            return false;
+        }
+    }
+    flags.len() == numbers.len()
 }
 
-fn are_numbered(flags: &[Flag], numbers: &[u8]) -> bool {
-    flags.len() == numbers.len()
-        && flags
-            .iter()
-            .zip(numbers)
-            .all(|(flag, number)| flag.number() == *number)
+// Whether these are the flags of the long block.
+fn are_of_chain(alloc: Global, flags: &[Flag]) -> Result<bool, AllocError> {
+    let numbers = chain_flags(alloc, LENGTH)?;
+    Ok(are_numbered(flags, numbers.as_slice()))
 }
 
 // Asks until the height is 2, and once more: it is 0, 1 or 2, and never less than before.
@@ -53,17 +51,18 @@ fn never_goes_back(untold: &mut QueryHandle) -> Result<bool, QueryFault> {
     Ok(true)
 }
 
+// Takes the block of the keys, and then the long one.
 fn submit_both<R: Threads + Wait + Sync>(
     rt: &R,
     committer: &mut Committer,
-    drafter_keys: &KeyBook,
-    long: &Long,
+    story: &Story,
     reverse: &Reverse,
 ) -> Result<Receipt, Failed>
     ensures { IfOk result (λ r. r.front.book ≡ committer.old.book) }
 {
-    submit_next(rt, committer, drafter_keys, long.keys.as_slice(), &Open)?;
-    submit_next(rt, committer, drafter_keys, long.chain.as_slice(), reverse)
+    let keys = story.drafter.keys();
+    submit_next(rt, committer, keys, story.bytes(0), &Open)?;
+    submit_next(rt, committer, keys, story.bytes(1), reverse)
 }
 
 // Whether the long block has its flags, and a handle that is told of it answers its height.
@@ -71,18 +70,17 @@ fn is_told<R: Threads + Wait + Sync>(
     rt: &R,
     committer: &mut Committer,
     told: &mut QueryHandle,
-    drafter_keys: &KeyBook,
-    long: &Long,
+    story: &Story,
     reverse: &Reverse,
 ) -> Result<bool, Failed>
     requires { told.old.book ≡ committer.old.book }
 {
-    let receipt = submit_both(rt, committer, drafter_keys, long, reverse)?;
+    let receipt = submit_both(rt, committer, story, reverse)?;
     told.learn(&receipt);
     let reply = told.height()?;
     Ok(
-        are_numbered(receipt.flags.as_slice(), &long.flags)
-            && (reply.height, reply.answer) == (2, 2),
+        (reply.height, reply.answer) == (2, 2)
+            && are_of_chain(story.alloc, receipt.flags.as_slice())?,
     )
 }
 
@@ -91,8 +89,7 @@ fn in_two_threads<R: Threads + Wait + Sync>(
     committer: &mut Committer,
     told: &mut QueryHandle,
     untold: &mut QueryHandle,
-    drafter_keys: &KeyBook,
-    long: &Long,
+    story: &Story,
     reverse: &Reverse,
 ) -> Result<bool, Failed>
     requires { told.old.book ≡ committer.old.book }
@@ -102,7 +99,7 @@ fn in_two_threads<R: Threads + Wait + Sync>(
         || never_goes_back(untold),
         ||
             requires { told.now.book ≡ committer.now.book }
-        { is_told(rt, committer, told, drafter_keys, long, reverse) },
+        { is_told(rt, committer, told, story, reverse) },
     );
     Ok(is_told? && goes_on?)
 }
@@ -111,85 +108,49 @@ fn with_handles<R: Threads + Wait + Sync>(
     rt: &R,
     committer: &mut Committer,
     handles: &mut Vec<QueryHandle>,
-    drafter_keys: &KeyBook,
-    long: &Long,
+    story: &Story,
     reverse: &Reverse,
 ) -> Result<bool, Failed>
     requires { All (λ h. h.book ≡ committer.old.book) handles.old.items }
 {
     match (handles.pop(), handles.pop()) {
         (Some(mut told), Some(mut untold)) => {
-            in_two_threads(
-                rt,
-                committer,
-                &mut told,
-                &mut untold,
-                drafter_keys,
-                long,
-                reverse,
-            )
+            in_two_threads(rt, committer, &mut told, &mut untold, story, reverse)
         }
         _ => Err(Failed::Missing("two handles")),
     }
 }
 
-fn opened<R: Wait>(
-    rt: &R,
-    alloc: Global,
-    workers: usize,
-) -> Result<(Committer, Vec<QueryHandle>), Failed>
-    ensures { IfOk result (λ opened. All (λ h. h.book ≡ opened.0.book) opened.1.items) }
-{
-    match Committer::open(alloc, rt, configuration(alloc)?, workers, 2) {
-        Ok(opened) => Ok(opened),
-        Err(_) => Err(Failed::Missing("a committer")),
-    }
-}
-
 fn is_so_by<R: Threads + Wait + Sync>(
     rt: &R,
-    alloc: Global,
     workers: usize,
-    drafter_keys: &KeyBook,
-    long: &Long,
+    story: &Story,
+    reverse: &Reverse,
 ) -> Result<bool, Failed> {
-    let reverse = Reverse::new(alloc, LENGTH)?;
-    let (mut committer, mut handles) = opened(rt, alloc, workers)?;
-    let is_so = with_handles(
-        rt,
-        &mut committer,
-        &mut handles,
-        drafter_keys,
-        long,
-        &reverse,
-    );
+    let (mut committer, mut handles) = opened(rt, story.alloc, workers, 2)?;
+    let is_so = with_handles(rt, &mut committer, &mut handles, story, reverse);
     committer.close(rt);
     is_so
 }
 
-fn drafted(alloc: Global, drafter: &mut Drafter) -> Result<Long, Failed> {
-    let script = keys_script(alloc, LENGTH)?;
-    let keys = drafter.drafted(script.as_str())?;
-    drafter.take(&keys)?;
-    let script = chain_script(alloc, LENGTH)?;
-    let chain = drafter.drafted(script.as_str())?;
-    let flags = chain_flags(alloc, LENGTH)?;
-    Ok(Long { keys, chain, flags })
+fn is_so_in_reverse<R: Threads + Wait + Sync>(
+    rt: &R,
+    workers: usize,
+    story: &mut Story,
+) -> Result<bool, Failed> {
+    add_both(story)?;
+    let reverse = Reverse::new(story.alloc, LENGTH)?;
+    is_so_by(rt, workers, story, &reverse)
 }
 
-fn is_so_with<R: Threads + Wait + Sync>(
-    rt: &R,
-    alloc: Global,
-    workers: usize,
-    drafter: &mut Drafter,
-) -> Result<bool, Failed> {
-    let long = drafted(alloc, drafter)?;
-    is_so_by(rt, alloc, workers, drafter.keys(), &long)
+fn add_both(story: &mut Story) -> Result<(), Failed> {
+    story.take_of(BlockVersion::V1, keys_script(story.alloc, LENGTH))?;
+    story.take_of(BlockVersion::V1, chain_script(story.alloc, LENGTH))
 }
 
 fn is_so<R: Threads + Wait + Sync>(rt: &R, alloc: Global, workers: usize) -> Result<bool, Failed> {
-    let mut drafter = Drafter::open(alloc)?;
-    is_so_with(rt, alloc, workers, &mut drafter)
+    let mut story = Story::open(alloc, 0)?;
+    is_so_in_reverse(rt, workers, &mut story)
 }
 
 #[test]

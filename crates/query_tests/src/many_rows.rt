@@ -1,25 +1,24 @@
 //! 600 rows that one transaction writes, asked of a handle in ranges, and what is left once another one deletes some.
 
-use crate::blocks::{Drafter, bound, name};
-use crate::committing::opened;
-use commit::{Committer, QueryHandle, RangeRows};
+use crate::blocks::{bound, name};
+use crate::opening::{opened, submit_next};
+use crate::story::Story;
+use block::BlockVersion;
+use commit::{Committer, Flag, QueryHandle};
 use failing::Failed;
 use gates::Open;
 use rules::KeyedRow;
 use std::alloc::{AllocError, Global};
 use std::sync::Wait;
 use std::thread::Threads;
-use values::Bytes;
 
 const ROWS: u32 = 600;
 
 const DELETED: u32 = 256;
 
 fn put_line(alloc: Global, script: &mut String, line: &str, key: u32) -> Result<(), AllocError> {
-    let line = match line {
-        "write" => format!(in alloc; "write k{key:03} v\n")?,
-        _ => format!(in alloc; "delete k{key:03}\n")?,
-    };
+    let rest = if line == "write" { " v" } else { "" };
+    let line = format!(in alloc; "{line} k{key:03}{rest}\n")?;
     script.push_str(line.as_str())
 }
 
@@ -34,49 +33,29 @@ fn script_of(alloc: Global, line: &str, count: u32) -> Result<String, AllocError
     Ok(script)
 }
 
-/// What is asked, and which rows, and whether more, are to be answered.
-#[derive(Clone, Copy)]
-struct Ask {
-    start: &'static [u8],
-    end: &'static [u8],
-    limit: usize,
-    first: usize,
-    count: usize,
-    more: bool,
+/// A start, an end and a limit; and the first row that is to be answered, how many, and whether more are left.
+type Ask = (&'static [u8], &'static [u8], usize, usize, usize, bool);
+
+static BEHIND_WRITES: [Ask; 5] = [
+    (b"", b"", 300, 0, 300, true),
+    (b"k300", b"", 300, 300, 300, false),
+    (b"k250", b"k260", 300, 250, 10, false),
+    (b"", b"", 600, 0, 600, false),
+    (b"", b"", 599, 0, 599, true),
+];
+
+fn behind_writes() -> &'static [Ask] {
+    &BEHIND_WRITES
 }
 
-const fn asking(
-    (start, end): (&'static [u8], &'static [u8]),
-    limit: usize,
-    (first, count): (usize, usize),
-    more: bool,
-) -> Ask {
-    Ask {
-        start,
-        end,
-        limit,
-        first,
-        count,
-        more,
-    }
-}
+static BEHIND_DELETES: [Ask; 3] = [
+    (b"", b"", 300, 256, 300, true),
+    (b"", b"", 344, 256, 344, false),
+    (b"", b"k256", 300, 256, 0, false),
+];
 
-fn behind_the_writes() -> [Ask; 5] {
-    [
-        asking((b"", b""), 300, (0, 300), true),
-        asking((b"k300", b""), 300, (300, 300), false),
-        asking((b"k250", b"k260"), 300, (250, 10), false),
-        asking((b"", b""), 600, (0, 600), false),
-        asking((b"", b""), 599, (0, 599), true),
-    ]
-}
-
-fn behind_the_deletes() -> [Ask; 3] {
-    [
-        asking((b"", b""), 300, (256, 300), true),
-        asking((b"", b""), 344, (256, 344), false),
-        asking((b"", b"k256"), 300, (256, 0), false),
-    ]
+fn behind_deletes() -> &'static [Ask] {
+    &BEHIND_DELETES
 }
 
 fn digit(number: usize) -> u8 {
@@ -91,94 +70,90 @@ fn is_row(row: &KeyedRow, number: usize) -> bool {
         && (version.block, version.tx) == (0, 0)
 }
 
-fn is_answer(answer: &RangeRows, ask: Ask) -> bool {
-    for (place, row) in answer.rows.as_slice().iter().enumerate() {
-        if !is_row(row, place.wrapping_add(ask.first)) {
+fn are_rows(rows: &[KeyedRow], first: usize) -> bool {
+    for (place, row) in rows.iter().enumerate() {
+        if !is_row(row, place.wrapping_add(first)) {
             return false;
         }
     }
-    answer.rows.len() == ask.count && answer.more == ask.more
+    true
 }
 
-fn is_answered(alloc: Global, handle: &mut QueryHandle, ask: Ask) -> Result<bool, Failed> {
-    let (namespace, start, end) = (name(b"cc")?, bound(ask.start)?, bound(ask.end)?);
-    let reply = handle.range(alloc, &namespace, &start, &end, ask.limit)?;
-    Ok(is_answer(&reply.answer, ask))
+fn is_answered(alloc: Global, handle: &mut QueryHandle, ask: &Ask) -> Result<bool, Failed> {
+    let &(start, end, limit, first, count, more) = ask;
+    let (namespace, start, end) = (name(b"cc")?, bound(start)?, bound(end)?);
+    let reply = handle.range(alloc, &namespace, &start, &end, limit)?;
+    let rows = reply.answer.rows.as_slice();
+    Ok(are_rows(rows, first) && rows.len() == count && reply.answer.more == more)
 }
 
 fn are_answered(alloc: Global, handle: &mut QueryHandle, asks: &[Ask]) -> Result<bool, Failed> {
     for ask in asks {
-        if !is_answered(alloc, handle, *ask)? {
+        if !is_answered(alloc, handle, ask)? {
             return Ok(false);
         }
     }
     Ok(true)
 }
 
-fn is_committed<R: Threads + Wait + Sync>(
+// Whether the block is committed, and its one transaction valid.
+fn is_valid<R: Threads + Wait + Sync>(
     rt: &R,
     committer: &mut Committer,
-    drafter: &Drafter,
-    bytes: &Bytes,
-) -> bool {
-    match committer.submit(rt, bytes.as_slice(), drafter.keys(), &Open) {
-        Ok(receipt) => receipt.flags.as_slice().iter().all(|flag| flag.is_valid()),
-        Err(_) => false,
+    story: &Story,
+    number: usize,
+) -> Result<bool, Failed> {
+    let keys = story.drafter.keys();
+    let receipt = submit_next(rt, committer, keys, story.bytes(number), &Open)?;
+    Ok(receipt.flags.as_slice() == [Flag::Valid].as_slice())
+}
+
+// The same, and whether all of this is answered behind it.
+fn is_answered_behind<R: Threads + Wait + Sync>(
+    rt: &R,
+    committer: &mut Committer,
+    handle: &mut QueryHandle,
+    story: &Story,
+    number: usize,
+    asks: &[Ask],
+) -> Result<bool, Failed> {
+    if !is_valid(rt, committer, story, number)? {
+        return Ok(false);
     }
+    are_answered(story.alloc, handle, asks)
 }
 
 fn is_so_of<R: Threads + Wait + Sync>(
     rt: &R,
-    alloc: Global,
     committer: &mut Committer,
-    handle: &mut QueryHandle,
-    drafter: &Drafter,
-    writes: &Bytes,
-    deletes: &Bytes,
+    handles: &mut Vec<QueryHandle>,
+    story: &Story,
 ) -> Result<bool, Failed> {
-    Ok(
-        is_committed(rt, committer, drafter, writes)
-            && are_answered(alloc, handle, &behind_the_writes())?
-            && is_committed(rt, committer, drafter, deletes)
-            && are_answered(alloc, handle, &behind_the_deletes())?,
-    )
+    let Some(handle) = handles.first_mut() else {
+        return Err(Failed::Missing("a handle"));
+    };
+    if !is_answered_behind(rt, committer, handle, story, 0, behind_writes())? {
+        return Ok(false);
+    }
+    is_answered_behind(rt, committer, handle, story, 1, behind_deletes())
 }
 
-fn is_so_by<R: Threads + Wait + Sync>(
-    rt: &R,
-    alloc: Global,
-    drafter: &Drafter,
-    writes: &Bytes,
-    deletes: &Bytes,
-) -> Result<bool, Failed> {
-    let (mut committer, mut handles) = opened(rt, alloc, 2)?;
-    let is_so = match handles.first_mut() {
-        Some(handle) => is_so_of(rt, alloc, &mut committer, handle, drafter, writes, deletes),
-        None => Err(Failed::Missing("a handle")),
-    };
+fn is_so_by<R: Threads + Wait + Sync>(rt: &R, story: &mut Story) -> Result<bool, Failed> {
+    add_both(story)?;
+    let (mut committer, mut handles) = opened(rt, story.alloc, 2, 1)?;
+    let is_so = is_so_of(rt, &mut committer, &mut handles, story);
     committer.close(rt);
     is_so
 }
 
-fn drafted(alloc: Global, drafter: &Drafter, line: &str, count: u32) -> Result<Bytes, Failed> {
-    let script = script_of(alloc, line, count)?;
-    drafter.drafted(script.as_str())
-}
-
-fn is_so_with<R: Threads + Wait + Sync>(
-    rt: &R,
-    alloc: Global,
-    drafter: &mut Drafter,
-) -> Result<bool, Failed> {
-    let writes = drafted(alloc, drafter, "write", ROWS)?;
-    drafter.take(&writes)?;
-    let deletes = drafted(alloc, drafter, "delete", DELETED)?;
-    is_so_by(rt, alloc, drafter, &writes, &deletes)
+fn add_both(story: &mut Story) -> Result<(), Failed> {
+    story.take_of(BlockVersion::V1, script_of(story.alloc, "write", ROWS))?;
+    story.take_of(BlockVersion::V1, script_of(story.alloc, "delete", DELETED))
 }
 
 fn is_so<R: Threads + Wait + Sync>(rt: &R, alloc: Global) -> Result<bool, Failed> {
-    let mut drafter = Drafter::open(alloc)?;
-    is_so_with(rt, alloc, &mut drafter)
+    let mut story = Story::open(alloc, 0)?;
+    is_so_by(rt, &mut story)
 }
 
 #[test]

@@ -2,8 +2,11 @@
 //! as it was, a publish leaves what is published, and its publisher failed. Where memory is refused to what a test does beside,
 //! it ends by `?`.
 
-use crate::asking::{check_block, check_definition, check_height, check_key, check_range};
-use crate::blocks::{Drafter, empty_world, first_worlds, key, name};
+use crate::asking::{
+    check_block, check_definition, check_height, check_key, check_range, row_of_cc,
+};
+use crate::blocks::{Drafter, first_worlds};
+use crate::opening::opened_publisher;
 use crate::publishing::publish_next;
 use failing::{Failed, Outcome, begins, is_alike};
 use query::{OpenFault, Publisher, QueryHandle, Reply, open};
@@ -21,7 +24,7 @@ const SECOND: &str =
 
 // How many handles are opened.
 fn opened<R: Wait>(rt: &R, alloc: Global) -> Result<usize, OpenFault> {
-    let (publisher, handles) = open(alloc, rt, empty_world(alloc), empty_world(alloc), 32)?;
+    let (publisher, handles) = opened_publisher(rt, alloc, 32)?;
     publisher.close(rt);
     Ok(handles.len())
 }
@@ -35,10 +38,13 @@ pub fn outcome_of_opening<R: Wait>(rt: &R, alloc: Global) -> Result<Outcome, Fai
     }
 }
 
-#[test]
-fn what_is_opened(rt: HostRuntime) -> Result<(), Failed> {
-    assert!(rt; outcome_of_opening(&rt, rt.alloc())? == Outcome::Done);
-    Ok(())
+/// This outcome, where all is as it says.
+pub fn outcome_if(is_so: Result<bool, Failed>, outcome: Outcome) -> Result<Outcome, Failed> {
+    match is_so {
+        Ok(true) => Ok(outcome),
+        Ok(false) => Ok(Outcome::Wrong),
+        Err(failed) => Err(failed),
+    }
 }
 
 fn is_reply_at(reply: &Reply<Option<Row>>, height: u64, header_hash: Hash) -> bool {
@@ -54,7 +60,7 @@ fn is_reply_at(reply: &Reply<Option<Row>>, height: u64, header_hash: Hash) -> bo
 
 // Whether the answer is from this height: each block writes `k0`.
 fn is_at(handle: &mut QueryHandle, height: u64, header_hash: Hash) -> Result<bool, Failed> {
-    let reply = handle.get(&name(b"cc")?, &key(b"k0")?)?;
+    let reply = row_of_cc(handle, b"k0")?;
     Ok(is_reply_at(&reply, height, header_hash))
 }
 
@@ -78,13 +84,13 @@ fn outcome_of_publish<R: Wait>(
 ) -> Result<Outcome, Failed> {
     let after = second.block.get().header_hash;
     begins(alloc)?;
-    let published = publish_next(rt, alloc, publisher, second);
-    match (&published, publisher.failed()) {
-        (Ok(_), false) if are_at(handles, 2, after)? => Ok(Outcome::Done),
-        (Err(failed), true) if failed.is_memory() && are_at(handles, 1, before)? => {
-            Ok(Outcome::Stopped)
+    let failed = publish_next(rt, alloc, publisher, second).err();
+    match (failed, publisher.failed()) {
+        (None, false) => outcome_if(are_at(handles, 2, after), Outcome::Done),
+        (Some(failed), true) if failed.is_memory() => {
+            outcome_if(are_at(handles, 1, before), Outcome::Stopped)
         }
-        (Err(failed), false) => Err(*failed),
+        (Some(failed), false) => Err(failed),
         _ => Ok(Outcome::Wrong),
     }
 }
@@ -108,35 +114,11 @@ fn outcome_of_second<R: Wait>(
     handles: &mut Vec<QueryHandle>,
     drafter: &mut Drafter,
 ) -> Result<Outcome, Failed> {
-    publish_script(rt, alloc, publisher, drafter, FIRST)?;
     let Some(before) = drafter.world().header_hash() else {
         return Err(Failed::Missing("a header hash"));
     };
     let second = drafter.next(SECOND)?;
     outcome_of_publish(rt, alloc, publisher, handles, second, before)
-}
-
-fn outcome_of_both<R: Wait>(
-    rt: &R,
-    alloc: Global,
-    publisher: &mut Publisher,
-    handles: &mut Vec<QueryHandle>,
-) -> Result<Outcome, Failed> {
-    let mut drafter = Drafter::open(alloc)?;
-    outcome_of_second(rt, alloc, publisher, handles, &mut drafter)
-}
-
-pub fn outcome_of_publishing<R: Wait>(rt: &R, alloc: Global) -> Result<Outcome, Failed> {
-    let (mut publisher, mut handles) = open(alloc, rt, empty_world(alloc), empty_world(alloc), 2)?;
-    let outcome = outcome_of_both(rt, alloc, &mut publisher, &mut handles);
-    publisher.close(rt);
-    outcome
-}
-
-#[test]
-fn what_is_published(rt: HostRuntime) -> Result<(), Failed> {
-    assert!(rt; outcome_of_publishing(&rt, rt.alloc())? == Outcome::Done);
-    Ok(())
 }
 
 fn check_alike(alloc: Global, handle: &mut QueryHandle, world: &World) -> Result<(), Failed> {
@@ -159,25 +141,23 @@ fn outcome_of_queries(
     match check_alike(alloc, handle, world) {
         Ok(()) => Ok(Outcome::Done),
         Err(failed) if failed.is_memory() => {
-            let is_alike = is_alike(check_alike(alloc, handle, world))?;
-            Ok(if is_alike {
-                Outcome::MadeGood
-            } else {
-                Outcome::Wrong
-            })
+            outcome_if(
+                is_alike(check_alike(alloc, handle, world)),
+                Outcome::MadeGood,
+            )
         }
         Err(_) => Ok(Outcome::Wrong),
     }
 }
 
-fn outcome_behind_both<R: Wait>(
+// Of queries behind the second block.
+fn outcome_behind_second<R: Wait>(
     rt: &R,
     alloc: Global,
     publisher: &mut Publisher,
     handles: &mut Vec<QueryHandle>,
     drafter: &mut Drafter,
 ) -> Result<Outcome, Failed> {
-    publish_script(rt, alloc, publisher, drafter, FIRST)?;
     publish_script(rt, alloc, publisher, drafter, SECOND)?;
     match handles.first_mut() {
         Some(handle) => outcome_of_queries(alloc, handle, drafter.world()),
@@ -185,26 +165,52 @@ fn outcome_behind_both<R: Wait>(
     }
 }
 
-fn outcome_of_asking_by<R: Wait>(
+fn outcome_behind_first<R: Wait>(
     rt: &R,
     alloc: Global,
     publisher: &mut Publisher,
     handles: &mut Vec<QueryHandle>,
+    drafter: &mut Drafter,
+    is_asked: bool,
+) -> Result<Outcome, Failed> {
+    publish_script(rt, alloc, publisher, drafter, FIRST)?;
+    if is_asked {
+        outcome_behind_second(rt, alloc, publisher, handles, drafter)
+    } else {
+        outcome_of_second(rt, alloc, publisher, handles, drafter)
+    }
+}
+
+fn outcome_by<R: Wait>(
+    rt: &R,
+    alloc: Global,
+    publisher: &mut Publisher,
+    handles: &mut Vec<QueryHandle>,
+    is_asked: bool,
 ) -> Result<Outcome, Failed> {
     let mut drafter = Drafter::open(alloc)?;
-    outcome_behind_both(rt, alloc, publisher, handles, &mut drafter)
+    outcome_behind_first(rt, alloc, publisher, handles, &mut drafter, is_asked)
+}
+
+pub fn outcome_of_publishing<R: Wait>(rt: &R, alloc: Global) -> Result<Outcome, Failed> {
+    let (mut publisher, mut handles) = opened_publisher(rt, alloc, 2)?;
+    let outcome = outcome_by(rt, alloc, &mut publisher, &mut handles, false);
+    publisher.close(rt);
+    outcome
 }
 
 pub fn outcome_of_asking<R: Wait>(rt: &R, alloc: Global) -> Result<Outcome, Failed> {
     let (world, other) = first_worlds(alloc)?;
     let (mut publisher, mut handles) = open(alloc, rt, world, other, 1)?;
-    let outcome = outcome_of_asking_by(rt, alloc, &mut publisher, &mut handles);
+    let outcome = outcome_by(rt, alloc, &mut publisher, &mut handles, true);
     publisher.close(rt);
     outcome
 }
 
 #[test]
-fn what_is_answered(rt: HostRuntime) -> Result<(), Failed> {
+fn what_is_opened_published_and_answered(rt: HostRuntime) -> Result<(), Failed> {
+    assert!(rt; outcome_of_opening(&rt, rt.alloc())? == Outcome::Done);
+    assert!(rt; outcome_of_publishing(&rt, rt.alloc())? == Outcome::Done);
     assert!(rt; outcome_of_asking(&rt, rt.alloc())? == Outcome::Done);
     Ok(())
 }

@@ -3,10 +3,11 @@ ghost use Rattle.std.specs.Prelude.{◌≡◌, All};
 
 mod vectors;
 
-use crate::blocks::{Drafter, empty_world};
+use crate::blocks::Drafter;
+use crate::opening::opened_publisher;
 use crate::publishing::publish_next;
 use failing::Failed;
-use query::{Publisher, QueryHandle, Receipt, Reply, open};
+use query::{Publisher, QueryHandle, Receipt, Reply};
 use rules::{CommittedBlock, Delta, Flag};
 use std::alloc::Global;
 use std::sync::Wait;
@@ -134,7 +135,7 @@ fn of_two<R: Threads + Wait + Sync>(
 }
 
 fn is_one_told<R: Threads + Wait + Sync>(rt: &R, alloc: Global) -> Result<bool, Failed> {
-    let (mut publisher, mut handles) = open(alloc, rt, empty_world(alloc), empty_world(alloc), 2)?;
+    let (mut publisher, mut handles) = opened_publisher(rt, alloc, 2)?;
     let is_right = of_two(rt, alloc, &mut publisher, &mut handles);
     publisher.close(rt);
     is_right

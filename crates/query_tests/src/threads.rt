@@ -1,12 +1,14 @@
 //! Threads that ask while a committer takes blocks.
 ghost use Rattle.std.specs.Prelude.{◌≡◌, All, IfOk, IfSome};
 
-use crate::blocks::{Drafter, configuration, key, name};
+use crate::asking::row_of_cc;
+use crate::blocks::{key, name};
+use crate::opening::{opened, submit_next};
+use crate::story::Story;
 use block::BlockVersion;
 use commit::{Committer, QueryHandle, Receipt, Reply};
 use failing::Failed;
-use gates::{Gate, Open};
-use key_book::KeyBook;
+use gates::Open;
 use query::PolicyText;
 use rules::Row;
 use std::alloc::{AllocError, Global};
@@ -14,7 +16,8 @@ use std::sync::Wait;
 use std::sync::atomic::{AtomicBool, AtomicU64, Ordering};
 use std::thread;
 use std::thread::Threads;
-use values::{Bytes, Hash};
+use values::Hash;
+use world::World;
 
 /// One more handle stays silent.
 const READERS: u64 = 31;
@@ -109,47 +112,69 @@ fn has_policy(alloc: Global, reply: &Reply<Option<PolicyText>>) -> Result<bool, 
     }
 }
 
-// Asks for the value and for the history, and tells whether each is right and of no height below the last one.
+// The height of the key's row, if it is right there.
+fn height_of_row(
+    alloc: Global,
+    handle: &mut QueryHandle,
+    watched: &Watched,
+) -> Result<Option<u64>, Failed> {
+    let reply = row_of_cc(handle, b"k")?;
+    let is_right = watched.has_hash(&reply) && has_value(alloc, &reply)?;
+    Ok(is_right.then_some(reply.height))
+}
+
+// The same of the key's history.
+fn height_of_history(
+    alloc: Global,
+    handle: &mut QueryHandle,
+    watched: &Watched,
+) -> Result<Option<u64>, Failed> {
+    let reply = handle.history(alloc, &name(b"cc")?, &key(b"k")?)?;
+    let count = reply.answer.len() as u64;
+    let is_right = watched.has_hash(&reply) && count == reply.height.wrapping_add(1) / 2;
+    Ok(is_right.then_some(reply.height))
+}
+
+// The same of the chaincode's policy.
+fn height_of_policy(
+    alloc: Global,
+    handle: &mut QueryHandle,
+    watched: &Watched,
+) -> Result<Option<u64>, Failed> {
+    let reply = handle.definition(alloc, &name(b"cc")?)?;
+    let is_right = watched.has_hash(&reply) && has_policy(alloc, &reply)?;
+    Ok(is_right.then_some(reply.height))
+}
+
+// Whether there is a height, which isn't below the last one. It is the last one then.
+fn rises(least: &mut u64, height: Option<u64>) -> bool {
+    match height {
+        Some(height) if *least <= height => {
+            *least = height;
+            true
+        }
+        _ => false,
+    }
+}
+
+// Asks for all of it once.
 fn is_right(
     alloc: Global,
     handle: &mut QueryHandle,
     watched: &Watched,
     least: &mut u64,
 ) -> Result<bool, Failed> {
-    let (namespace, key) = (name(b"cc")?, key(b"k")?);
-    let row = handle.get(&namespace, &key)?;
-    let entries = handle.history(alloc, &namespace, &key)?;
-    let rises = *least <= row.height && row.height <= entries.height;
-    *least = entries.height;
-    Ok(
-        rises
-            && watched.has_hash(&row)
-            && watched.has_hash(&entries)
-            && has_value(alloc, &row)?
-            && entries.answer.len() as u64 == entries.height.wrapping_add(1) / 2,
-    )
-}
-
-// The same of the chaincode's policy.
-fn is_right_policy(
-    alloc: Global,
-    handle: &mut QueryHandle,
-    watched: &Watched,
-    least: &mut u64,
-) -> Result<bool, Failed> {
-    let reply = handle.definition(alloc, &name(b"cc")?)?;
-    let rises = *least <= reply.height;
-    *least = reply.height;
-    Ok(rises && watched.has_hash(&reply) && has_policy(alloc, &reply)?)
+    let of_row = height_of_row(alloc, handle, watched)?;
+    let of_history = height_of_history(alloc, handle, watched)?;
+    let of_policy = height_of_policy(alloc, handle, watched)?;
+    Ok(rises(least, of_row) && rises(least, of_history) && rises(least, of_policy))
 }
 
 fn are_right(alloc: Global, handle: &mut QueryHandle, watched: &Watched) -> Result<bool, Failed> {
     let mut least = 0;
     for turn in 0..TURNS {
         let is_over = watched.is_over.load(Ordering::SeqCst);
-        if !is_right(alloc, handle, watched, &mut least)?
-            || !is_right_policy(alloc, handle, watched, &mut least)?
-        {
+        if !is_right(alloc, handle, watched, &mut least)? {
             return Ok(false);
         }
         watched.replies.fetch_add(1, Ordering::SeqCst);
@@ -170,38 +195,18 @@ fn read(alloc: Global, mut handle: QueryHandle, watched: &Watched) {
     }
 }
 
-/// Wants the block committed, and every verdict found by a worker.
-pub fn submit_next<R: Threads + Wait + Sync, G: Gate + Sync>(
-    rt: &R,
-    committer: &mut Committer,
-    keys: &KeyBook,
-    bytes: &[u8],
-    gate: &G,
-) -> Result<Receipt, Failed>
-    ensures book { committer.new.book ≡ committer.old.book }
-    ensures receipt { IfOk result (λ r. r.front.book ≡ committer.old.book) }
-{
-    let Ok(receipt) = committer.submit(rt, bytes, keys, gate) else {
-        return Err(Failed::Missing("a receipt"));
-    };
-    if committer.gathered() != 0 {
-        return Err(Failed::Missing("a verdict that a worker found"));
-    }
-    Ok(receipt)
-}
-
 fn submit_all<R: Threads + Wait + Sync>(
     rt: &R,
     committer: &mut Committer,
-    keys: &KeyBook,
-    blocks: &[Bytes],
+    story: &Story,
     watched: &Watched,
 ) -> Result<Option<Receipt>, Failed>
     ensures { IfOk result (λ last. IfSome last (λ r. r.front.book ≡ committer.old.book)) }
 {
     let mut last = None;
     watched.wait_for_readers();
-    for bytes in blocks {
+    let keys = story.drafter.keys();
+    for bytes in story.blocks_from(0) {
         last = Some(submit_next(rt, committer, keys, bytes.as_slice(), &Open)?);
         watched.wait_for_reply();
     }
@@ -216,7 +221,7 @@ fn told_height(silent: &mut QueryHandle, last: Option<Receipt>) -> Result<u64, F
         return Err(Failed::Missing("a receipt"));
     };
     silent.learn(&receipt);
-    let reply = silent.get(&name(b"cc")?, &key(b"k")?)?;
+    let reply = row_of_cc(silent, b"k")?;
     Ok(reply.height)
 }
 
@@ -225,13 +230,12 @@ fn submit_and_tell<R: Threads + Wait + Sync>(
     rt: &R,
     committer: &mut Committer,
     silent: &mut QueryHandle,
-    keys: &KeyBook,
-    blocks: &[Bytes],
+    story: &Story,
     watched: &Watched,
 ) -> Result<u64, Failed>
     requires { silent.old.book ≡ committer.old.book }
 {
-    let last = submit_all(rt, committer, keys, blocks, watched);
+    let last = submit_all(rt, committer, story, watched);
     watched.is_over.store(true, Ordering::SeqCst);
     told_height(silent, last?)
 }
@@ -239,16 +243,15 @@ fn submit_and_tell<R: Threads + Wait + Sync>(
 // What the silent handle answers behind all, while the others read in threads of their own.
 fn height_behind_all<R: Threads + Wait + Sync>(
     rt: &R,
-    alloc: Global,
     committer: &mut Committer,
     silent: &mut QueryHandle,
     handles: Vec<QueryHandle>,
-    keys: &KeyBook,
-    blocks: &[Bytes],
+    story: &Story,
     watched: &Watched,
 ) -> Result<u64, Failed>
     requires { silent.old.book ≡ committer.old.book }
 {
+    let alloc = story.alloc;
     thread::scope(
         thread::scope_env(),
         rt,
@@ -261,25 +264,9 @@ fn height_behind_all<R: Threads + Wait + Sync>(
                     watched.wrong.fetch_add(1, Ordering::SeqCst);
                 }
             }
-            submit_and_tell(rt, committer, silent, keys, blocks, watched)
+            submit_and_tell(rt, committer, silent, story, watched)
         },
     )
-}
-
-fn is_read_rightly<R: Threads + Wait + Sync>(
-    rt: &R,
-    alloc: Global,
-    committer: &mut Committer,
-    silent: &mut QueryHandle,
-    handles: Vec<QueryHandle>,
-    keys: &KeyBook,
-    blocks: &[Bytes],
-    watched: &Watched,
-) -> Result<bool, Failed>
-    requires { silent.old.book ≡ committer.old.book }
-{
-    let height = height_behind_all(rt, alloc, committer, silent, handles, keys, blocks, watched)?;
-    Ok(height == BLOCKS && watched.wrong.load(Ordering::SeqCst) == 0)
 }
 
 fn script_of(alloc: Global, block: u64) -> Result<String, AllocError> {
@@ -292,38 +279,28 @@ fn script_of(alloc: Global, block: u64) -> Result<String, AllocError> {
     format!(in alloc; "update Org1:client:c0 n{block} cc {policy}\nendorse Org1:peer:p0\n")
 }
 
-fn drafted_next(
-    alloc: Global,
-    drafter: &mut Drafter,
-    block: u64,
-    hashes: &mut Vec<Hash>,
-) -> Result<Bytes, Failed> {
-    let script = script_of(alloc, block)?;
-    let bytes = drafter.drafted_in(BlockVersion::V2, script.as_str())?;
-    hashes.push(drafter.take(&bytes)?)?;
-    Ok(bytes)
+fn add_all(story: &mut Story) -> Result<(), Failed> {
+    for block in 0..BLOCKS {
+        story.take_of(BlockVersion::V2, script_of(story.alloc, block))?;
+    }
+    Ok(())
 }
 
-// The blocks; their header hashes are kept beside.
-fn drafted(
-    alloc: Global,
-    drafter: &mut Drafter,
-    hashes: &mut Vec<Hash>,
-) -> Result<Vec<Bytes>, Failed> {
-    let mut blocks = Vec::new(alloc);
-    for block in 0..BLOCKS {
-        blocks.push(drafted_next(alloc, drafter, block, hashes)?)?;
+fn hashes_of(alloc: Global, world: &World) -> Result<Vec<Hash>, AllocError> {
+    let mut hashes = Vec::new(alloc);
+    for number in 0..world.height() {
+        if let Some(block) = world.block(number) {
+            hashes.push(block.header_hash)?;
+        }
     }
-    Ok(blocks)
+    Ok(hashes)
 }
 
 fn with_handles<R: Threads + Wait + Sync>(
     rt: &R,
-    alloc: Global,
     committer: &mut Committer,
     mut handles: Vec<QueryHandle>,
-    keys: &KeyBook,
-    blocks: &[Bytes],
+    story: &Story,
     watched: &Watched,
 ) -> Result<bool, Failed>
     requires { All (λ h. h.book ≡ committer.old.book) handles.items }
@@ -331,54 +308,30 @@ fn with_handles<R: Threads + Wait + Sync>(
     let Some(mut silent) = handles.pop() else {
         return Err(Failed::Missing("a handle"));
     };
-    is_read_rightly(
-        rt,
-        alloc,
-        committer,
-        &mut silent,
-        handles,
-        keys,
-        blocks,
-        watched,
-    )
-}
-
-fn opened<R: Wait>(rt: &R, alloc: Global) -> Result<(Committer, Vec<QueryHandle>), Failed>
-    ensures { IfOk result (λ opened. All (λ h. h.book ≡ opened.0.book) opened.1.items) }
-{
-    match Committer::open(alloc, rt, configuration(alloc)?, WORKERS, 32) {
-        Ok(opened) => Ok(opened),
-        Err(_) => Err(Failed::Missing("a committer")),
-    }
+    let height = height_behind_all(rt, committer, &mut silent, handles, story, watched)?;
+    Ok(height == BLOCKS && watched.wrong.load(Ordering::SeqCst) == 0)
 }
 
 fn with_committer<R: Threads + Wait + Sync>(
     rt: &R,
-    alloc: Global,
-    keys: &KeyBook,
-    blocks: &[Bytes],
+    story: &Story,
     watched: &Watched,
 ) -> Result<bool, Failed> {
-    let (mut committer, handles) = opened(rt, alloc)?;
-    let is_right = with_handles(rt, alloc, &mut committer, handles, keys, blocks, watched);
+    let (mut committer, handles) = opened(rt, story.alloc, WORKERS, 32)?;
+    let is_right = with_handles(rt, &mut committer, handles, story, watched);
     committer.close(rt);
     is_right
 }
 
-fn with_drafter<R: Threads + Wait + Sync>(
-    rt: &R,
-    alloc: Global,
-    drafter: &mut Drafter,
-) -> Result<bool, Failed> {
-    let mut hashes = Vec::new(alloc);
-    let blocks = drafted(alloc, drafter, &mut hashes)?;
-    let watched = Watched::over(hashes);
-    with_committer(rt, alloc, drafter.keys(), blocks.as_slice(), &watched)
+fn is_watched_rightly<R: Threads + Wait + Sync>(rt: &R, story: &mut Story) -> Result<bool, Failed> {
+    add_all(story)?;
+    let watched = Watched::over(hashes_of(story.alloc, story.drafter.world())?);
+    with_committer(rt, story, &watched)
 }
 
 fn is_all_read_rightly<R: Threads + Wait + Sync>(rt: &R, alloc: Global) -> Result<bool, Failed> {
-    let mut drafter = Drafter::open(alloc)?;
-    with_drafter(rt, alloc, &mut drafter)
+    let mut story = Story::open(alloc, 0)?;
+    is_watched_rightly(rt, &mut story)
 }
 
 #[test]

@@ -1,23 +1,10 @@
 //! Updates of definitions by committers, as the ledger takes them.
 
-use crate::committing::{Kind, check_seed};
-use crate::running;
+use crate::at_random::AtRandom;
+use crate::committing::{Blocks, Course, check_seeds};
 use failing::Failed;
 use random_numbers::Random;
 use std::alloc::{AllocError, Global};
-use std::sync::Wait;
-use std::thread::Threads;
-use trials::Yielding;
-
-const CHAINS: u64 = 80;
-
-const RUNS: u64 = 50;
-
-const KIND: Kind = Kind {
-    blocks: 5,
-    spoiled: 2,
-    has_updates: true,
-};
 
 // The last has no definition.
 const CHAINCODES: [&str; 4] = ["cc", "cc", "dd", "zz"];
@@ -57,32 +44,39 @@ pub fn script_of_updates(alloc: Global, random: &mut Random) -> Result<String, A
     Ok(script)
 }
 
-// How many updates are valid in chains that are answered alike.
-fn updated<R: Threads + Wait + Sync>(rt: &R, alloc: Global) -> Result<usize, Failed> {
-    let gate = Yielding::new(23);
-    let mut updated = 0usize;
-    for seed in 1..=CHAINS {
-        updated = updated.saturating_add(check_seed(rt, alloc, seed, KIND, &gate)?);
-    }
-    Ok(updated)
-}
+const ONE_BY_ONE: Course = Course {
+    times: 5,
+    blocks: 1,
+    kind: Blocks::AtRandom(AtRandom {
+        before: 2,
+        behind: 0,
+        has_updates: true,
+        is_noted: true,
+    }),
+    is_run: false,
+};
 
 #[test]
 fn updates_as_the_ledger(rt: HostRuntime) -> Result<(), Failed> {
-    let updated = updated(&rt, rt.alloc())?;
+    let updated = check_seeds(&rt, rt.alloc(), 80, ONE_BY_ONE, 23)?;
     assert!(rt; updated >= 50, "{updated}");
     Ok(())
 }
 
-fn check_runs<R: Threads + Wait + Sync>(rt: &R, alloc: Global) -> Result<(), Failed> {
-    let gate = Yielding::new(29);
-    for seed in 1..=RUNS {
-        running::check_seed(rt, alloc, seed, KIND.blocks, true, &gate)?;
-    }
-    Ok(())
-}
+const AT_ONCE: Course = Course {
+    times: 1,
+    blocks: 5,
+    kind: Blocks::AtRandom(AtRandom {
+        before: 3,
+        behind: 3,
+        has_updates: true,
+        is_noted: false,
+    }),
+    is_run: true,
+};
 
 #[test]
 fn runs_of_updates_as_the_ledger(rt: HostRuntime) -> Result<(), Failed> {
-    check_runs(&rt, rt.alloc())
+    assert!(rt; check_seeds(&rt, rt.alloc(), 50, AT_ONCE, 29)? == 0);
+    Ok(())
 }

@@ -1,18 +1,13 @@
 //! Deltas: at random, noted as they are made, and one of 600 puts.
 
-use crate::fixture::{key, name};
+use crate::fixture::{entry, kept_key, name, numbered, row, version_of};
 use crate::noted::{
     CHAINCODES, IDS, KEYS, NAMESPACE, Noted, POLICIES, has_policy, id_of, key_of, use_at,
-    version_of,
 };
-use crate::pages::{numbered, row};
 use failing::Failed;
 use policy::Policy;
 use random_numbers::Random;
-use rules::{
-    Change, CommittedBlock, Delta, HistoryEntry, KeptKey, KeyedRow, NewDefinition, NewEntry,
-    NewUse, Row,
-};
+use rules::{Change, CommittedBlock, Delta, KeyedRow, NewDefinition, NewEntry, NewUse, Row};
 use std::alloc::Global;
 use transaction::BlockVersion;
 use values::{Bytes, Items, Part, Shared};
@@ -37,7 +32,7 @@ impl Drawing {
         self.random.below(KEYS as u8) as usize
     }
 
-    pub fn id(&mut self) -> usize {
+    fn id(&mut self) -> usize {
         self.random.below(IDS as u8) as usize
     }
 
@@ -65,6 +60,59 @@ fn policy(alloc: Global, number: u32) -> Result<Option<Shared<Policy>>, Failed> 
     Ok(Some(parsed(alloc, "'A.peer'")?))
 }
 
+fn numbered_row(alloc: Global, number: u32) -> Result<Row, Failed> {
+    Ok(Row {
+        value: Part::copied(alloc, &[])?,
+        version: version_of(number),
+        policy: policy(alloc, number)?,
+    })
+}
+
+fn put(alloc: Global, at: &[u8], row: Row) -> Result<Change, Failed> {
+    let key = kept_key(alloc, NAMESPACE, at)?;
+    Ok(Change::Put(Shared::new(alloc, KeyedRow::new(key, row))?))
+}
+
+fn change(alloc: Global, drawing: &mut Drawing, noted: &mut Noted) -> Result<Change, Failed> {
+    let at = drawing.key();
+    if drawing.up_to(2) == 0 {
+        noted.set(at, None);
+        return Ok(Change::Remove(kept_key(alloc, NAMESPACE, key_of(at))?));
+    }
+    let number = drawing.number();
+    noted.set(at, Some(number));
+    put(alloc, key_of(at), numbered_row(alloc, number)?)
+}
+
+fn drawn_entry(
+    alloc: Global,
+    drawing: &mut Drawing,
+    noted: &mut Noted,
+) -> Result<Shared<NewEntry>, Failed> {
+    let at = drawing.key();
+    let number = drawing.number();
+    noted.entries.push((at, number))?;
+    entry(alloc, NAMESPACE, key_of(at), number)
+}
+
+fn drawn_use(drawing: &mut Drawing, noted: &mut Noted) -> NewUse {
+    let id = drawing.id();
+    let number = drawing.number();
+    noted.add_use(id, number);
+    NewUse {
+        id: id_of(id),
+        first_use: use_at(number),
+    }
+}
+
+fn new_definition(alloc: Global, chaincode: &[u8], text: &str) -> Result<NewDefinition, Failed> {
+    let chaincode = name(chaincode)?.copy(alloc)?;
+    Ok(NewDefinition {
+        chaincode,
+        policy: parsed(alloc, text)?,
+    })
+}
+
 // Gives a chaincode another policy, or its first one.
 fn definition(
     alloc: Global,
@@ -77,52 +125,7 @@ fn definition(
     let (Some(bytes), Some(text)) = (CHAINCODES.get(chaincode), POLICIES.get(place)) else {
         return Err(Failed::Missing("a chaincode"));
     };
-    Ok(NewDefinition {
-        chaincode: name(alloc, bytes)?,
-        policy: parsed(alloc, text)?,
-    })
-}
-
-fn change(alloc: Global, drawing: &mut Drawing, noted: &mut Noted) -> Result<Change, Failed> {
-    let namespace = name(alloc, NAMESPACE)?;
-    let at = drawing.key();
-    let key = KeptKey::copied(alloc, &namespace.lend(), &key_of(alloc, at)?.lend())?;
-    if drawing.up_to(2) == 0 {
-        noted.set(at, None);
-        return Ok(Change::Remove(key));
-    }
-    let number = drawing.number();
-    noted.set(at, Some(number));
-    let row = Row {
-        value: Part::copied(alloc, &[])?,
-        version: version_of(number),
-        policy: policy(alloc, number)?,
-    };
-    let keyed = KeyedRow::new(key, row);
-    Ok(Change::Put(Shared::new(alloc, keyed)?))
-}
-
-fn entry(
-    alloc: Global,
-    drawing: &mut Drawing,
-    noted: &mut Noted,
-) -> Result<Shared<NewEntry>, Failed> {
-    let at = drawing.key();
-    let number = drawing.number();
-    noted.entries.push((at, number))?;
-    let entry = NewEntry {
-        key: KeptKey::copied(
-            alloc,
-            &name(alloc, NAMESPACE)?.lend(),
-            &key_of(alloc, at)?.lend(),
-        )?,
-        entry: HistoryEntry {
-            version: version_of(number),
-            id: [0; 64],
-            value: None,
-        },
-    };
-    Ok(Shared::new(alloc, entry)?)
+    new_definition(alloc, bytes, text)
 }
 
 fn block_of(alloc: Global, hash: [u8; 32]) -> Result<Shared<CommittedBlock>, Failed> {
@@ -135,24 +138,52 @@ fn block_of(alloc: Global, hash: [u8; 32]) -> Result<Shared<CommittedBlock>, Fai
     Ok(Shared::new(alloc, block)?)
 }
 
-/// Puts k000 to k599.
-pub fn six_hundred_puts(alloc: Global) -> Result<Delta, Failed> {
-    let namespace = name(alloc, NAMESPACE)?;
-    let mut changes = Items::new(alloc);
-    for number in 0..600 {
-        let key = key(alloc, &numbered(number))?;
-        let row = row(alloc, &numbered(number))?;
-        let key = KeptKey::copied(alloc, &namespace.lend(), &key.lend())?;
-        let keyed = KeyedRow::new(key, row);
-        changes.push(Change::Put(Shared::new(alloc, keyed)?))?;
-    }
+// Of a block, without changes.
+fn empty(alloc: Global, hash: [u8; 32]) -> Result<Delta, Failed> {
     Ok(Delta {
-        changes,
+        changes: Items::new(alloc),
         entries: Items::new(alloc),
         uses: Items::new(alloc),
         definitions: Items::new(alloc),
-        block: block_of(alloc, [0; 32])?,
+        block: block_of(alloc, hash)?,
     })
+}
+
+fn fill_with_puts(alloc: Global, delta: &mut Delta, count: u32) -> Result<(), Failed> {
+    for number in 0..count {
+        let at = numbered(number);
+        delta.changes.push(put(alloc, &at, row(alloc, &at)?)?)?;
+    }
+    Ok(())
+}
+
+/// Puts k000 to k599.
+pub fn six_hundred_puts(alloc: Global) -> Result<Delta, Failed> {
+    let mut delta = empty(alloc, [0; 32])?;
+    fill_with_puts(alloc, &mut delta, 600)?;
+    Ok(delta)
+}
+
+fn fill(
+    alloc: Global,
+    drawing: &mut Drawing,
+    noted: &mut Noted,
+    most: u8,
+    delta: &mut Delta,
+) -> Result<(), Failed> {
+    for _ in 0..drawing.up_to(most) {
+        delta.changes.push(change(alloc, drawing, noted)?)?;
+    }
+    for _ in 0..drawing.up_to(most) {
+        delta.entries.push(drawn_entry(alloc, drawing, noted)?)?;
+    }
+    for _ in 0..drawing.up_to(most) {
+        delta.uses.push(drawn_use(drawing, noted))?;
+    }
+    for _ in 0..drawing.up_to(most.min(2)) {
+        delta.definitions.push(definition(alloc, drawing, noted)?)?;
+    }
+    Ok(())
 }
 
 /// A delta of changes in any order, with keys and ids that repeat: of each list up to so many.
@@ -163,33 +194,7 @@ pub fn delta(
     most: u8,
     hash: [u8; 32],
 ) -> Result<Delta, Failed> {
-    let mut changes = Items::new(alloc);
-    for _ in 0..drawing.up_to(most) {
-        changes.push(change(alloc, drawing, noted)?)?;
-    }
-    let mut entries = Items::new(alloc);
-    for _ in 0..drawing.up_to(most) {
-        entries.push(entry(alloc, drawing, noted)?)?;
-    }
-    let mut uses = Items::new(alloc);
-    for _ in 0..drawing.up_to(most) {
-        let id = drawing.id();
-        let number = drawing.number();
-        noted.add_use(id, number);
-        uses.push(NewUse {
-            id: id_of(id),
-            first_use: use_at(number),
-        })?;
-    }
-    let mut definitions = Items::new(alloc);
-    for _ in 0..drawing.up_to(most.min(2)) {
-        definitions.push(definition(alloc, drawing, noted)?)?;
-    }
-    Ok(Delta {
-        changes,
-        entries,
-        uses,
-        definitions,
-        block: block_of(alloc, hash)?,
-    })
+    let mut delta = empty(alloc, hash)?;
+    fill(alloc, drawing, noted, most, &mut delta)?;
+    Ok(delta)
 }

@@ -1,21 +1,23 @@
-//! Names and keys.
+//! Names and keys, and the rows and history entries at them.
 
 use failing::Failed;
+use rules::{HistoryEntry, KeptKey, NewEntry, Row};
 use std::alloc::Global;
-use values::{BoundRef, Key, Name, is_bound, is_key, is_name};
+use transaction::Version;
+use values::{BoundRef, KeyRef, NameRef, Part, Shared, is_bound, is_key, is_name};
 
-pub fn name(alloc: Global, bytes: &[u8]) -> Result<Name, Failed> {
+pub fn name(bytes: &[u8]) -> Result<NameRef<'_>, Failed> {
     if !is_name(bytes) {
         return Err(Failed::Missing("a name"));
     }
-    Ok(Name::from_slice(alloc, bytes)?)
+    Ok(NameRef::new(bytes))
 }
 
-pub fn key(alloc: Global, bytes: &[u8]) -> Result<Key, Failed> {
+pub fn key(bytes: &[u8]) -> Result<KeyRef<'_>, Failed> {
     if !is_key(bytes) {
         return Err(Failed::Missing("a key"));
     }
-    Ok(Key::from_slice(alloc, bytes)?)
+    Ok(KeyRef::new(bytes))
 }
 
 pub fn bound(bytes: &[u8]) -> Result<BoundRef<'_>, Failed> {
@@ -23,4 +25,52 @@ pub fn bound(bytes: &[u8]) -> Result<BoundRef<'_>, Failed> {
         return Err(Failed::Missing("a bound"));
     }
     Ok(BoundRef::new(bytes))
+}
+
+pub fn kept_key(alloc: Global, namespace: &[u8], at: &[u8]) -> Result<KeptKey, Failed> {
+    Ok(KeptKey::copied(alloc, &name(namespace)?, &key(at)?)?)
+}
+
+/// The version of what is done at a place of block 0.
+pub fn version_of(place: u32) -> Version {
+    Version {
+        block: 0,
+        tx: place,
+    }
+}
+
+/// A row of block 0, without a policy.
+pub fn row(alloc: Global, value: &[u8]) -> Result<Row, Failed> {
+    Ok(Row {
+        value: Part::copied(alloc, value)?,
+        version: version_of(0),
+        policy: None,
+    })
+}
+
+fn digit(number: u32) -> u8 {
+    b"0123456789"[(number % 10) as usize]
+}
+
+/// `k` with three digits.
+pub fn numbered(number: u32) -> [u8; 4] {
+    [b'k', digit(number / 100), digit(number / 10), digit(number)]
+}
+
+/// A delete at a place of block 0.
+pub fn entry(
+    alloc: Global,
+    namespace: &[u8],
+    at: &[u8],
+    place: u32,
+) -> Result<Shared<NewEntry>, Failed> {
+    let entry = NewEntry {
+        key: kept_key(alloc, namespace, at)?,
+        entry: HistoryEntry {
+            version: version_of(place),
+            id: [0; 64],
+            value: None,
+        },
+    };
+    Ok(Shared::new(alloc, entry)?)
 }

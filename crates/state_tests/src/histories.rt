@@ -1,77 +1,117 @@
-use crate::fixture::{key, name};
+//! Entries of keys, which are lent newest first.
+
+use crate::fixture::{entry, key, name};
 use failing::Failed;
-use history_index::HistoryIndex;
-use rules::{HistoryEntry, KeptKey, NewEntry};
+use history_index::{Entries, HistoryIndex};
 use std::alloc::Global;
-use transaction::Version;
-use values::Shared;
 
-// A delete at a place of block 0.
-fn entry(alloc: Global, namespace: &[u8], at: &[u8], tx: u32) -> Result<Shared<NewEntry>, Failed> {
-    let entry = NewEntry {
-        key: KeptKey::copied(
-            alloc,
-            &name(alloc, namespace)?.lend(),
-            &key(alloc, at)?.lend(),
-        )?,
-        entry: HistoryEntry {
-            version: Version { block: 0, tx },
-            id: [0; 64],
-            value: None,
-        },
-    };
-    Ok(Shared::new(alloc, entry)?)
-}
+// A key in its namespace, and the places of its entries.
+type Places = (&'static [u8], &'static [u8], &'static [u32]);
 
-// The places of a key's entries, as they are lent.
-fn places(
+fn add(
     alloc: Global,
-    index: &HistoryIndex,
+    index: &mut HistoryIndex,
     namespace: &[u8],
     at: &[u8],
-) -> Result<Vec<u32>, Failed> {
-    let namespace = name(alloc, namespace)?;
-    let at = key(alloc, at)?;
-    let mut places = Vec::new(alloc);
-    for entry in index.entries(&namespace.lend(), &at.lend()) {
-        places.push(entry.version.tx)?;
+    place: u32,
+) -> Result<(), Failed> {
+    if index.room() == 0 {
+        return Err(Failed::Missing("room"));
     }
-    Ok(places)
+    index.add(entry(alloc, namespace, at, place)?);
+    Ok(())
+}
+
+fn are_at(entries: Entries<'_>, places: &[u32]) -> bool {
+    let mut left = places.iter();
+    for entry in entries {
+        if left.next().copied() != Some(entry.version.tx) {
+            return false;
+        }
+    }
+    left.next().is_none()
+}
+
+// Whether each key has its entries at these places, and no other ones.
+fn are_places(index: &HistoryIndex, keys: &[Places]) -> Result<bool, Failed> {
+    for &(namespace, at, places) in keys {
+        if !are_at(index.entries(&name(namespace)?, &key(at)?), places) {
+            return Ok(false);
+        }
+    }
+    Ok(true)
+}
+
+fn added() -> &'static [(&'static [u8], &'static [u8], u32)] {
+    &ADDED
+}
+
+// Keys in their namespaces, and the places of entries, in the order in which they are added.
+static ADDED: [(&[u8], &[u8], u32); 5] = [
+    (b"cc", b"k", 1),
+    (b"cc", b"l", 2),
+    (b"c", b"ck", 3),
+    (b"cc", b"k", 4),
+    (b"cc", b"k", 5),
+];
+
+fn places_of_each() -> &'static [Places] {
+    &PLACES_OF_EACH
+}
+
+static PLACES_OF_EACH: [Places; 4] = [
+    (b"cc", b"k", &[5, 4, 1]),
+    (b"cc", b"l", &[2]),
+    (b"c", b"ck", &[3]),
+    (b"cc", b"m", &[]),
+];
+
+fn is_each_apart(alloc: Global, index: &mut HistoryIndex) -> Result<bool, Failed> {
+    index.reserve(6)?;
+    for &(namespace, at, place) in added() {
+        add(alloc, index, namespace, at, place)?;
+    }
+    if index.room() != 1 {
+        return Ok(false);
+    }
+    are_places(index, places_of_each())
+}
+
+fn places_of_many() -> &'static [Places] {
+    &PLACES_OF_MANY
+}
+
+static PLACES_OF_MANY: [Places; 2] = [
+    (b"cc", b"\0\0\0\x07", &[907, 607, 307, 7]),
+    (b"cc", b"\0\0\0\x96", &[750, 450, 150]),
+];
+
+// Of 1,000 entries at 300 keys, one key after the other.
+fn are_many(alloc: Global, index: &mut HistoryIndex) -> Result<bool, Failed> {
+    for place in 0..1000u32 {
+        index.reserve(1)?;
+        add(alloc, index, b"cc", &(place % 300).to_be_bytes(), place)?;
+    }
+    are_places(index, places_of_many())
+}
+
+fn is_index_right(alloc: Global, of_many: bool) -> Result<bool, Failed> {
+    let mut index = HistoryIndex::new(alloc);
+    if of_many {
+        are_many(alloc, &mut index)
+    } else {
+        is_each_apart(alloc, &mut index)
+    }
 }
 
 #[test]
 fn each_key_has_its_own_newest_first(rt: HostRuntime) -> Result<(), Failed> {
-    let alloc = rt.alloc();
-    let mut index = HistoryIndex::new(alloc);
-    index.reserve(6)?;
-    index.add(entry(alloc, b"cc", b"k", 1)?);
-    index.add(entry(alloc, b"cc", b"l", 2)?);
-    index.add(entry(alloc, b"c", b"ck", 3)?);
-    index.add(entry(alloc, b"cc", b"k", 4)?);
-    index.add(entry(alloc, b"cc", b"k", 5)?);
-    assert!(rt; index.room() == 1);
-    let found = places(alloc, &index, b"cc", b"k")?;
-    assert!(rt; found.as_slice() == [5, 4, 1].as_slice());
-    let found = places(alloc, &index, b"cc", b"l")?;
-    assert!(rt; found.as_slice() == [2].as_slice());
-    let found = places(alloc, &index, b"c", b"ck")?;
-    assert!(rt; found.as_slice() == [3].as_slice());
-    let found = places(alloc, &index, b"cc", b"m")?;
-    assert!(rt; found.is_empty());
+    assert!(rt; is_index_right(rt.alloc(), false)?);
     Ok(())
 }
 
 #[test]
 fn many_keys_and_entries(rt: HostRuntime) -> Result<(), Failed> {
-    let alloc = rt.alloc();
-    let mut index = HistoryIndex::new(alloc);
-    for tx in 0..1000u32 {
-        index.reserve(1)?;
-        index.add(entry(alloc, b"cc", &(tx % 300).to_be_bytes(), tx)?);
-    }
-    let found = places(alloc, &index, b"cc", &7u32.to_be_bytes())?;
-    assert!(rt; found.as_slice() == [907, 607, 307, 7].as_slice());
-    let found = places(alloc, &index, b"cc", &150u32.to_be_bytes())?;
-    assert!(rt; found.as_slice() == [750, 450, 150].as_slice());
+    assert!(rt; is_index_right(rt.alloc(), true)?);
     Ok(())
 }

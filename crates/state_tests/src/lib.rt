@@ -6,6 +6,8 @@ mod deltas;
 #[cfg(test)]
 mod fixture;
 #[cfg(test)]
+mod held;
+#[cfg(test)]
 mod histories;
 #[cfg(test)]
 mod ids;
@@ -15,5 +17,7 @@ mod key_order;
 mod noted;
 #[cfg(test)]
 mod pages;
+#[cfg(test)]
+mod steps;
 #[cfg(test)]
 mod worlds;

@@ -1,17 +1,14 @@
 //! The expected values were worked out by hand from the rules of a channel text and of policies.
 
-use channel::{Channel, ChannelFault};
+mod limits;
+
+use channel::{Channel, ChannelFault, Configuration};
 use policy::{Definitions, Policy, PolicyFault};
 use std::alloc::{AllocError, Global};
-use std::process::Abort;
-use std::test::Fail;
 use values::{NameRef, is_name};
 
-fn expect_fault(rt: &(impl Abort + AllocGlobal), text: &str, fault: ChannelFault) {
-    assert!(rt;
-        Channel::read(rt.alloc(), text).err() == Some(fault),
-        "{text:?}"
-    );
+fn fault_of(alloc: Global, text: &str) -> Option<ChannelFault> {
+    Channel::read(alloc, text).err()
 }
 
 fn is_text(alloc: Global, policy: Option<&Policy>, canonical: &str) -> Result<bool, AllocError> {
@@ -23,70 +20,104 @@ fn is_text(alloc: Global, policy: Option<&Policy>, canonical: &str) -> Result<bo
 
 // Whether the chaincode is defined with a policy of this canonical text.
 fn is_defined(
-    rt: &(impl Abort + AllocGlobal),
+    alloc: Global,
     definitions: &Definitions,
     chaincode: &str,
     canonical: &str,
 ) -> Result<bool, AllocError> {
-    assert!(rt; is_name(chaincode.as_bytes()));
-    let name = NameRef::new(chaincode.as_bytes());
-    is_text(rt.alloc(), definitions.of(&name), canonical)
-}
-
-// That these chaincodes are defined so, and no other.
-fn expect_definitions(
-    rt: &(impl Abort + AllocGlobal),
-    found: &Definitions,
-    definitions: &[(&str, &str)],
-) -> Result<(), AllocError> {
-    assert!(rt; found.len() == definitions.len());
-    for (chaincode, canonical) in definitions {
-        assert!(rt; is_defined(rt, found, chaincode, canonical)?, "{chaincode}");
+    if !is_name(chaincode.as_bytes()) {
+        return Ok(false);
     }
-    Ok(())
+    let name = NameRef::new(chaincode.as_bytes());
+    is_text(alloc, definitions.of(&name), canonical)
 }
 
-fn expect_channel(
-    rt: &(impl Abort + AllocGlobal),
+// Chaincodes with the canonical texts of their policies.
+type Defined = &'static [(&'static str, &'static str)];
+
+// Whether these chaincodes are defined so, and no other.
+fn are_defined(alloc: Global, found: &Definitions, wanted: Defined) -> Result<bool, AllocError> {
+    for (chaincode, canonical) in wanted {
+        if !is_defined(alloc, found, chaincode, canonical)? {
+            return Ok(false);
+        }
+    }
+    Ok(found.len() == wanted.len())
+}
+
+// Whether the configuration has this name and both have these chaincodes.
+fn are_parts(
+    alloc: Global,
+    configuration: &Configuration,
+    copied: &Definitions,
+    name: &str,
+    wanted: Defined,
+) -> Result<bool, AllocError> {
+    let is_so = are_defined(alloc, configuration.definitions(), wanted)?
+        && configuration.name().as_slice() == name.as_bytes();
+    Ok(is_so && are_defined(alloc, copied, wanted)?)
+}
+
+fn is_channel(
+    alloc: Global,
     text: &str,
     name: &str,
-    definitions: &[(&str, &str)],
-) -> Result<(), ChannelFault> {
-    let channel = Channel::read(rt.alloc(), text)?;
-    assert!(rt; channel.name().as_slice() == name.as_bytes());
+    wanted: Defined,
+) -> Result<bool, ChannelFault> {
+    let channel = Channel::read(alloc, text)?;
+    let is_named = channel.name().as_slice() == name.as_bytes();
     let (configuration, copied) = channel.into_parts();
-    assert!(rt; configuration.name().as_slice() == name.as_bytes());
-    expect_definitions(rt, configuration.definitions(), definitions)?;
-    expect_definitions(rt, &copied, definitions)?;
-    Ok(())
+    Ok(is_named && are_parts(alloc, &configuration, &copied, name, wanted)?)
 }
 
-#[test]
-fn channels(rt: HostRuntime) -> Result<(), Fail> {
-    expect_channel(&rt, "channel ch", "ch", &[])?;
-    expect_channel(
-        &rt,
+// Texts, and what they say.
+fn read_channels() -> &'static [(&'static str, &'static str, Defined)] {
+    &CHANNELS
+}
+
+// 64 letters.
+const LONGEST: &str = "abcdefghijklmnopqrstuvwxyzabcdefghijklmnopqrstuvwxyzabcdefghijkl";
+
+static CHANNELS: [(&str, &str, Defined); 6] = [
+    ("channel ch", "ch", &[]),
+    (
         "# of two organizations\n\n  channel   ch  \r\nchaincode  cc   OR('Org1.peer',  \"Org2.peer\") \n#chaincode dd X\nchaincode dd And( 'A.admin' , 'B.admin' )",
         "ch",
         &[
             ("cc", "OR('Org1.peer','Org2.peer')"),
             ("dd", "AND('A.admin','B.admin')"),
         ],
-    )?;
+    ),
     // The channel's line may be the last, and may share a chaincode's name.
-    expect_channel(
-        &rt,
+    (
         "chaincode ch 'A.peer'\nchannel ch\n",
         "ch",
         &[("ch", "'A.peer'")],
-    )?;
+    ),
     // Names differ by their case, and one may begin another.
-    expect_channel(
-        &rt,
+    (
         "channel a\nchaincode cc 'A.peer'\nchaincode c 'B.peer'\nchaincode CC 'C.peer'\n",
         "a",
         &[("c", "'B.peer'"), ("cc", "'A.peer'"), ("CC", "'C.peer'")],
-    )?;
+    ),
+    // The others' lines say what they say without the admin's.
+    (
+        "chaincode cc 'A.peer'\nadmin 'A.admin'\nchannel ch\nchaincode dd 'B.peer'\n",
+        "ch",
+        &[("cc", "'A.peer'"), ("dd", "'B.peer'")],
+    ),
+    (
+        "channel abcdefghijklmnopqrstuvwxyzabcdefghijklmnopqrstuvwxyzabcdefghijkl\nchaincode abcdefghijklmnopqrstuvwxyzabcdefghijklmnopqrstuvwxyzabcdefghijkl 'A.peer'",
+        LONGEST,
+        &[(LONGEST, "'A.peer'")],
+    ),
+];
+
+#[test]
+fn channels(rt: HostRuntime) -> Result<(), ChannelFault> {
+    for &(text, name, wanted) in read_channels() {
+        assert!(rt; is_channel(rt.alloc(), text, name, wanted)?, "{text:?}");
+    }
     Ok(())
 }
 
@@ -127,13 +158,20 @@ static ADMINS: [(&str, Option<&str>); 8] = [
     ),
 ];
 
-fn has_admin(alloc: Global, text: &str, admin: Option<&str>) -> Result<bool, ChannelFault> {
-    let channel = Channel::read(alloc, text)?;
-    let found = channel.configuration().admin();
+fn is_admin(
+    alloc: Global,
+    found: Option<&Policy>,
+    admin: Option<&str>,
+) -> Result<bool, AllocError> {
     match admin {
-        Some(canonical) => Ok(is_text(alloc, found, canonical)?),
+        Some(canonical) => is_text(alloc, found, canonical),
         None => Ok(found.is_none()),
     }
+}
+
+fn has_admin(alloc: Global, text: &str, admin: Option<&str>) -> Result<bool, ChannelFault> {
+    let channel = Channel::read(alloc, text)?;
+    Ok(is_admin(alloc, channel.configuration().admin(), admin)?)
 }
 
 #[test]
@@ -141,20 +179,14 @@ fn admin_policies(rt: HostRuntime) -> Result<(), ChannelFault> {
     for &(text, admin) in admins() {
         assert!(rt; has_admin(rt.alloc(), text, admin)?, "{text:?}");
     }
-    // The others' lines say what they say without it.
-    expect_channel(
-        &rt,
-        "chaincode cc 'A.peer'\nadmin 'A.admin'\nchannel ch\nchaincode dd 'B.peer'\n",
-        "ch",
-        &[("cc", "'A.peer'"), ("dd", "'B.peer'")],
-    )
+    Ok(())
 }
 
 fn forms() -> &'static [(&'static str, ChannelFault)] {
     &FAULTS_OF_FORM
 }
 
-static FAULTS_OF_FORM: [(&str, ChannelFault); 39] = [
+static FAULTS_OF_FORM: [(&str, ChannelFault); 42] = [
     ("", ChannelFault::NoChannel),
     ("\n# channel ch\n", ChannelFault::NoChannel),
     ("chaincode cc 'A.peer'\n", ChannelFault::NoChannel),
@@ -215,12 +247,19 @@ static FAULTS_OF_FORM: [(&str, ChannelFault); 39] = [
         "channel ch\nadmin 'A.admin'\nadmin 'B.admin'\nnonsense\n",
         ChannelFault::Repeated(3),
     ),
+    // A line's form and a repetition go before its policy.
+    ("chaincode c/c AND(\n", ChannelFault::Line(1)),
+    (
+        "chaincode cc 'A.peer'\nchaincode cc AND(\n",
+        ChannelFault::Repeated(2),
+    ),
+    ("nonsense\nchaincode cc AND(\n", ChannelFault::Line(1)),
 ];
 
 #[test]
 fn faults_of_form(rt: HostRuntime) {
     for &(text, fault) in forms() {
-        expect_fault(&rt, text, fault);
+        assert!(rt; fault_of(rt.alloc(), text) == Some(fault), "{text:?}");
     }
 }
 
@@ -308,121 +347,9 @@ static FAULTS_OF_POLICIES: [(&str, u64, PolicyFault); 20] = [
 #[test]
 fn faults_of_policies(rt: HostRuntime) {
     for &(text, line, fault) in policies() {
-        expect_fault(&rt, text, ChannelFault::Policy(line, fault));
+        let wanted = ChannelFault::Policy(line, fault);
+        assert!(rt; fault_of(rt.alloc(), text) == Some(wanted), "{text:?}");
     }
-    // A line's form and a repetition go before its policy.
-    expect_fault(&rt, "chaincode c/c AND(\n", ChannelFault::Line(1));
-    expect_fault(
-        &rt,
-        "chaincode cc 'A.peer'\nchaincode cc AND(\n",
-        ChannelFault::Repeated(2),
-    );
-    expect_fault(&rt, "nonsense\nchaincode cc AND(\n", ChannelFault::Line(1));
-}
-
-#[test]
-fn limits_of_policies(rt: HostRuntime) -> Result<(), Fail> {
-    let alloc = rt.alloc();
-    // `OR(` and `'A.peer')` have 12 bytes.
-    let spaces = " ".repeat(alloc, 4084)?;
-    let longest = format!(in alloc; "channel ch\nchaincode cc OR({spaces}'A.peer')\n")?;
-    expect_channel(&rt, longest.as_str(), "ch", &[("cc", "OR('A.peer')")])?;
-    let too_long = format!(in alloc; "channel ch\nchaincode cc OR( {spaces}'A.peer')\n")?;
-    expect_fault(
-        &rt,
-        too_long.as_str(),
-        ChannelFault::Policy(2, PolicyFault::TooLarge),
-    );
-    // 32 gates have 96 bytes.
-    let gates = "OR(".repeat(alloc, 33)?;
-    let too_deep = format!(in alloc; "chaincode cc {gates}'A.peer'")?;
-    expect_fault(
-        &rt,
-        too_deep.as_str(),
-        ChannelFault::Policy(1, PolicyFault::TooDeep { at: 96 }),
-    );
-    Ok(())
-}
-
-#[test]
-fn names(rt: HostRuntime) -> Result<(), Fail> {
-    // 64 letters
-    let longest = "abcdefghijklmnopqrstuvwxyzabcdefghijklmnopqrstuvwxyzabcdefghijkl";
-    assert!(rt; longest.len() == 64);
-    let good = format!(in rt.alloc(); "channel {longest}\nchaincode {longest} 'A.peer'")?;
-    expect_channel(&rt, good.as_str(), longest, &[(longest, "'A.peer'")])?;
-    let channel = format!(in rt.alloc(); "channel {longest}m\n")?;
-    expect_fault(&rt, channel.as_str(), ChannelFault::Line(1));
-    let chaincode = format!(in rt.alloc(); "channel ch\nchaincode {longest}m 'A.peer'\n")?;
-    expect_fault(&rt, chaincode.as_str(), ChannelFault::Line(2));
-    Ok(())
-}
-
-// Behind a channel and 256 chaincodes: the next line is line 258.
-fn behind_256() -> &'static [(&'static str, ChannelFault)] {
-    &BEHIND_256
-}
-
-static BEHIND_256: [(&str, ChannelFault); 11] = [
-    ("chaincode one 'A.peer'\n", ChannelFault::TooMany(258)),
-    ("chaincode c7 'A.peer'\n", ChannelFault::Repeated(258)),
-    ("chaincode c7 AND(\n", ChannelFault::Repeated(258)),
-    (
-        "chaincode one AND(\n",
-        ChannelFault::Policy(258, PolicyFault::Syntax { at: 4 }),
-    ),
-    (
-        "chaincode one 'A.boss'\n",
-        ChannelFault::Policy(258, PolicyFault::Role { at: 0 }),
-    ),
-    ("chaincode one\n", ChannelFault::Line(258)),
-    ("chaincode o/e 'A.peer'\n", ChannelFault::Line(258)),
-    ("channel ch\n", ChannelFault::Repeated(258)),
-    (
-        "admin AND(\n",
-        ChannelFault::Policy(258, PolicyFault::Syntax { at: 4 }),
-    ),
-    // an admin policy is none of a chaincode
-    (
-        "admin 'A.admin'\nchaincode one 'A.peer'\n",
-        ChannelFault::TooMany(259),
-    ),
-    (
-        "\n# x\n chaincode one 'A.peer'\nnonsense\n",
-        ChannelFault::TooMany(260),
-    ),
-];
-
-// A channel with chaincodes c0 to c255.
-fn full(alloc: Global) -> Result<String, AllocError> {
-    let mut text = String::from_str(alloc, "channel ch\n")?;
-    for i in 0..256u16 {
-        let line = format!(in alloc; "chaincode c{i} 'O{i}.peer'\n")?;
-        text.push_str(line.as_str())?;
-    }
-    Ok(text)
-}
-
-#[test]
-fn many_chaincodes(rt: HostRuntime) -> Result<(), ChannelFault> {
-    let mut text = full(rt.alloc())?;
-    text.push_str("admin 'A.admin'\n")?;
-    let channel = Channel::read(rt.alloc(), text.as_str())?;
-    let definitions = channel.configuration().definitions();
-    assert!(rt; definitions.len() == 256);
-    assert!(rt; is_defined(&rt, definitions, "c255", "'O255.peer'")?);
-    Ok(())
-}
-
-#[test]
-fn one_chaincode_more(rt: HostRuntime) -> Result<(), AllocError> {
-    let full = full(rt.alloc())?;
-    for &(last, fault) in behind_256() {
-        let mut text = String::from_str(rt.alloc(), full.as_str())?;
-        text.push_str(last)?;
-        expect_fault(&rt, text.as_str(), fault);
-    }
-    Ok(())
 }
 
 // Texts, and the fault that each has with memory enough.
@@ -453,7 +380,7 @@ static READ_WITH_MEMORY: [(&str, Option<ChannelFault>); 4] = [
 #[test]
 fn refused_memory_is_no_fault_of_the_text(rt: HostRuntime) {
     for &(text, expected) in read_with_memory() {
-        let fault = Channel::read(rt.alloc(), text).err();
+        let fault = fault_of(rt.alloc(), text);
         assert!(rt;
             fault == expected || fault == Some(ChannelFault::Memory),
             "{text:?}"

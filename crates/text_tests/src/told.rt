@@ -1,7 +1,8 @@
 use channel::ChannelFault;
 use key_book::KeyBookFault;
 use policy::PolicyFault;
-use std::test::Fail;
+use std::alloc::{AllocError, Global};
+use std::fmt::Display;
 
 fn of_channels() -> &'static [(ChannelFault, &'static str)] {
     &OF_CHANNELS
@@ -28,19 +29,27 @@ static OF_CHANNELS: [(ChannelFault, &str); 6] = [
     (ChannelFault::Memory, "out of memory"),
 ];
 
+fn of_key_books() -> &'static [(KeyBookFault, &'static str)] {
+    &OF_KEY_BOOKS
+}
+
+static OF_KEY_BOOKS: [(KeyBookFault, &str); 2] = [
+    (KeyBookFault::Line(7), "line 7"),
+    (KeyBookFault::Memory, "out of memory"),
+];
+
+fn is_told<F: Display>(alloc: Global, fault: &F, text: &str) -> Result<bool, AllocError> {
+    let told = format!(in alloc; "{fault}")?;
+    Ok(told.as_str() == text)
+}
+
 #[test]
-fn each_fault_is_told(rt: HostRuntime) -> Result<(), Fail> {
-    let alloc = rt.alloc();
-    for &(fault, text) in of_channels() {
-        let told = format!(in alloc; "{fault}")?;
-        assert!(rt; told.as_str() == text);
+fn each_fault_is_told(rt: HostRuntime) -> Result<(), AllocError> {
+    for (fault, text) in of_channels() {
+        assert!(rt; is_told(rt.alloc(), fault, text)?, "{text}");
     }
-    for (fault, text) in [
-        (KeyBookFault::Line(7), "line 7"),
-        (KeyBookFault::Memory, "out of memory"),
-    ] {
-        let told = format!(in alloc; "{fault}")?;
-        assert!(rt; told.as_str() == text);
+    for (fault, text) in of_key_books() {
+        assert!(rt; is_told(rt.alloc(), fault, text)?, "{text}");
     }
     Ok(())
 }

@@ -222,25 +222,56 @@ fn candidates_of<'a>(
     Ok(candidates)
 }
 
+/// A block, and the keys by which it is signed.
+#[derive(Drop)]
+struct Drafted {
+    keys: KeyBook,
+    block: Bytes,
+}
+
+impl Drafted {
+    fn of(alloc: Global, script: &str) -> Result<Drafted, Failed> {
+        let keys = KeyBook::read(alloc, KEYS)?;
+        Ok(Drafted {
+            block: block_of(alloc, &keys, script)?,
+            keys,
+        })
+    }
+}
+
+/// What the block is checked against.
+#[derive(Drop)]
+struct Before {
+    definitions: Definitions,
+    state: StateDb,
+}
+
+impl Before {
+    fn of(alloc: Global, rows: &Batch) -> Result<Before, Failed> {
+        let definitions = definitions(alloc)?;
+        Ok(Before {
+            definitions,
+            state: applied(alloc, rows)?,
+        })
+    }
+}
+
 /// What a job lends from.
 #[derive(Drop)]
 pub struct Ground {
-    keys: KeyBook,
-    block: Bytes,
-    definitions: Definitions,
+    drafted: Drafted,
+    before: Before,
     admin: Policy,
-    state: StateDb,
 }
 
 impl Ground {
     fn over(alloc: Global, rows: &Batch, script: &str) -> Result<Ground, Failed> {
-        let keys = KeyBook::read(alloc, KEYS)?;
+        let admin = Policy::parse_bytes(alloc, ADMIN)?;
+        let before = Before::of(alloc, rows)?;
         Ok(Ground {
-            block: block_of(alloc, &keys, script)?,
-            keys,
-            definitions: definitions(alloc)?,
-            admin: Policy::parse_bytes(alloc, ADMIN)?,
-            state: applied(alloc, rows)?,
+            drafted: Drafted::of(alloc, script)?,
+            before,
+            admin,
         })
     }
 
@@ -260,9 +291,9 @@ impl Ground {
     pub fn job(&self, alloc: Global) -> Result<Job<'_>, Failed> {
         let candidates = candidates_of(
             alloc,
-            &self.definitions,
-            &self.keys,
-            self.block.as_slice(),
+            &self.before.definitions,
+            &self.drafted.keys,
+            self.drafted.block.as_slice(),
         )?;
         if candidates.as_slice().len() > MAX_TXS {
             return Err(Failed::Missing("a job"));
@@ -270,8 +301,8 @@ impl Ground {
         Ok(Job::build(
             alloc,
             BLOCK,
-            &self.state,
-            &self.definitions,
+            &self.before.state,
+            &self.before.definitions,
             Some(&self.admin),
             candidates,
         )?)

@@ -1,7 +1,5 @@
 //! Calls of a desk, one after the other, and what they answer.
 
-ghost use Rattle.std.specs.Prelude.{◌≤◌};
-
 use std::alloc::{AllocError, Global};
 use task_desk::{Desk, Run};
 
@@ -9,6 +7,8 @@ use task_desk::{Desk, Run};
 #[derive(Clone, Copy)]
 enum Call {
     Take(Option<u32>),
+    // twice: the first two tasks, in any order
+    TakeTwo,
     TakeRun(u32, Option<(u32, u32)>),
     DoneRun(u32, u32),
     Hand(Option<u32>),
@@ -18,7 +18,16 @@ enum Call {
     AllDone(bool),
     Out(u32),
     Left(u32),
+    // all tasks in order, each handed, started and done
+    WorkInOrder,
+    // all tasks in runs, each longer than the one before; how many runs there are
+    WorkInRuns(u32),
 }
+
+// As many transactions as a block has at most, and their tasks.
+const TXS: u32 = 4096;
+
+const TASKS: u32 = 2 * TXS;
 
 // An empty run may stand anywhere.
 fn shown(run: Run) -> Option<(u32, u32)> {
@@ -29,9 +38,37 @@ fn shown(run: Run) -> Option<(u32, u32)> {
     }
 }
 
+fn are_two_taken(desk: &mut Desk) -> bool {
+    match (desk.take(), desk.take()) {
+        (Some(one), Some(other)) => one < 2 && other < 2 && one != other,
+        _ => false,
+    }
+}
+
+fn are_handed_in_order(desk: &mut Desk) -> bool {
+    for task in 0..TASKS {
+        if desk.hand() != Some(task) || !desk.start(task) || !desk.done(task) {
+            return false;
+        }
+    }
+    true
+}
+
+fn runs_worked_through(desk: &mut Desk) -> u32 {
+    for count in 0..TASKS {
+        let run = desk.take_run(count + 1);
+        if run.from == run.end {
+            return count;
+        }
+        desk.done_run(run);
+    }
+    TASKS
+}
+
 fn is_answered(desk: &mut Desk, call: Call) -> bool {
     match call {
         Call::Take(task) => desk.take() == task,
+        Call::TakeTwo => are_two_taken(desk),
         Call::TakeRun(most, run) => shown(desk.take_run(most.max(1))) == run,
         Call::DoneRun(from, end) => {
             desk.done_run(Run { from, end });
@@ -44,6 +81,8 @@ fn is_answered(desk: &mut Desk, call: Call) -> bool {
         Call::AllDone(wanted) => desk.all_done() == wanted,
         Call::Out(count) => desk.out() == count,
         Call::Left(count) => desk.left() == count,
+        Call::WorkInOrder => are_handed_in_order(desk),
+        Call::WorkInRuns(count) => runs_worked_through(desk) == count,
     }
 }
 
@@ -59,20 +98,40 @@ fn answered(desk: &mut Desk, calls: &[Call]) -> usize {
     count
 }
 
-// Of the calls of a desk over so many transactions.
-fn answered_first(alloc: Global, txs: u32, calls: &[Call]) -> Result<usize, AllocError>
-    requires { txs ≤ 4096 }
-{
+fn answered_first(alloc: Global, txs: u32, calls: &[Call]) -> Result<usize, AllocError> {
+    if txs > TXS {
+        return Ok(0);
+    }
     let mut desk = Desk::new(alloc, txs)?;
     Ok(answered(&mut desk, calls))
 }
 
-// Behind two takes.
-fn parking() -> &'static [Call] {
-    &PARKING
+fn cases() -> &'static [(&'static str, u32, &'static [Call])] {
+    &CASES
 }
 
-static PARKING: [Call; 23] = [
+// Calls of a desk over so many transactions.
+static CASES: [(&str, u32, &[Call]); 7] = [
+    ("tasks that are taken", 1, TAKING),
+    ("tasks that are handed", 1, HANDING),
+    ("tasks that are started out of turn", 3, STARTING),
+    ("runs of tasks", 3, RUNNING),
+    ("no tasks", 0, NOTHING),
+    (
+        "as many tasks as can be",
+        TXS,
+        &[Call::WorkInOrder, Call::AllDone(true)],
+    ),
+    // 1 + 2 + .. + 127 are 8,128
+    (
+        "as many tasks in runs",
+        TXS,
+        &[Call::WorkInRuns(128), Call::AllDone(true)],
+    ),
+];
+
+const TAKING: &[Call] = &[
+    Call::TakeTwo,
     Call::Out(2),
     Call::Take(None),
     Call::Park(1, 1, false),
@@ -99,30 +158,7 @@ static PARKING: [Call; 23] = [
     Call::Hand(None),
 ];
 
-// Whether two tasks can be taken, in any order.
-fn are_two_taken(desk: &mut Desk) -> bool {
-    match (desk.take(), desk.take()) {
-        (Some(one), Some(other)) => one < 2 && other < 2 && one != other,
-        _ => false,
-    }
-}
-
-fn is_parked(alloc: Global) -> Result<bool, AllocError> {
-    let mut desk = Desk::new(alloc, 1)?;
-    Ok(are_two_taken(&mut desk) && answered(&mut desk, parking()) == 23)
-}
-
-#[test]
-fn tasks_that_are_taken(rt: HostRuntime) -> Result<(), AllocError> {
-    assert!(rt; is_parked(rt.alloc())?);
-    Ok(())
-}
-
-fn handing() -> &'static [Call] {
-    &HANDING
-}
-
-static HANDING: [Call; 18] = [
+const HANDING: &[Call] = &[
     Call::Hand(Some(0)),
     Call::Hand(Some(1)),
     Call::Hand(None),
@@ -144,18 +180,8 @@ static HANDING: [Call; 18] = [
     Call::AllDone(true),
 ];
 
-#[test]
-fn tasks_that_are_handed(rt: HostRuntime) -> Result<(), AllocError> {
-    assert!(rt; answered_first(rt.alloc(), 1, handing())? == 18);
-    Ok(())
-}
-
-fn starting() -> &'static [Call] {
-    &STARTING
-}
-
 // Some that nobody was handed are started; what is left is handed in order, also what becomes ready again.
-static STARTING: [Call; 17] = [
+const STARTING: &[Call] = &[
     Call::Start(3, true),
     Call::Start(1, true),
     Call::Hand(Some(0)),
@@ -176,18 +202,8 @@ static STARTING: [Call; 17] = [
     Call::Out(0),
 ];
 
-#[test]
-fn tasks_that_are_started_out_of_turn(rt: HostRuntime) -> Result<(), AllocError> {
-    assert!(rt; answered_first(rt.alloc(), 3, starting())? == 17);
-    Ok(())
-}
-
-fn running() -> &'static [Call] {
-    &RUNNING
-}
-
 // Runs of six tasks, of which one is parked and one is taken between others.
-static RUNNING: [Call; 24] = [
+const RUNNING: &[Call] = &[
     Call::TakeRun(2, Some((0, 2))),
     Call::Hand(Some(2)),
     Call::TakeRun(9, Some((3, 6))),
@@ -217,17 +233,7 @@ static RUNNING: [Call; 24] = [
     Call::TakeRun(4, None),
 ];
 
-#[test]
-fn runs_of_tasks(rt: HostRuntime) -> Result<(), AllocError> {
-    assert!(rt; answered_first(rt.alloc(), 3, running())? == 24);
-    Ok(())
-}
-
-fn calling_nothing() -> &'static [Call] {
-    &NOTHING
-}
-
-static NOTHING: [Call; 9] = [
+const NOTHING: &[Call] = &[
     Call::AllDone(true),
     Call::Take(None),
     Call::TakeRun(1, None),
@@ -240,60 +246,12 @@ static NOTHING: [Call; 9] = [
 ];
 
 #[test]
-fn no_tasks(rt: HostRuntime) -> Result<(), AllocError> {
-    assert!(rt; answered_first(rt.alloc(), 0, calling_nothing())? == 9);
-    Ok(())
-}
-
-// The most tasks that can be.
-const TASKS: u32 = 8192;
-
-// Whether all tasks are handed in order, started and done.
-fn are_handed_in_order(desk: &mut Desk) -> bool {
-    for task in 0..TASKS {
-        if desk.hand() != Some(task) || !desk.start(task) || !desk.done(task) {
-            return false;
-        }
+fn calls_of_a_desk(rt: HostRuntime) -> Result<(), AllocError> {
+    for &(case, txs, calls) in cases() {
+        assert!(rt;
+            answered_first(rt.alloc(), txs, calls)? == calls.len(),
+            "{case}"
+        );
     }
-    true
-}
-
-// The same in runs, each longer than the one before; how many runs there were.
-fn runs_worked_through(desk: &mut Desk) -> u32 {
-    for count in 0..TASKS {
-        let run = desk.take_run(count + 1);
-        if run.from == run.end {
-            return count;
-        }
-        desk.done_run(run);
-    }
-    TASKS
-}
-
-fn is_worked_through(desk: &mut Desk, in_runs: bool) -> bool {
-    let is_right = if in_runs {
-        // 1 + 2 + .. + 127 are 8,128
-        runs_worked_through(desk) == 128
-    } else {
-        are_handed_in_order(desk)
-    };
-    is_right && desk.all_done()
-}
-
-// Whether all are worked through, one by one or in runs.
-fn is_all_worked_through(alloc: Global, in_runs: bool) -> Result<bool, AllocError> {
-    let mut desk = Desk::new(alloc, TASKS / 2)?;
-    Ok(is_worked_through(&mut desk, in_runs))
-}
-
-#[test]
-fn as_many_tasks_in_runs(rt: HostRuntime) -> Result<(), AllocError> {
-    assert!(rt; is_all_worked_through(rt.alloc(), true)?);
-    Ok(())
-}
-
-#[test]
-fn as_many_tasks_as_can_be(rt: HostRuntime) -> Result<(), AllocError> {
-    assert!(rt; is_all_worked_through(rt.alloc(), false)?);
     Ok(())
 }

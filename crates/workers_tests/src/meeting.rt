@@ -1,7 +1,5 @@
 //! What workers do at once, and what they try again.
 
-ghost use Rattle.std.specs.Prelude.{◌≤◌};
-
 use crate::building::{Ground, Keys};
 use crate::holding::Late;
 use check_workers::{Checked, check_all};
@@ -13,6 +11,26 @@ use std::alloc::Global;
 use std::sync::Wait;
 use std::thread::Threads;
 use trials::Meeting;
+
+/// What holds workers back.
+#[derive(Clone, Copy)]
+enum Held {
+    // the first who enters a phase waits for so many others
+    ForOthers(u32, Phase),
+    // the first check of the first transaction waits for all others
+    Late,
+    // each check waits for the same one of the next transaction
+    Reverse,
+}
+
+/// So many transactions, which touch the same keys or different ones, and so many workers.
+#[derive(Clone, Copy)]
+struct Case {
+    held: Held,
+    count: u32,
+    keys: Keys,
+    workers: usize,
+}
 
 // Where keys are of the next one, each second transaction is valid, each other one stale.
 fn flag_of(keys: Keys, i: usize) -> Flag {
@@ -41,110 +59,147 @@ fn is_checked<R: Threads + Wait + Sync, G: Gate + Sync>(
     rt: &R,
     alloc: Global,
     job: &Job<'_>,
-    keys: Keys,
-    workers: usize,
+    case: Case,
     gate: &G,
-) -> Result<bool, Failed>
-    requires { (1 ≤ workers) × (workers ≤ 64) }
-{
-    let checked = check_all(rt, alloc, job, workers, gate)?;
-    Ok(are_right(&checked, job.len(), keys))
-}
-
-fn is_ground_checked<R: Threads + Wait + Sync, G: Gate + Sync>(
-    rt: &R,
-    alloc: Global,
-    ground: &Ground,
-    keys: Keys,
-    workers: usize,
-    gate: &G,
-) -> Result<bool, Failed>
-    requires { (1 ≤ workers) × (workers ≤ 64) }
-{
-    let job = ground.job(alloc)?;
-    is_checked(rt, alloc, &job, keys, workers, gate)
-}
-
-fn is_block_checked<R: Threads + Wait + Sync, G: Gate + Sync>(
-    rt: &R,
-    alloc: Global,
-    count: u32,
-    keys: Keys,
-    workers: usize,
-    gate: &G,
-) -> Result<bool, Failed>
-    requires { (1 ≤ workers) × (workers ≤ 64) }
-{
-    let ground = Ground::of_links(alloc, count, keys)?;
-    is_ground_checked(rt, alloc, &ground, keys, workers, gate)
-}
-
-fn is_chain_checked<R: Threads + Wait + Sync, G: Gate + Sync>(
-    rt: &R,
-    alloc: Global,
-    count: u32,
-    workers: usize,
-    gate: &G,
-) -> Result<bool, Failed>
-    requires { (1 ≤ workers) × (workers ≤ 64) }
-{
-    is_block_checked(rt, alloc, count, Keys::OfNext, workers, gate)
-}
-
-// Whether two workers meet in this phase of a chain.
-fn do_two_meet<R: Threads + Wait + Sync>(
-    rt: &R,
-    alloc: Global,
-    phase: Phase,
 ) -> Result<bool, Failed> {
-    let gate = Meeting::of_others(1, phase);
-    let is_checked = is_chain_checked(rt, alloc, 16, 2, &gate)?;
+    if case.workers < 1 || case.workers > 64 {
+        return Err(Failed::Missing("workers"));
+    }
+    let checked = check_all(rt, alloc, job, case.workers, gate)?;
+    Ok(are_right(&checked, case.count, case.keys))
+}
+
+fn do_others_come<R: Threads + Wait + Sync>(
+    rt: &R,
+    alloc: Global,
+    job: &Job<'_>,
+    case: Case,
+    gate: &Meeting,
+) -> Result<bool, Failed> {
+    let is_checked = is_checked(rt, alloc, job, case, gate)?;
     Ok(is_checked && gate.is_met())
 }
 
-#[test]
-fn two_workers_meet(rt: HostRuntime) -> Result<(), Failed> {
-    for phase in [Phase::Endorse, Phase::Reads] {
-        assert!(rt; do_two_meet(&rt, rt.alloc(), phase)?);
-    }
-    Ok(())
-}
-
-#[test]
-fn two_workers_share_a_batch(rt: HostRuntime) -> Result<(), Failed> {
-    let gate = Meeting::of_others(31, Phase::Endorse);
-    assert!(rt; is_block_checked(&rt, rt.alloc(), 32, Keys::Apart, 2, &gate)? && gate.is_met());
-    Ok(())
-}
-
-fn is_tried_again<R: Threads + Wait + Sync>(rt: &R, alloc: Global) -> Result<bool, Failed> {
-    let gate = Late::new();
-    let is_checked = is_chain_checked(rt, alloc, 3, 2, &gate)?;
+fn is_tried_again<R: Threads + Wait + Sync>(
+    rt: &R,
+    alloc: Global,
+    job: &Job<'_>,
+    case: Case,
+    gate: &Late,
+) -> Result<bool, Failed> {
+    let is_checked = is_checked(rt, alloc, job, case, gate)?;
     Ok(is_checked && gate.is_tried_again())
-}
-
-#[test]
-fn a_blocked_check_is_tried_again(rt: HostRuntime) -> Result<(), Failed> {
-    assert!(rt; is_tried_again(&rt, rt.alloc())?);
-    Ok(())
 }
 
 fn is_reversed<R: Threads + Wait + Sync>(
     rt: &R,
     alloc: Global,
-    workers: usize,
+    job: &Job<'_>,
+    case: Case,
 ) -> Result<bool, Failed> {
-    if workers < 1 || workers > 64 {
-        return Err(Failed::Missing("workers"));
-    }
-    let gate = Reverse::new(alloc, 1000)?;
-    is_chain_checked(rt, alloc, 1000, workers, &gate)
+    let gate = Reverse::new(alloc, case.count)?;
+    is_checked(rt, alloc, job, case, &gate)
 }
 
+fn is_job_checked<R: Threads + Wait + Sync>(
+    rt: &R,
+    alloc: Global,
+    job: &Job<'_>,
+    case: Case,
+) -> Result<bool, Failed> {
+    match case.held {
+        Held::ForOthers(others, phase) => {
+            do_others_come(rt, alloc, job, case, &Meeting::of_others(others, phase))
+        }
+        Held::Late => is_tried_again(rt, alloc, job, case, &Late::new()),
+        Held::Reverse => is_reversed(rt, alloc, job, case),
+    }
+}
+
+fn is_ground_checked<R: Threads + Wait + Sync>(
+    rt: &R,
+    alloc: Global,
+    ground: &Ground,
+    case: Case,
+) -> Result<bool, Failed> {
+    let job = ground.job(alloc)?;
+    is_job_checked(rt, alloc, &job, case)
+}
+
+fn is_block_checked<R: Threads + Wait + Sync>(
+    rt: &R,
+    alloc: Global,
+    case: Case,
+) -> Result<bool, Failed> {
+    let ground = Ground::of_links(alloc, case.count, case.keys)?;
+    is_ground_checked(rt, alloc, &ground, case)
+}
+
+fn cases() -> &'static [(&'static str, Case)] {
+    &CASES
+}
+
+static CASES: [(&str, Case); 6] = [
+    (
+        "two workers meet at endorsement checks",
+        Case {
+            held: Held::ForOthers(1, Phase::Endorse),
+            count: 16,
+            keys: Keys::OfNext,
+            workers: 2,
+        },
+    ),
+    (
+        "two workers meet at read checks",
+        Case {
+            held: Held::ForOthers(1, Phase::Reads),
+            count: 16,
+            keys: Keys::OfNext,
+            workers: 2,
+        },
+    ),
+    (
+        "two workers share a batch",
+        Case {
+            held: Held::ForOthers(31, Phase::Endorse),
+            count: 32,
+            keys: Keys::Apart,
+            workers: 2,
+        },
+    ),
+    (
+        "a blocked check is tried again",
+        Case {
+            held: Held::Late,
+            count: 3,
+            keys: Keys::OfNext,
+            workers: 2,
+        },
+    ),
+    (
+        "two workers, in reverse",
+        Case {
+            held: Held::Reverse,
+            count: 1000,
+            keys: Keys::OfNext,
+            workers: 2,
+        },
+    ),
+    (
+        "64 workers, in reverse",
+        Case {
+            held: Held::Reverse,
+            count: 1000,
+            keys: Keys::OfNext,
+            workers: 64,
+        },
+    ),
+];
+
 #[test]
-fn in_reverse(rt: HostRuntime) -> Result<(), Failed> {
-    for workers in [2, 64] {
-        assert!(rt; is_reversed(&rt, rt.alloc(), workers)?);
+fn workers_that_are_held(rt: HostRuntime) -> Result<(), Failed> {
+    for &(name, case) in cases() {
+        assert!(rt; is_block_checked(&rt, rt.alloc(), case)?, "{name}");
     }
     Ok(())
 }

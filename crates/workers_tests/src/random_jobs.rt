@@ -1,7 +1,5 @@
 //! Small blocks at random, whose flags any number of workers finds as one thread does in order.
 
-ghost use Rattle.std.specs.Prelude.{◌≤◌};
-
 use crate::building::{Ground, RowCase};
 use check_workers::{Checked, check_all};
 use failing::Failed;
@@ -31,7 +29,11 @@ const ROWS: [RowCase<'static>; 3] = [
 
 const JOBS: u32 = 2_000;
 
-const WORKERS: [usize; 5] = [1, 2, 3, 8, 64];
+static WORKERS: [usize; 5] = [1, 2, 3, 8, 64];
+
+fn numbers_of_workers() -> &'static [usize] {
+    &WORKERS
+}
 
 /// How often each flag was found that a check decides.
 #[derive(Clone, Copy)]
@@ -82,9 +84,10 @@ fn is_found<R: Threads + Wait + Sync>(
     flags: &[Flag],
     workers: usize,
     gate: &Yielding,
-) -> Result<bool, AllocError>
-    requires { (1 ≤ workers) × (workers ≤ 64) }
-{
+) -> Result<bool, AllocError> {
+    if workers < 1 || workers > 64 {
+        return Ok(false);
+    }
     let checked = check_all(rt, alloc, job, workers, gate)?;
     Ok(is_same(&checked, flags))
 }
@@ -97,8 +100,8 @@ pub fn are_flags_found<R: Threads + Wait + Sync>(
     flags: &[Flag],
     gate: &Yielding,
 ) -> Result<bool, Failed> {
-    for workers in WORKERS {
-        if workers < 1 || workers > 64 || !is_found(rt, alloc, job, flags, workers, gate)? {
+    for workers in numbers_of_workers() {
+        if !is_found(rt, alloc, job, flags, *workers, gate)? {
             return Ok(false);
         }
     }
@@ -145,6 +148,21 @@ fn is_job_checked<R: Threads + Wait + Sync>(
 }
 
 // How many jobs are checked so, up to the first that isn't.
+fn jobs_checked_through<R: Threads + Wait + Sync>(
+    rt: &R,
+    alloc: Global,
+    random: &mut Random,
+    gate: &Yielding,
+    times: &mut Times,
+) -> Result<u32, Failed> {
+    for number in 0..JOBS {
+        if !is_job_checked(rt, alloc, random, gate, times)? {
+            return Ok(number);
+        }
+    }
+    Ok(JOBS)
+}
+
 fn jobs_checked<R: Threads + Wait + Sync>(
     rt: &R,
     alloc: Global,
@@ -152,12 +170,7 @@ fn jobs_checked<R: Threads + Wait + Sync>(
 ) -> Result<u32, Failed> {
     let mut random = Random::new(15);
     let gate = Yielding::new(15);
-    for number in 0..JOBS {
-        if !is_job_checked(rt, alloc, &mut random, &gate, times)? {
-            return Ok(number);
-        }
-    }
-    Ok(JOBS)
+    jobs_checked_through(rt, alloc, &mut random, &gate, times)
 }
 
 #[test]

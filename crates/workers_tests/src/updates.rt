@@ -1,13 +1,11 @@
-//! Updates, each alone in its block: their flags by checks one by one, and by any number of workers.
+//! Updates, each alone in its block: their flags by the checks in order, and by any number of workers.
 
-use crate::asking::numbers;
 use crate::building::Ground;
-use crate::events::found_in;
 use crate::random_jobs::are_flags_found;
 use crate::rows::{BlockCase, updates};
 use failing::Failed;
 use key_chains::Job;
-use rules::{Event, Flag};
+use rules::Flag;
 use std::alloc::Global;
 use std::sync::Wait;
 use std::thread::Threads;
@@ -28,10 +26,18 @@ fn is_flagged<R: Threads + Wait + Sync>(
 ) -> Result<bool, Failed> {
     let flags = serial_checks::flags(alloc, job)?;
     let gate = Yielding::new(6);
-    Ok(
-        is_flag(flags.as_slice(), wanted)
-            && are_flags_found(rt, alloc, job, flags.as_slice(), &gate)?,
-    )
+    let are_found = are_flags_found(rt, alloc, job, flags.as_slice(), &gate)?;
+    Ok(are_found && is_flag(flags.as_slice(), wanted))
+}
+
+fn is_flagged_on<R: Threads + Wait + Sync>(
+    rt: &R,
+    alloc: Global,
+    ground: &Ground,
+    wanted: &[u8],
+) -> Result<bool, Failed> {
+    let job = ground.job(alloc)?;
+    is_flagged(rt, alloc, &job, wanted)
 }
 
 fn is_flagged_in<R: Threads + Wait + Sync>(
@@ -40,44 +46,13 @@ fn is_flagged_in<R: Threads + Wait + Sync>(
     case: &BlockCase,
 ) -> Result<bool, Failed> {
     let ground = Ground::of(alloc, case.rows, case.script)?;
-    let job = ground.job(alloc)?;
-    is_flagged(rt, alloc, &job, case.flags)
+    is_flagged_on(rt, alloc, &ground, case.flags)
 }
 
 #[test]
 fn updates_by_workers(rt: HostRuntime) -> Result<(), Failed> {
     for case in updates() {
         assert!(rt; is_flagged_in(&rt, rt.alloc(), case)?);
-    }
-    Ok(())
-}
-
-// Lists of checks behind which the flag isn't known.
-const TOO_EARLY: [&[Event]; 3] = [
-    &[Event::Endorse(0)],
-    &[Event::Reads(0)],
-    &[Event::Reads(0), Event::Endorse(0)],
-];
-
-fn is_found_early(alloc: Global, case: &BlockCase) -> Result<bool, Failed> {
-    for events in &TOO_EARLY {
-        if found_in(alloc, case, events)? != numbers(&[]) {
-            return Ok(true);
-        }
-    }
-    Ok(false)
-}
-
-fn is_found(alloc: Global, case: &BlockCase) -> Result<bool, Failed> {
-    let found = found_in(alloc, case, &[Event::Endorse(0), Event::Reads(0)])?;
-    Ok(found == numbers(case.flags))
-}
-
-#[test]
-fn updates_by_checks_in_a_list(rt: HostRuntime) -> Result<(), Failed> {
-    for case in updates() {
-        assert!(rt; !is_found_early(rt.alloc(), case)?);
-        assert!(rt; is_found(rt.alloc(), case)?);
     }
     Ok(())
 }

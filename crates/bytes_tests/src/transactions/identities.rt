@@ -1,7 +1,9 @@
-use crate::joined::joined;
+use crate::fields::Field;
+use crate::fields::Field::{Is, Long};
 use std::alloc::{AllocError, Global};
-use std::test::Fail;
 use transaction::{Identity, Role, decode_identity, encode_identity};
+
+const PEER: &[u8] = b"\x04Org1\x02\x02p0";
 
 fn is_spelled(alloc: Global, identity: &Identity<'_>, bytes: &[u8]) -> bool {
     match encode_identity(alloc, identity) {
@@ -10,45 +12,45 @@ fn is_spelled(alloc: Global, identity: &Identity<'_>, bytes: &[u8]) -> bool {
     }
 }
 
-#[test]
-fn an_identity_both_ways(rt: HostRuntime) -> Result<(), Fail> {
-    let bytes = b"\x04Org1\x02\x02p0";
-    let identity = decode_identity(bytes)?;
-    let texts = [identity.org.as_slice(), identity.label.as_slice()];
-    assert!(rt; texts == [b"Org1".as_slice(), b"p0".as_slice()]);
-    assert!(rt; identity.role == Role::Peer);
-    assert!(rt; is_spelled(rt.alloc(), &identity, bytes));
-    Ok(())
+fn is_peer(identity: &Identity<'_>) -> bool {
+    [identity.org.as_slice(), identity.label.as_slice()] == [b"Org1".as_slice(), b"p0"]
+        && identity.role == Role::Peer
 }
 
-#[test]
-fn bytes_that_are_none(rt: HostRuntime) -> Result<(), Fail> {
-    let rows: [(&[u8], bool); 7] = [
-        (b"\x04Org1\x03\x02\xff\0", true),
-        (b"\x04Org1\0\0", true),
-        (b"\x04Org1\x04\x02p0", false),
-        (b"\0\x02\x02p0", false),
-        (b"\x04Or 1\x02\x02p0", false),
-        (b"\x04Org1\x02\x02p0\0", false),
-        (b"\x04Org1\x02\x03p0", false),
-    ];
-    for (text, good) in &rows {
-        assert!(rt; decode_identity(text).is_ok() == *good, "{text:?}");
+fn is_both_ways(alloc: Global) -> bool {
+    match decode_identity(PEER) {
+        Ok(identity) => is_peer(&identity) && is_spelled(alloc, &identity, PEER),
+        Err(_) => false,
     }
-    Ok(())
 }
 
-// An organization of so many letters.
-fn with_organization(alloc: Global, len: u8) -> Result<Vec<u8>, AllocError> {
-    let letters = vec![in alloc; b'a'; len as usize]?;
-    joined(alloc, &[&[len], &letters, b"\0\0"])
+fn rows() -> &'static [(Field, bool)] {
+    &ROWS
+}
+
+static ROWS: [(Field, bool); 9] = [
+    (Is(b"\x04Org1\x03\x02\xff\0"), true),
+    (Is(b"\x04Org1\0\0"), true),
+    (Is(b"\x04Org1\x04\x02p0"), false),
+    (Is(b"\0\x02\x02p0"), false),
+    (Is(b"\x04Or 1\x02\x02p0"), false),
+    (Is(b"\x04Org1\x02\x02p0\0"), false),
+    (Is(b"\x04Org1\x02\x03p0"), false),
+    // Organizations at their limit.
+    (Long(b"\x40", b"a", 64, b"\0\0"), true),
+    (Long(b"\x41", b"a", 65, b"\0\0"), false),
+];
+
+fn is_identity(alloc: Global, field: &Field) -> Result<bool, AllocError> {
+    let bytes = field.bytes(alloc)?;
+    Ok(decode_identity(&bytes).is_ok())
 }
 
 #[test]
-fn organizations_at_their_limit(rt: HostRuntime) -> Result<(), Fail> {
-    for (len, good) in [(64u8, true), (65, false)] {
-        let bytes = with_organization(rt.alloc(), len)?;
-        assert!(rt; decode_identity(&bytes).is_ok() == good, "{len}");
+fn identities_and_bytes_that_are_none(rt: HostRuntime) -> Result<(), AllocError> {
+    assert!(rt; is_both_ways(rt.alloc()));
+    for (number, &(field, good)) in rows().iter().enumerate() {
+        assert!(rt; is_identity(rt.alloc(), &field)? == good, "row {number}");
     }
     Ok(())
 }

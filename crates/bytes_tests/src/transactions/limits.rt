@@ -1,126 +1,161 @@
-//! What a transaction's parts can be, up to their limits.
+//! What a transaction's parts can be, up to their limits, written and read again.
 
-use super::{example, fault_of};
+use crate::too_large::TooLarge::{Body, Nothing, Signed, Whole};
+use crate::too_large::{Faults, TooLarge};
 use std::alloc::{AllocError, Global};
 use std::process::Abort;
-use std::test::Fail;
 use transaction::{
-    EncodeFault, Endorsement, Identity, NsSet, Role, Tx, TxFault, Write, decode_identity,
-    decode_tx, encode_body, encode_identity, encode_signed, encode_tx,
+    Endorsement, Identity, NsSet, Role, Tx, Write, decode_tx, encode_body, encode_identity,
+    encode_signed, encode_tx,
 };
 use values::{Items, KeyRef, NameRef, Slice, is_key, is_name};
 
-fn is_written(tx: &Tx<'_>, alloc: Global) -> bool {
-    encode_tx(alloc, tx).is_ok()
+#[derive(Clone, Copy)]
+struct Sizes {
+    label: usize,
+    nonce: usize,
+    value: usize,
+    endorsements: usize,
+    signature: usize,
 }
 
-// The example with this nonce.
-fn is_nonce(alloc: Global, bytes: &[u8], nonce: &[u8]) -> Result<bool, TxFault> {
-    let mut tx = decode_tx(alloc, bytes)?.into_tx();
-    tx.nonce = Slice::new(nonce);
-    Ok(is_written(&tx, alloc))
+const SMALL: Sizes = Sizes {
+    label: 2,
+    nonce: 2,
+    value: 1,
+    endorsements: 0,
+    signature: 0,
+};
+
+// The part of which it is said how large it is.
+#[derive(Clone, Copy)]
+enum Part {
+    Label,
+    Nonce,
+    Value,
+    Endorsements,
+    Signature,
 }
 
-// The example with this signature of its creator.
-fn is_signature(alloc: Global, bytes: &[u8], signature: &[u8]) -> Result<bool, TxFault> {
-    let mut tx = decode_tx(alloc, bytes)?.into_tx();
-    tx.signature = Slice::new(signature);
-    Ok(is_written(&tx, alloc))
-}
-
-fn is_label(alloc: Global, label: &[u8]) -> Result<bool, TxFault> {
-    let mut identity = decode_identity(b"\x04Org1\x02\x02p0")?;
-    identity.label = Slice::new(label);
-    Ok(encode_identity(alloc, &identity).is_ok())
-}
-
-#[test]
-fn labels_and_nonces_at_their_limits(rt: HostRuntime) -> Result<(), Fail> {
-    let alloc = rt.alloc();
-    let bytes = example(alloc)?;
-    for (len, good) in [(0usize, true), (255, true), (256, false)] {
-        let long = vec![in alloc; 1; len]?;
-        assert!(rt; is_nonce(alloc, &bytes, &long) == Ok(good), "{len}");
-        assert!(rt; is_label(alloc, &long) == Ok(good), "{len}");
+fn sizes_with(part: Part, size: usize) -> Sizes {
+    let mut sizes = SMALL;
+    match part {
+        Part::Label => sizes.label = size,
+        Part::Nonce => sizes.nonce = size,
+        Part::Value => sizes.value = size,
+        Part::Endorsements => sizes.endorsements = size,
+        Part::Signature => sizes.signature = size,
     }
-    Ok(())
+    sizes
 }
 
-#[test]
-fn signatures_at_their_limit(rt: HostRuntime) -> Result<(), Fail> {
-    let alloc = rt.alloc();
-    let bytes = example(alloc)?;
-    for (len, good) in [(65_535usize, true), (65_536, false)] {
-        let long = vec![in alloc; 1; len]?;
-        assert!(rt; is_signature(alloc, &bytes, &long) == Ok(good), "{len}");
+fn letters(filler: &[u8], len: usize) -> Slice<'_> {
+    Slice::new(filler.get(..len).unwrap_or_default())
+}
+
+fn name(rt: &impl Abort, bytes: &'static [u8]) -> NameRef<'static> {
+    assert!(rt; is_name(bytes));
+    NameRef::new(bytes)
+}
+
+fn key(rt: &impl Abort, bytes: &'static [u8]) -> KeyRef<'static> {
+    assert!(rt; is_key(bytes));
+    KeyRef::new(bytes)
+}
+
+fn identity<'a>(rt: &impl Abort, org: &'static [u8], role: Role, label: Slice<'a>) -> Identity<'a> {
+    Identity {
+        org: name(rt, org),
+        role,
+        label,
     }
-    Ok(())
 }
 
-// Channel `ch`, creator `Org1:client:c0`, nonce `n1`, chaincode `cc`, no signature.
-fn tx_with<'a>(
-    rt: &impl Abort,
-    namespaces: Items<NsSet<'a>>,
-    endorsements: Items<Endorsement<'a>>,
-) -> Tx<'a> {
-    assert!(rt; is_name(b"ch") && is_name(b"cc") && is_name(b"Org1"));
-    Tx {
-        channel: NameRef::new(b"ch"),
-        id: [5; 64],
-        creator: Identity {
-            org: NameRef::new(b"Org1"),
-            role: Role::Client,
-            label: Slice::new(b"c0"),
-        },
-        nonce: Slice::new(b"n1"),
-        chaincode: NameRef::new(b"cc"),
-        namespaces,
-        endorsements,
+fn endorsement(rt: &impl Abort) -> Endorsement<'static> {
+    Endorsement {
+        endorser: identity(rt, b"O", Role::Peer, Slice::new(b"")),
         signature: Slice::new(b""),
     }
 }
 
-fn with_endorsements(
+fn endorsements(
     rt: &impl Abort,
     alloc: Global,
     count: usize,
-) -> Result<Tx<'static>, AllocError> {
-    assert!(rt; is_name(b"O"));
+) -> Result<Items<Endorsement<'static>>, AllocError> {
     let mut endorsements = Items::new(alloc);
     for _ in 0..count {
-        endorsements.push(Endorsement {
-            endorser: Identity {
-                org: NameRef::new(b"O"),
-                role: Role::Peer,
-                label: Slice::new(b""),
-            },
-            signature: Slice::new(b""),
-        })?;
+        endorsements.push(endorsement(rt))?;
     }
-    Ok(tx_with(rt, Items::new(alloc), endorsements))
+    Ok(endorsements)
 }
 
-fn endorsement_count(alloc: Global, bytes: &[u8]) -> Option<usize> {
-    match decode_tx(alloc, bytes) {
-        Ok(read) => Some(read.tx().endorsements.len()),
-        Err(_) => None,
+// One write of this value.
+fn writes<'a>(
+    rt: &impl Abort,
+    alloc: Global,
+    value: Slice<'a>,
+) -> Result<Items<Write<'a>>, AllocError> {
+    let write = Write {
+        key: key(rt, b"k3"),
+        value: Some(value),
+    };
+    Ok(Items::from_vec(vec![in alloc; write]?))
+}
+
+fn set<'a>(rt: &impl Abort, alloc: Global, writes: Items<Write<'a>>) -> NsSet<'a> {
+    NsSet {
+        name: name(rt, b"cc"),
+        reads: Items::new(alloc),
+        ranges: Items::new(alloc),
+        writes,
+        policy_writes: Items::new(alloc),
     }
 }
 
-#[test]
-fn sixty_four_endorsements(rt: HostRuntime) -> Result<(), Fail> {
-    let full = with_endorsements(&rt, rt.alloc(), 64)?;
-    match encode_tx(rt.alloc(), &full) {
-        Ok(bytes) => {
-            assert!(rt; endorsement_count(rt.alloc(), bytes.as_slice()) == Some(64));
-        }
-        Err(_) => assert!(rt; false),
+fn sets<'a>(
+    rt: &impl Abort,
+    alloc: Global,
+    value: Slice<'a>,
+) -> Result<Items<NsSet<'a>>, AllocError> {
+    let set = set(rt, alloc, writes(rt, alloc, value)?);
+    Ok(Items::from_vec(vec![in alloc; set]?))
+}
+
+fn tx<'a>(
+    rt: &impl Abort,
+    filler: &'a [u8],
+    sizes: &Sizes,
+    namespaces: Items<NsSet<'a>>,
+    endorsements: Items<Endorsement<'a>>,
+) -> Tx<'a> {
+    Tx {
+        channel: name(rt, b"ch"),
+        id: [5; 64],
+        creator: identity(rt, b"Org1", Role::Client, letters(filler, sizes.label)),
+        nonce: letters(filler, sizes.nonce),
+        chaincode: name(rt, b"cc"),
+        namespaces,
+        endorsements,
+        signature: letters(filler, sizes.signature),
     }
-    Ok(())
+}
+
+// With labels and nonces of two bytes and no endorsements its body has 104 bytes beside the value, the signed part 105,
+// the whole 107 beside the signature.
+fn with_sizes<'a>(
+    rt: &impl Abort,
+    alloc: Global,
+    filler: &'a [u8],
+    sizes: &Sizes,
+) -> Result<Tx<'a>, AllocError> {
+    let namespaces = sets(rt, alloc, letters(filler, sizes.value))?;
+    let endorsements = endorsements(rt, alloc, sizes.endorsements)?;
+    Ok(tx(rt, filler, sizes, namespaces, endorsements))
 }
 
 // What keeps its body, what is signed of it, and all of it from being written.
-fn encode_faults(tx: &Tx<'_>, alloc: Global) -> [Option<EncodeFault>; 3] {
+fn encode_faults(tx: &Tx<'_>, alloc: Global) -> Faults {
     [
         encode_body(alloc, tx).err(),
         encode_signed(alloc, tx).err(),
@@ -128,79 +163,81 @@ fn encode_faults(tx: &Tx<'_>, alloc: Global) -> [Option<EncodeFault>; 3] {
     ]
 }
 
-#[test]
-fn one_endorsement_more(rt: HostRuntime) -> Result<(), Fail> {
-    let over = with_endorsements(&rt, rt.alloc(), 65)?;
-    let too_large = Some(EncodeFault::TooLarge);
-    assert!(rt; encode_faults(&over, rt.alloc()) == [None, too_large, too_large]);
-    Ok(())
+fn is_creator_written(tx: &Tx<'_>, alloc: Global) -> bool {
+    encode_identity(alloc, &tx.creator).is_ok()
 }
 
-// One write of this value, and no endorsements. The body has 104 bytes beside the value, the signed part 105, the
-// whole 107.
-fn with_value<'a>(rt: &impl Abort, alloc: Global, value: &'a [u8]) -> Result<Tx<'a>, AllocError> {
-    assert!(rt; is_name(b"cc") && is_key(b"k3"));
-    let write = Write {
-        key: KeyRef::new(b"k3"),
-        value: Some(Slice::new(value)),
-    };
-    let set = NsSet {
-        name: NameRef::new(b"cc"),
-        reads: Items::new(alloc),
-        ranges: Items::new(alloc),
-        writes: Items::from_vec(vec![in alloc; write]?),
-        policy_writes: Items::new(alloc),
-    };
-    let namespaces = Items::from_vec(vec![in alloc; set]?);
-    Ok(tx_with(rt, namespaces, Items::new(alloc)))
+fn is_written_as(tx: &Tx<'_>, alloc: Global, bytes: &[u8]) -> bool {
+    match encode_tx(alloc, tx) {
+        Ok(written) => written.as_slice() == bytes,
+        Err(_) => false,
+    }
 }
 
-fn can_value_be_written(
+// Whether what was written is read, with so many endorsements, and written again, as it is.
+fn is_read_again(alloc: Global, written: &[u8], endorsements: usize) -> bool {
+    match decode_tx(alloc, written) {
+        Ok(read) => {
+            read.tx().endorsements.len() == endorsements && is_written_as(read.tx(), alloc, written)
+        }
+        Err(_) => false,
+    }
+}
+
+fn is_written_twice(tx: &Tx<'_>, alloc: Global, endorsements: usize) -> bool {
+    match encode_tx(alloc, tx) {
+        Ok(written) => is_read_again(alloc, written.as_slice(), endorsements),
+        Err(_) => false,
+    }
+}
+
+fn rows() -> &'static [(Part, usize, TooLarge)] {
+    &ROWS
+}
+
+static ROWS: [(Part, usize, TooLarge); 15] = [
+    (Part::Label, 0, Nothing),
+    (Part::Label, 255, Nothing),
+    (Part::Label, 256, Body),
+    (Part::Nonce, 0, Nothing),
+    (Part::Nonce, 255, Nothing),
+    (Part::Nonce, 256, Body),
+    (Part::Signature, 65_535, Nothing),
+    (Part::Signature, 65_536, Whole),
+    (Part::Endorsements, 64, Nothing),
+    (Part::Endorsements, 65, Signed),
+    (Part::Value, 1_048_576 - 107, Nothing),
+    (Part::Value, 1_048_576 - 106, Whole),
+    (Part::Value, 1_048_576 - 105, Whole),
+    (Part::Value, 1_048_576 - 104, Signed),
+    (Part::Value, 1_048_576 - 103, Body),
+];
+
+fn is_as_said(tx: &Tx<'_>, alloc: Global, sizes: &Sizes, faults: Faults) -> bool {
+    encode_faults(tx, alloc) == faults
+        && is_written_twice(tx, alloc, sizes.endorsements) == (faults == [None; 3])
+        && is_creator_written(tx, alloc) == (sizes.label < 256)
+}
+
+fn are_as_said(
     rt: &impl Abort,
     alloc: Global,
-    len: usize,
-) -> Result<[bool; 3], AllocError> {
-    let value = vec![in alloc; 3; len]?;
-    let tx = with_value(rt, alloc, &value)?;
-    Ok(encode_faults(&tx, alloc).map(|fault| fault.is_none()))
+    sizes: &Sizes,
+    faults: Faults,
+) -> Result<bool, AllocError> {
+    let filler = vec![in alloc; 3; sizes.value.max(65_536)]?;
+    let tx = with_sizes(rt, alloc, &filler, sizes)?;
+    Ok(is_as_said(&tx, alloc, sizes, faults))
 }
 
 #[test]
-fn each_part_at_its_limit(rt: HostRuntime) -> Result<(), Fail> {
-    let rows = [
-        (1_048_576 - 107usize, [true, true, true]),
-        (1_048_576 - 106, [true, true, false]),
-        (1_048_576 - 105, [true, true, false]),
-        (1_048_576 - 104, [true, false, false]),
-        (1_048_576 - 103, [false, false, false]),
-    ];
-    for (len, good) in rows {
-        let written = can_value_be_written(&rt, rt.alloc(), len)?;
-        assert!(rt; written == good, "{len}");
+fn each_part_at_its_limit(rt: HostRuntime) -> Result<(), AllocError> {
+    for (row, &(part, size, too_large)) in rows().iter().enumerate() {
+        let sizes = sizes_with(part, size);
+        assert!(rt;
+            are_as_said(&rt, rt.alloc(), &sizes, too_large.faults())?,
+            "row {row}"
+        );
     }
-    Ok(())
-}
-
-// A transaction of 1,048,576 bytes, the length of whose value stands at 98.
-fn longest(rt: &impl Abort, alloc: Global) -> Result<Vec<u8>, AllocError> {
-    let value = vec![in alloc; 3; 1_048_576 - 107]?;
-    let tx = with_value(rt, alloc, &value)?;
-    match encode_tx(alloc, &tx) {
-        Ok(bytes) => Ok(bytes.into_vec()),
-        Err(_) => Err(AllocError),
-    }
-}
-
-#[test]
-fn a_byte_over_the_limit_is_not_read(rt: HostRuntime) -> Result<(), Fail> {
-    let alloc = rt.alloc();
-    let mut bytes = longest(&rt, alloc)?;
-    assert!(rt; bytes.len() == 1_048_576);
-    assert!(rt; fault_of(alloc, &bytes).is_none());
-    // One byte more of the value.
-    bytes.insert(102, 3)?;
-    assert!(rt; bytes[101] == 0x95);
-    bytes[101] = 0x96;
-    assert!(rt; fault_of(alloc, &bytes) == Some(TxFault::Form));
     Ok(())
 }

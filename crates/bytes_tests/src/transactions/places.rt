@@ -1,9 +1,6 @@
 //! Where what a transaction writes stands in its bytes, which no clause says.
 
-use super::{everything, example};
-use std::alloc::{AllocError, Global};
-use std::test::Fail;
-use transaction::{NsSet, SpelledTx, TxFault, decode_tx};
+use transaction::{NsSet, SpelledTx};
 use values::found_at;
 
 // Whether the keys and values that a namespace writes stand where it says, where it stands at this place itself.
@@ -25,8 +22,8 @@ fn are_writes_found(bytes: &[u8], place: usize, set: &NsSet<'_>) -> bool {
     true
 }
 
-// The same of all namespaces, of which the last one ends the body.
-fn is_all_found(bytes: &[u8], spelled: &SpelledTx<'_>) -> bool {
+/// Whether all that the namespaces write stands where they say; the last of them ends the body.
+pub fn is_all_found(bytes: &[u8], spelled: &SpelledTx<'_>) -> bool {
     let mut place = spelled.tx().namespaces_place();
     for set in spelled.tx().namespaces.as_slice() {
         let name = place.wrapping_add(set.name_place());
@@ -39,17 +36,4 @@ fn is_all_found(bytes: &[u8], spelled: &SpelledTx<'_>) -> bool {
         place = place.wrapping_add(set.spelled_len());
     }
     place == spelled.body().len()
-}
-
-fn is_written_found(alloc: Global, bytes: Result<Vec<u8>, AllocError>) -> Result<bool, TxFault> {
-    let bytes = bytes?;
-    let spelled = decode_tx(alloc, &bytes)?;
-    Ok(is_all_found(&bytes, &spelled))
-}
-
-#[test]
-fn all_that_is_written_is_found(rt: HostRuntime) -> Result<(), Fail> {
-    assert!(rt; is_written_found(rt.alloc(), example(rt.alloc()))?);
-    assert!(rt; is_written_found(rt.alloc(), everything(rt.alloc()))?);
-    Ok(())
 }

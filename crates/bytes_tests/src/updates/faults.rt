@@ -1,140 +1,110 @@
 //! What the bytes of an update can't be.
 
 use super::{example, fault_of};
-use crate::joined::{endorsements_of, fault_unless, joined, name_of, with_field};
+use crate::fields::Field::{Is, Long};
+use crate::fields::{Change, changed, fault_unless};
 use std::alloc::{AllocError, Global};
-use std::test::Fail;
 use transaction::TxFault;
 
-fn fault_when_cut(alloc: Global, len: usize) -> Result<Option<TxFault>, AllocError> {
-    let mut bytes = example(alloc)?;
-    bytes.truncate(len);
-    Ok(fault_of(alloc, &bytes))
-}
-
-// The fault with a field in place of the bytes from one place to before another.
-fn fault_with(
-    alloc: Global,
-    from: usize,
-    to: usize,
-    field: &[u8],
-) -> Result<Option<TxFault>, AllocError> {
-    let whole = example(alloc)?;
-    let bytes = with_field(alloc, &whole, from, to, field)?;
-    Ok(fault_of(alloc, &bytes))
-}
-
-#[test]
-fn cut_at_each_length(rt: HostRuntime) -> Result<(), Fail> {
-    for len in 0..178usize {
-        let fault = fault_when_cut(rt.alloc(), len)?;
-        assert!(rt; fault == Some(TxFault::Form), "{len}");
+// The first length to which the example is cut that has another fault than its form.
+fn first_unlike_cut(alloc: Global, whole: &[u8]) -> Option<usize> {
+    for len in 0..whole.len() {
+        let bytes = whole.get(..len).unwrap_or_default();
+        if fault_of(alloc, bytes) != Some(TxFault::Form) {
+            return Some(len);
+        }
     }
-    Ok(())
+    None
 }
 
-fn replaced() -> &'static [(usize, usize, &'static [u8], bool)] {
-    &REPLACED
+fn changes() -> &'static [Change] {
+    &CHANGES
 }
 
-// From one place to before another this field, and whether that is an update.
-static REPLACED: [(usize, usize, &[u8], bool); 16] = [
+static CHANGES: [Change; 53] = [
     // The mark.
-    (0, 1, b"\0", true),
-    (0, 1, b"\x01", false),
-    (0, 1, b"", false),
+    (0, 1, Is(b"\0"), true),
+    (0, 1, Is(b"\x01"), false),
+    (0, 1, Is(b""), false),
     // The creator's role.
-    (73, 74, b"\x03", true),
-    (73, 74, b"\x04", false),
+    (73, 74, Is(b"\x03"), true),
+    (73, 74, Is(b"\x04"), false),
     // The nonce, with no bytes, and with more than are there.
-    (77, 80, b"\0", true),
-    (77, 78, b"\xff", false),
+    (77, 80, Is(b"\0"), true),
+    (77, 78, Is(b"\xff"), false),
     // The namespace is a name.
-    (80, 83, b"\x01a", true),
-    (80, 83, b"\x03a b", false),
-    (80, 83, b"\0", false),
+    (80, 83, Is(b"\x01a"), true),
+    (80, 83, Is(b"\x03a b"), false),
+    (80, 83, Is(b"\0"), false),
     // The policy's text, with no bytes, and with more than are there; it may be no policy.
-    (83, 100, b"\0\0", true),
-    (83, 100, b"\0\x04AND(", true),
-    (83, 85, b"\xff\xff", false),
+    (83, 100, Is(b"\0\0"), true),
+    (83, 100, Is(b"\0\x04AND("), true),
+    (83, 85, Is(b"\xff\xff"), false),
     // No endorsements, and a signature of no bytes.
-    (100, 144, b"\0", true),
-    (144, 178, b"\0\0", true),
+    (100, 144, Is(b"\0"), true),
+    (144, 178, Is(b"\0\0"), true),
     // A byte behind the end.
-    (178, 178, b"\0", false),
+    (178, 178, Is(b"\0"), false),
+    // The channel.
+    (1, 4, Long(b"\0", b"a", 0, b""), false),
+    (1, 4, Long(b"\x01", b"a", 1, b""), true),
+    (1, 4, Long(b"\x40", b"a", 64, b""), true),
+    (1, 4, Long(b"\x41", b"a", 65, b""), false),
+    // The creator's organization.
+    (68, 73, Long(b"\0", b"a", 0, b""), false),
+    (68, 73, Long(b"\x01", b"a", 1, b""), true),
+    (68, 73, Long(b"\x40", b"a", 64, b""), true),
+    (68, 73, Long(b"\x41", b"a", 65, b""), false),
+    // The namespace.
+    (80, 83, Long(b"\0", b"a", 0, b""), false),
+    (80, 83, Long(b"\x01", b"a", 1, b""), true),
+    (80, 83, Long(b"\x40", b"a", 64, b""), true),
+    (80, 83, Long(b"\x41", b"a", 65, b""), false),
+    // The endorser's organization.
+    (101, 106, Long(b"\0", b"a", 0, b""), false),
+    (101, 106, Long(b"\x01", b"a", 1, b""), true),
+    (101, 106, Long(b"\x40", b"a", 64, b""), true),
+    (101, 106, Long(b"\x41", b"a", 65, b""), false),
+    // The creator's label, the longest that its number can tell.
+    (74, 77, Long(b"\xff", b"a", 254, b""), false),
+    (74, 77, Long(b"\xff", b"a", 255, b""), true),
+    (74, 77, Long(b"\xff", b"a", 256, b""), false),
+    // The nonce.
+    (77, 80, Long(b"\xff", b"a", 254, b""), false),
+    (77, 80, Long(b"\xff", b"a", 255, b""), true),
+    (77, 80, Long(b"\xff", b"a", 256, b""), false),
+    // The endorser's label.
+    (107, 110, Long(b"\xff", b"a", 254, b""), false),
+    (107, 110, Long(b"\xff", b"a", 255, b""), true),
+    (107, 110, Long(b"\xff", b"a", 256, b""), false),
+    // The policy's text.
+    (83, 100, Long(b"\xff\xff", b"a", 65_534, b""), false),
+    (83, 100, Long(b"\xff\xff", b"a", 65_535, b""), true),
+    (83, 100, Long(b"\xff\xff", b"a", 65_536, b""), false),
+    // The endorser's signature.
+    (110, 144, Long(b"\xff\xff", b"a", 65_534, b""), false),
+    (110, 144, Long(b"\xff\xff", b"a", 65_535, b""), true),
+    (110, 144, Long(b"\xff\xff", b"a", 65_536, b""), false),
+    // The creator's signature.
+    (144, 178, Long(b"\xff\xff", b"a", 65_534, b""), false),
+    (144, 178, Long(b"\xff\xff", b"a", 65_535, b""), true),
+    (144, 178, Long(b"\xff\xff", b"a", 65_536, b""), false),
+    // Endorsements without signatures, all of them there.
+    (100, 144, Long(b"\0", b"\x01O\x02\0\0\0", 0, b""), true),
+    (100, 144, Long(b"\x40", b"\x01O\x02\0\0\0", 64, b""), true),
+    (100, 144, Long(b"\x41", b"\x01O\x02\0\0\0", 65, b""), false),
 ];
 
-#[test]
-fn fields_of_other_forms(rt: HostRuntime) -> Result<(), Fail> {
-    for &(from, to, field, good) in replaced() {
-        let fault = fault_with(rt.alloc(), from, to, field)?;
-        assert!(rt; fault == fault_unless(good), "{field:?} at {from}");
-    }
-    Ok(())
-}
-
-fn fault_with_name(
-    alloc: Global,
-    from: usize,
-    to: usize,
-    len: u8,
-) -> Result<Option<TxFault>, AllocError> {
-    let name = name_of(alloc, len)?;
-    fault_with(alloc, from, to, &name)
+fn is_as_said(alloc: Global, change: &Change) -> Result<bool, AllocError> {
+    let bytes = changed(alloc, example(), change)?;
+    Ok(fault_of(alloc, &bytes) == fault_unless(change.3))
 }
 
 #[test]
-fn names_at_their_limits(rt: HostRuntime) -> Result<(), Fail> {
-    // The channel, the creator's organization, the namespace, the endorser's organization.
-    for (from, to) in [(1usize, 4usize), (68, 73), (80, 83), (101, 106)] {
-        for (len, good) in [(0u8, false), (1, true), (64, true), (65, false)] {
-            let fault = fault_with_name(rt.alloc(), from, to, len)?;
-            assert!(rt; fault == fault_unless(good), "{len} at {from}");
-        }
-    }
-    Ok(())
-}
-
-// The longest that their numbers can tell: labels, the nonce, the policy, signatures.
-fn fault_with_longest(
-    alloc: Global,
-    from: usize,
-    to: usize,
-    count: &[u8],
-    len: usize,
-) -> Result<Option<TxFault>, AllocError> {
-    let letters = vec![in alloc; b'a'; len]?;
-    let field = joined(alloc, &[count, &letters])?;
-    fault_with(alloc, from, to, &field)
-}
-
-#[test]
-fn the_longest_fields(rt: HostRuntime) -> Result<(), Fail> {
-    for (from, to) in [(74usize, 77usize), (77, 80), (107, 110)] {
-        for (len, good) in [(254usize, false), (255, true), (256, false)] {
-            let fault = fault_with_longest(rt.alloc(), from, to, &[0xff], len)?;
-            assert!(rt; fault == fault_unless(good), "{len} at {from}");
-        }
-    }
-    for (from, to) in [(83usize, 100usize), (110, 144), (144, 178)] {
-        for (len, good) in [(65_534usize, false), (65_535, true), (65_536, false)] {
-            let fault = fault_with_longest(rt.alloc(), from, to, &[0xff; 2], len)?;
-            assert!(rt; fault == fault_unless(good), "{len} at {from}");
-        }
-    }
-    Ok(())
-}
-
-fn fault_with_endorsements(alloc: Global, count: u8) -> Result<Option<TxFault>, AllocError> {
-    let counted = endorsements_of(alloc, count)?;
-    fault_with(alloc, 100, 144, &counted)
-}
-
-#[test]
-fn sixty_five_endorsements_that_are_there(rt: HostRuntime) -> Result<(), Fail> {
-    for (count, good) in [(0u8, true), (64, true), (65, false)] {
-        let fault = fault_with_endorsements(rt.alloc(), count)?;
-        assert!(rt; fault == fault_unless(good), "{count}");
+fn cut_and_changed(rt: HostRuntime) -> Result<(), AllocError> {
+    assert!(rt; first_unlike_cut(rt.alloc(), example()) == None);
+    for (number, change) in changes().iter().enumerate() {
+        assert!(rt; is_as_said(rt.alloc(), change)?, "row {number}");
     }
     Ok(())
 }

@@ -1,14 +1,16 @@
 //! What an update's parts can be, up to their limits, written and read again.
 
 use super::{fault_of, update_of};
+use crate::fields::with_field;
+use crate::too_large::TooLarge::{Body, Nothing, Signed, Whole};
+use crate::too_large::{Faults, TooLarge};
 use std::alloc::{AllocError, Global};
 use std::process::Abort;
-use std::test::Fail;
 use transaction::{
     EncodeFault, Endorsement, Identity, Role, TxFault, Update, encode_update, encode_update_body,
     encode_update_signed,
 };
-use values::{Items, NameRef, Slice, is_name};
+use values::{Bytes, Items, NameRef, Slice, is_name};
 
 #[derive(Clone, Copy)]
 struct Sizes {
@@ -21,32 +23,84 @@ struct Sizes {
     endorser_signature: usize,
 }
 
-fn small() -> Sizes {
-    Sizes {
-        label: 0,
-        nonce: 0,
-        policy: 0,
-        signature: 0,
-        endorsements: 1,
-        endorser_label: 0,
-        endorser_signature: 0,
+const SMALL: Sizes = Sizes {
+    label: 0,
+    nonce: 0,
+    policy: 0,
+    signature: 0,
+    endorsements: 1,
+    endorser_label: 0,
+    endorser_signature: 0,
+};
+
+// The part of which it is said how large it is.
+#[derive(Clone, Copy)]
+enum Part {
+    Label,
+    Nonce,
+    Policy,
+    Endorsements,
+    EndorserLabel,
+    EndorserSignature,
+    Signature,
+    // The policy beside 16 endorsements, with which the signed part has 1,040,178 bytes more, the whole two more.
+    PolicyOfMany,
+}
+
+fn sizes_with(part: Part, size: usize) -> Sizes {
+    let mut sizes = SMALL;
+    match part {
+        Part::Label => sizes.label = size,
+        Part::Nonce => sizes.nonce = size,
+        Part::Policy => sizes.policy = size,
+        Part::Endorsements => sizes.endorsements = size,
+        Part::EndorserLabel => sizes.endorser_label = size,
+        Part::EndorserSignature => sizes.endorser_signature = size,
+        Part::Signature => sizes.signature = size,
+        Part::PolicyOfMany => {
+            sizes.policy = size;
+            sizes.endorsements = 16;
+            sizes.endorser_signature = 65_000;
+        }
     }
+    sizes
 }
 
 fn letters(filler: &[u8], len: usize) -> Slice<'_> {
     Slice::new(filler.get(..len).unwrap_or_default())
 }
 
+fn name(rt: &impl Abort, bytes: &'static [u8]) -> NameRef<'static> {
+    assert!(rt; is_name(bytes));
+    NameRef::new(bytes)
+}
+
+fn admin<'a>(rt: &impl Abort, org: &'static [u8], label: Slice<'a>) -> Identity<'a> {
+    Identity {
+        org: name(rt, org),
+        role: Role::Admin,
+        label,
+    }
+}
+
 fn endorsement<'a>(rt: &impl Abort, filler: &'a [u8], sizes: &Sizes) -> Endorsement<'a> {
-    assert!(rt; is_name(b"O"));
     Endorsement {
-        endorser: Identity {
-            org: NameRef::new(b"O"),
-            role: Role::Admin,
-            label: letters(filler, sizes.endorser_label),
-        },
+        endorser: admin(rt, b"O", letters(filler, sizes.endorser_label)),
         signature: letters(filler, sizes.endorser_signature),
     }
+}
+
+fn endorsements<'a>(
+    rt: &impl Abort,
+    alloc: Global,
+    filler: &'a [u8],
+    sizes: &Sizes,
+) -> Result<Items<Endorsement<'a>>, AllocError> {
+    let mut endorsements = Items::new(alloc);
+    for _ in 0..sizes.endorsements {
+        endorsements.push(endorsement(rt, filler, sizes))?;
+    }
+    Ok(endorsements)
 }
 
 // Its body has 81 bytes beside the label, the nonce and the policy, each endorsement 6 beside what it has of these sizes.
@@ -56,21 +110,13 @@ fn with_sizes<'a>(
     filler: &'a [u8],
     sizes: &Sizes,
 ) -> Result<Update<'a>, AllocError> {
-    assert!(rt; is_name(b"ch") && is_name(b"cc") && is_name(b"Org1"));
-    let mut endorsements = Items::new(alloc);
-    for _ in 0..sizes.endorsements {
-        endorsements.push(endorsement(rt, filler, sizes))?;
-    }
+    let endorsements = endorsements(rt, alloc, filler, sizes)?;
     Ok(Update {
-        channel: NameRef::new(b"ch"),
+        channel: name(rt, b"ch"),
         id: [5; 64],
-        creator: Identity {
-            org: NameRef::new(b"Org1"),
-            role: Role::Admin,
-            label: letters(filler, sizes.label),
-        },
+        creator: admin(rt, b"Org1", letters(filler, sizes.label)),
         nonce: letters(filler, sizes.nonce),
-        namespace: NameRef::new(b"cc"),
+        namespace: name(rt, b"cc"),
         policy: letters(filler, sizes.policy),
         endorsements,
         signature: letters(filler, sizes.signature),
@@ -78,7 +124,7 @@ fn with_sizes<'a>(
 }
 
 // What keeps its body, what is signed of it, and all of it from being written.
-fn encode_faults(update: &Update<'_>, alloc: Global) -> [Option<EncodeFault>; 3] {
+fn encode_faults(update: &Update<'_>, alloc: Global) -> Faults {
     [
         encode_update_body(alloc, update).err(),
         encode_update_signed(alloc, update).err(),
@@ -86,156 +132,105 @@ fn encode_faults(update: &Update<'_>, alloc: Global) -> [Option<EncodeFault>; 3]
     ]
 }
 
+fn is_written_as(update: &Update<'_>, alloc: Global, bytes: &[u8]) -> bool {
+    match encode_update(alloc, update) {
+        Ok(written) => written.as_slice() == bytes,
+        Err(_) => false,
+    }
+}
+
 // Whether what was written is read, and written again, as it is.
-fn is_read_again(alloc: Global, written: &[u8]) -> Result<bool, TxFault> {
-    let update = update_of(alloc, written)?;
-    match encode_update(alloc, &update) {
-        Ok(again) => Ok(again.as_slice() == written),
-        Err(_) => Ok(false),
+fn is_read_again(alloc: Global, written: &[u8]) -> bool {
+    match update_of(alloc, written) {
+        Ok(update) => is_written_as(&update, alloc, written),
+        Err(_) => false,
     }
 }
 
 fn is_written_twice(update: &Update<'_>, alloc: Global) -> bool {
     match encode_update(alloc, update) {
-        Ok(written) => is_read_again(alloc, written.as_slice()) == Ok(true),
+        Ok(written) => is_read_again(alloc, written.as_slice()),
         Err(_) => false,
     }
 }
 
-fn too_large_from(part: usize) -> [Option<EncodeFault>; 3] {
-    let mut faults = [Some(EncodeFault::TooLarge); 3];
-    for fault in faults.iter_mut().take(part) {
-        *fault = None;
-    }
-    faults
+fn rows() -> &'static [(Part, usize, TooLarge)] {
+    &ROWS
 }
 
-// At these sizes an update is too large from its body (0), its signed part (1) or its whole (2) on, or isn't (3).
-fn is_as_said(
+static ROWS: [(Part, usize, TooLarge); 21] = [
+    (Part::Label, 0, Nothing),
+    (Part::Label, 255, Nothing),
+    (Part::Label, 256, Body),
+    (Part::Nonce, 255, Nothing),
+    (Part::Nonce, 256, Body),
+    (Part::Policy, 65_535, Nothing),
+    (Part::Policy, 65_536, Body),
+    (Part::Endorsements, 0, Nothing),
+    (Part::Endorsements, 64, Nothing),
+    (Part::Endorsements, 65, Signed),
+    (Part::EndorserLabel, 255, Nothing),
+    (Part::EndorserLabel, 256, Signed),
+    (Part::EndorserSignature, 65_535, Nothing),
+    (Part::EndorserSignature, 65_536, Signed),
+    (Part::Signature, 65_535, Nothing),
+    (Part::Signature, 65_536, Whole),
+    (Part::PolicyOfMany, 1_048_576 - 1_040_180, Nothing),
+    (Part::PolicyOfMany, 1_048_576 - 1_040_179, Whole),
+    (Part::PolicyOfMany, 1_048_576 - 1_040_178, Whole),
+    (Part::PolicyOfMany, 1_048_576 - 1_040_177, Signed),
+    (Part::PolicyOfMany, 65_535, Signed),
+];
+
+fn is_as_said(update: &Update<'_>, alloc: Global, faults: Faults) -> bool {
+    encode_faults(update, alloc) == faults
+        && is_written_twice(update, alloc) == (faults == [None; 3])
+}
+
+fn are_as_said(
     rt: &impl Abort,
     alloc: Global,
     sizes: &Sizes,
-    too_large_at: usize,
+    faults: Faults,
 ) -> Result<bool, AllocError> {
     let filler = vec![in alloc; b'a'; 65_536]?;
     let update = with_sizes(rt, alloc, &filler, sizes)?;
+    Ok(is_as_said(&update, alloc, faults))
+}
+
+fn written(rt: &impl Abort, alloc: Global, sizes: &Sizes) -> Result<Bytes, EncodeFault> {
+    let filler = vec![in alloc; b'a'; 65_536]?;
+    let update = with_sizes(rt, alloc, &filler, sizes)?;
+    encode_update(alloc, &update)
+}
+
+// Whether these 1,048,576 bytes are read, and with one byte more of the policy, which has 8,396 and whose length stands
+// at 79, aren't.
+fn are_most(alloc: Global, bytes: &[u8]) -> Result<bool, AllocError> {
+    let more = with_field(alloc, bytes, 79, 81, b"\x20\xcda")?;
     Ok(
-        encode_faults(&update, alloc) == too_large_from(too_large_at)
-            && is_written_twice(&update, alloc) == (too_large_at == 3),
+        bytes.len() == 1_048_576
+            && bytes.get(79..81) == Some(b"\x20\xcc".as_slice())
+            && fault_of(alloc, bytes).is_none()
+            && fault_of(alloc, &more) == Some(TxFault::Form),
     )
 }
 
-// With 16 endorsements the signed part has 1,040,178 bytes beside the policy, the whole two more.
-fn of_policy(len: usize) -> Sizes {
-    Sizes {
-        policy: len,
-        endorsements: 16,
-        endorser_signature: 65_000,
-        ..small()
-    }
-}
-
-fn with_label(len: usize) -> Sizes {
-    Sizes {
-        label: len,
-        ..small()
-    }
-}
-
-fn with_nonce(len: usize) -> Sizes {
-    Sizes {
-        nonce: len,
-        ..small()
-    }
-}
-
-fn with_policy(len: usize) -> Sizes {
-    Sizes {
-        policy: len,
-        ..small()
-    }
-}
-
-fn with_endorsements(count: usize) -> Sizes {
-    Sizes {
-        endorsements: count,
-        ..small()
-    }
-}
-
-fn with_endorser(label: usize, signature: usize) -> Sizes {
-    Sizes {
-        endorser_label: label,
-        endorser_signature: signature,
-        ..small()
-    }
-}
-
-fn with_signature(len: usize) -> Sizes {
-    Sizes {
-        signature: len,
-        ..small()
-    }
-}
-
-fn rows() -> [(Sizes, usize); 21] {
-    [
-        (small(), 3),
-        (with_label(255), 3),
-        (with_label(256), 0),
-        (with_nonce(255), 3),
-        (with_nonce(256), 0),
-        (with_policy(65_535), 3),
-        (with_policy(65_536), 0),
-        (with_endorsements(0), 3),
-        (with_endorsements(64), 3),
-        (with_endorsements(65), 1),
-        (with_endorser(255, 0), 3),
-        (with_endorser(256, 0), 1),
-        (with_endorser(0, 65_535), 3),
-        (with_endorser(0, 65_536), 1),
-        (with_signature(65_535), 3),
-        (with_signature(65_536), 2),
-        (of_policy(1_048_576 - 1_040_180), 3),
-        (of_policy(1_048_576 - 1_040_179), 2),
-        (of_policy(1_048_576 - 1_040_178), 2),
-        (of_policy(1_048_576 - 1_040_177), 1),
-        (of_policy(65_535), 1),
-    ]
+fn is_most_read(rt: &impl Abort, alloc: Global) -> Result<bool, EncodeFault> {
+    let sizes = sizes_with(Part::PolicyOfMany, 1_048_576 - 1_040_180);
+    let bytes = written(rt, alloc, &sizes)?;
+    Ok(are_most(alloc, bytes.as_slice())?)
 }
 
 #[test]
-fn each_part_at_its_limit(rt: HostRuntime) -> Result<(), Fail> {
-    for (row, (sizes, too_large_at)) in rows().iter().enumerate() {
+fn each_part_at_its_limit(rt: HostRuntime) -> Result<(), EncodeFault> {
+    for (row, &(part, size, too_large)) in rows().iter().enumerate() {
+        let sizes = sizes_with(part, size);
         assert!(rt;
-            is_as_said(&rt, rt.alloc(), sizes, *too_large_at)?,
+            are_as_said(&rt, rt.alloc(), &sizes, too_large.faults())?,
             "row {row}"
         );
     }
-    Ok(())
-}
-
-// An update of 1,048,576 bytes, the length of whose policy stands at 79.
-fn longest(rt: &impl Abort, alloc: Global) -> Result<Vec<u8>, AllocError> {
-    let filler = vec![in alloc; b'a'; 65_536]?;
-    let sizes = of_policy(1_048_576 - 1_040_180);
-    let update = with_sizes(rt, alloc, &filler, &sizes)?;
-    match encode_update(alloc, &update) {
-        Ok(bytes) => Ok(bytes.into_vec()),
-        Err(_) => Err(AllocError),
-    }
-}
-
-#[test]
-fn a_byte_over_the_limit_is_not_read(rt: HostRuntime) -> Result<(), Fail> {
-    let alloc = rt.alloc();
-    let mut bytes = longest(&rt, alloc)?;
-    assert!(rt; bytes.len() == 1_048_576);
-    assert!(rt; fault_of(alloc, &bytes).is_none());
-    // One byte more of the policy, which has 8,396.
-    bytes.insert(81, b'a')?;
-    assert!(rt; bytes[79] == 0x20 && bytes[80] == 0xcc);
-    bytes[80] = 0xcd;
-    assert!(rt; fault_of(alloc, &bytes) == Some(TxFault::Form));
+    assert!(rt; is_most_read(&rt, rt.alloc())?);
     Ok(())
 }

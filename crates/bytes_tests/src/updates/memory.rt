@@ -1,10 +1,8 @@
-use super::{decode_update, example, lens_of};
+use super::{EXAMPLE, decode_update, lens_of};
 use std::alloc::Global;
-use std::test::Fail;
 use transaction::{Item, SpelledItem, TxFault};
 
-// To be run with memory that is refused at any one call: the preparation then ends the test by `?`, and
-// what is tested answers the error, and as wanted when it is asked again.
+// To be run with memory that is refused at any one call: what is tested answers the error, and as wanted when it is asked again.
 
 fn decoded_at_last(alloc: Global, bytes: &[u8]) -> Result<SpelledItem<'_>, TxFault> {
     match decode_update(alloc, bytes) {
@@ -14,20 +12,26 @@ fn decoded_at_last(alloc: Global, bytes: &[u8]) -> Result<SpelledItem<'_>, TxFau
     }
 }
 
+fn are_all_there(lens: &[Option<usize>; 3]) -> bool {
+    matches!(lens, [Some(_), Some(_), Some(_)])
+}
+
 fn lens_at_last(item: &Item<'_>, alloc: Global, bytes: &[u8]) -> [Option<usize>; 3] {
     let lens = lens_of(item, alloc, bytes);
-    if lens.iter().all(|len| len.is_some()) {
+    if are_all_there(&lens) {
         lens
     } else {
         lens_of(item, alloc, bytes)
     }
 }
 
+fn lens_of_example(alloc: Global) -> Result<[Option<usize>; 3], TxFault> {
+    let spelled = decoded_at_last(alloc, EXAMPLE)?;
+    Ok(lens_at_last(spelled.item(), alloc, EXAMPLE))
+}
+
 #[test]
-fn updates_with_refused_memory(rt: HostRuntime) -> Result<(), Fail> {
-    let bytes = example(rt.alloc())?;
-    let spelled = decoded_at_last(rt.alloc(), &bytes)?;
-    let lens = lens_at_last(spelled.item(), rt.alloc(), &bytes);
-    assert!(rt; lens == [Some(100), Some(144), Some(178)]);
+fn updates_with_refused_memory(rt: HostRuntime) -> Result<(), TxFault> {
+    assert!(rt; lens_of_example(rt.alloc())? == [Some(100), Some(144), Some(178)]);
     Ok(())
 }

@@ -1,12 +1,10 @@
 //! Which items a block of either version has.
 
-use super::example;
-use crate::joined::joined;
+use super::{EXAMPLE, are_parts};
+use crate::fields::with_field;
 use crate::transactions;
-use std::alloc::{AllocError, Global};
-use std::process::Abort;
-use std::test::Fail;
-use transaction::{BlockVersion, Item, SpelledItem, TxFault, decode_item};
+use std::alloc::Global;
+use transaction::{BlockVersion, Item, TxFault, decode_item};
 
 // Whether the item that is read is an update.
 fn is_update(alloc: Global, version: BlockVersion, bytes: &[u8]) -> Result<bool, TxFault> {
@@ -16,56 +14,57 @@ fn is_update(alloc: Global, version: BlockVersion, bytes: &[u8]) -> Result<bool,
     }
 }
 
-fn in_both(alloc: Global, bytes: &[u8]) -> [Result<bool, TxFault>; 2] {
+// What is read in a block of version 1, and in one of version 2.
+type InBoth = [Result<bool, TxFault>; 2];
+
+fn in_both(alloc: Global, bytes: &[u8]) -> InBoth {
     [
         is_update(alloc, BlockVersion::V1, bytes),
         is_update(alloc, BlockVersion::V2, bytes),
     ]
 }
 
-fn of_example(alloc: Global) -> Result<[Result<bool, TxFault>; 2], AllocError> {
-    let bytes = example(alloc)?;
-    Ok(in_both(alloc, &bytes))
+const NONE: Result<bool, TxFault> = Err(TxFault::Form);
+
+// Bytes, how many are left out in front, what stands there in place of them, and what is read.
+type Row = (&'static [u8], usize, &'static [u8], InBoth);
+
+fn rows() -> &'static [Row] {
+    &ROWS
 }
 
-// The transaction's example behind these bytes.
-fn of_transaction(alloc: Global, front: &[u8]) -> Result<[Result<bool, TxFault>; 2], AllocError> {
-    let tx = transactions::example(alloc)?;
-    let bytes = joined(alloc, &[front, &tx])?;
-    Ok(in_both(alloc, &bytes))
+static ROWS: [Row; 6] = [
+    // The update, and the same without its mark.
+    (EXAMPLE, 0, b"", [NONE, Ok(true)]),
+    (EXAMPLE, 1, b"", [NONE, NONE]),
+    // The transaction, and the same behind a mark.
+    (transactions::EXAMPLE, 0, b"", [Ok(false), Ok(false)]),
+    (transactions::EXAMPLE, 0, b"\0", [NONE, NONE]),
+    // No bytes, and a mark alone.
+    (b"", 0, b"", [NONE, NONE]),
+    (b"", 0, b"\0", [NONE, NONE]),
+];
+
+fn is_as_said(alloc: Global, row: &Row) -> Result<bool, TxFault> {
+    let &(bytes, left_out, front, wanted) = row;
+    let bytes = with_field(alloc, bytes, 0, left_out, front)?;
+    Ok(in_both(alloc, &bytes) == wanted)
 }
 
-// The update's example without its first byte.
-fn of_unmarked(alloc: Global) -> Result<[Result<bool, TxFault>; 2], AllocError> {
-    let bytes = example(alloc)?;
-    Ok(in_both(alloc, bytes.get(1..).unwrap_or_default()))
+// In a block of either version.
+fn are_parts_of_transaction(alloc: Global, version: BlockVersion) -> Result<bool, TxFault> {
+    let bytes = transactions::EXAMPLE.as_slice();
+    let spelled = decode_item(alloc, version, bytes)?;
+    let creator = b"\x04Org1\x01\x02c0";
+    Ok(are_parts(&spelled, bytes.get(..122), bytes.get(..166), creator))
 }
 
 #[test]
-fn an_update_is_an_item_of_version_2_alone(rt: HostRuntime) -> Result<(), Fail> {
-    let alloc = rt.alloc();
-    let none = Err(TxFault::Form);
-    assert!(rt; of_example(alloc)? == [none, Ok(true)]);
-    assert!(rt; of_unmarked(alloc)? == [none, none]);
-    assert!(rt; of_transaction(alloc, b"")? == [Ok(false), Ok(false)]);
-    assert!(rt; of_transaction(alloc, b"\0")? == [none, none]);
-    assert!(rt; in_both(alloc, b"") == [none, none]);
-    assert!(rt; in_both(alloc, b"\0") == [none, none]);
-    Ok(())
-}
-
-fn expect_parts(rt: &impl Abort, spelled: &SpelledItem<'_>, bytes: &[u8]) {
-    assert!(rt; Some(spelled.body()) == bytes.get(..122));
-    assert!(rt; Some(spelled.creator_message()) == bytes.get(..166));
-    assert!(rt; spelled.creator_bytes() == b"\x04Org1\x01\x02c0".as_slice());
-}
-
-#[test]
-fn parts_of_a_transaction(rt: HostRuntime) -> Result<(), Fail> {
-    let bytes = transactions::example(rt.alloc())?;
-    for version in [BlockVersion::V1, BlockVersion::V2] {
-        let spelled = decode_item(rt.alloc(), version, &bytes)?;
-        expect_parts(&rt, &spelled, &bytes);
+fn items_of_both_versions(rt: HostRuntime) -> Result<(), TxFault> {
+    for (number, row) in rows().iter().enumerate() {
+        assert!(rt; is_as_said(rt.alloc(), row)?, "row {number}");
     }
+    assert!(rt; are_parts_of_transaction(rt.alloc(), BlockVersion::V1)?);
+    assert!(rt; are_parts_of_transaction(rt.alloc(), BlockVersion::V2)?);
     Ok(())
 }

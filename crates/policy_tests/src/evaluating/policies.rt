@@ -1,134 +1,138 @@
-use super::{ADMIN, P0, P1, endorsed, signers_of};
-use policy::Policy;
-use policy_eval::{Signers, assignment, satisfied};
-use std::alloc::{AllocError, Global};
-use std::test::Fail;
+use super::answers::{Answer, is_text_answered};
+use super::{endorsed, signers_of};
+use std::alloc::Global;
+use transaction::TxFault;
 
-const A: &[u8] = b"\x01A\x02\x01p";
+// An identity, and that its signature is good.
+type Endorsement = (&'static [u8], bool);
 
-const B: &[u8] = b"\x01B\x02\x01p";
+const P0: Endorsement = (super::P0, true);
 
-const C: &[u8] = b"\x01C\x02\x01p";
+const P1: Endorsement = (super::P1, true);
 
-const CLIENT: &[u8] = b"\x04Org1\x01\x01c";
+const ADMIN: Endorsement = (super::ADMIN, true);
 
-const ORDERER: &[u8] = b"\x04Org1\x03\x01o";
+const A: Endorsement = (b"\x01A\x02\x01p", true);
 
-// The bytes of a transaction that these identities endorsed.
-fn endorsed_by(alloc: Global, identities: &[&[u8]]) -> Result<Vec<u8>, AllocError> {
-    let mut endorsements = Vec::new(alloc);
-    for identity in identities {
-        endorsements.push((*identity, true))?;
-    }
-    endorsed(alloc, &endorsements)
+const B: Endorsement = (b"\x01B\x02\x01p", true);
+
+const C: Endorsement = (b"\x01C\x02\x01p", true);
+
+const CLIENT: Endorsement = (b"\x04Org1\x01\x01c", true);
+
+const ORDERER: Endorsement = (b"\x04Org1\x03\x01o", true);
+
+fn is_answered_by(
+    alloc: Global,
+    bytes: &[u8],
+    text: &str,
+    wanted: Answer,
+) -> Result<bool, TxFault> {
+    let signers = signers_of(alloc, bytes)?;
+    is_text_answered(alloc, text, &signers, wanted)
 }
 
-// Whether both calls answer so: with this assignment, or that there is none.
 fn is_answered(
     alloc: Global,
-    policy: &Policy,
-    signers: &Signers<'_>,
-    expected: Option<&[(u32, u32)]>,
-) -> Result<bool, AllocError> {
-    let assigned = assignment(alloc, policy, signers)?;
-    let assigned = assigned.as_ref().map(|pairs| pairs.as_slice());
-    Ok(satisfied(policy, signers) == expected.is_some() && assigned == expected)
+    endorsements: &[Endorsement],
+    text: &str,
+    wanted: Answer,
+) -> Result<bool, TxFault> {
+    let bytes = endorsed(alloc, endorsements)?;
+    is_answered_by(alloc, &bytes, text, wanted)
 }
 
-fn holding() -> &'static [(
-    &'static str,
-    &'static [&'static [u8]],
-    &'static [(u32, u32)],
-)] {
-    &HOLDING
+fn answers() -> &'static [(&'static str, &'static [Endorsement], Answer)] {
+    &ANSWERS
 }
 
-static HOLDING: [(&str, &[&[u8]], &[(u32, u32)]); 11] = [
-    ("AND('Org1.peer','Org1.peer')", &[P0, P1], &[(0, 0), (1, 1)]),
+static ANSWERS: [(&str, &[Endorsement], Answer); 20] = [
+    // Policies that hold.
+    (
+        "AND('Org1.peer','Org1.peer')",
+        &[P0, P1],
+        Answer::Pairs(&[(0, 0), (1, 1)]),
+    ),
     (
         "AND('Org1.member','Org1.admin')",
         &[P0, ADMIN],
-        &[(0, 0), (1, 1)],
+        Answer::Pairs(&[(0, 0), (1, 1)]),
     ),
     (
         "OR(AND('Org1.peer','Org2.peer'),'Org1.peer')",
         &[P0],
-        &[(2, 0)],
+        Answer::Pairs(&[(2, 0)]),
     ),
     (
         "OutOf(2,AND('A.peer','C.peer','B.peer'),'A.peer','C.peer')",
         &[A, C],
-        &[(3, 0), (4, 1)],
+        Answer::Pairs(&[(3, 0), (4, 1)]),
     ),
     (
         "AND('Org1.client','Org1.orderer')",
         &[ORDERER, P0, CLIENT],
-        &[(0, 2), (1, 0)],
+        Answer::Pairs(&[(0, 2), (1, 0)]),
     ),
-    ("'Org1.member'", &[A, ORDERER, P0], &[(0, 1)]),
-    ("OR('A.peer','B.peer')", &[B, A], &[(0, 1), (1, 0)]),
-    ("OR('A.peer','B.peer')", &[B], &[(1, 0)]),
+    ("'Org1.member'", &[A, ORDERER, P0], Answer::Pairs(&[(0, 1)])),
+    (
+        "OR('A.peer','B.peer')",
+        &[B, A],
+        Answer::Pairs(&[(0, 1), (1, 0)]),
+    ),
+    ("OR('A.peer','B.peer')", &[B], Answer::Pairs(&[(1, 0)])),
     (
         "AND('A.peer','B.peer','C.peer')",
         &[C, B, A],
-        &[(0, 2), (1, 1), (2, 0)],
+        Answer::Pairs(&[(0, 2), (1, 1), (2, 0)]),
     ),
     // The gate in the middle takes p1 and gives it back.
     (
         "OutOf(2,'Org1.peer',AND('Org1.peer','Org2.peer'),'Org1.peer')",
         &[P0, P1],
-        &[(0, 0), (3, 1)],
+        Answer::Pairs(&[(0, 0), (3, 1)]),
     ),
     // The inner gate holds, and lies in one that fails.
     (
         "OR(AND(OR('Org1.peer'),'Org2.peer'),'Org1.peer')",
         &[P0],
-        &[(2, 0)],
+        Answer::Pairs(&[(2, 0)]),
     ),
-];
-
-#[test]
-fn policies_that_hold(rt: HostRuntime) -> Result<(), Fail> {
-    let alloc = rt.alloc();
-    for (text, identities, expected) in holding() {
-        let policy = Policy::parse(alloc, text)?;
-        let bytes = endorsed_by(alloc, identities)?;
-        let signers = signers_of(alloc, &bytes)?;
-        assert!(rt;
-            is_answered(alloc, &policy, &signers, Some(*expected))?,
-            "{text}"
-        );
-    }
-    Ok(())
-}
-
-fn failing() -> &'static [(&'static str, &'static [&'static [u8]])] {
-    &FAILING
-}
-
-static FAILING: [(&str, &[&[u8]]); 9] = [
-    ("AND('Org1.peer','Org1.peer')", &[P0]),
-    ("AND('Org1.peer','Org1.peer')", &[P0, P0]),
-    ("AND('Org1.member','Org1.admin')", &[ADMIN, P0]),
-    ("AND(OR('Org1.peer','Org1.peer'),'Org1.peer')", &[P0, P1]),
+    // Policies that fail.
+    ("AND('Org1.peer','Org1.peer')", &[P0], Answer::Refused),
+    ("AND('Org1.peer','Org1.peer')", &[P0, P0], Answer::Refused),
+    (
+        "AND('Org1.member','Org1.admin')",
+        &[ADMIN, P0],
+        Answer::Refused,
+    ),
+    (
+        "AND(OR('Org1.peer','Org1.peer'),'Org1.peer')",
+        &[P0, P1],
+        Answer::Refused,
+    ),
     (
         "OutOf(2,AND('A.peer','C.peer','B.peer'),'A.peer','C.peer')",
         &[A, C, B],
+        Answer::Refused,
     ),
-    ("'Org1.peer'", &[]),
-    ("'Org1.peer'", &[ADMIN, CLIENT, ORDERER, A]),
-    ("'Org.peer'", &[P0]),
-    ("OutOf(2,'A.peer','B.peer','C.peer')", &[B, P0, P1]),
+    ("'Org1.peer'", &[], Answer::Refused),
+    ("'Org1.peer'", &[ADMIN, CLIENT, ORDERER, A], Answer::Refused),
+    ("'Org.peer'", &[P0], Answer::Refused),
+    (
+        "OutOf(2,'A.peer','B.peer','C.peer')",
+        &[B, P0, P1],
+        Answer::Refused,
+    ),
 ];
 
+// To be run with memory, too, that is refused at any one call, as the tests of signers.
 #[test]
-fn policies_that_fail(rt: HostRuntime) -> Result<(), Fail> {
-    let alloc = rt.alloc();
-    for (text, identities) in failing() {
-        let policy = Policy::parse(alloc, text)?;
-        let bytes = endorsed_by(alloc, identities)?;
-        let signers = signers_of(alloc, &bytes)?;
-        assert!(rt; is_answered(alloc, &policy, &signers, None)?, "{text}");
+fn policies_that_hold_and_policies_that_fail(rt: HostRuntime) -> Result<(), TxFault> {
+    for (row, &(text, endorsements, wanted)) in answers().iter().enumerate() {
+        assert!(rt;
+            is_answered(rt.alloc(), endorsements, text, wanted)?,
+            "row {row}"
+        );
     }
     Ok(())
 }

@@ -1,5 +1,7 @@
-use super::{ADMIN, P0, P1, endorsed, signers_of, spellings};
-use std::test::Fail;
+use super::updates::{have_signed_item, update_body};
+use super::{ADMIN, P0, P1, are_spelled, body, endorsed, signers_of};
+use std::alloc::Global;
+use transaction::TxFault;
 
 // As P0, but for the organization, the role or the label.
 const ORG2: &[u8] = b"\x04Org2\x02\x02p0";
@@ -8,11 +10,11 @@ const CLIENT: &[u8] = b"\x04Org1\x01\x02p0";
 
 const UNNAMED: &[u8] = b"\x04Org1\x02\0";
 
-pub(super) fn signed() -> &'static [(&'static [(&'static [u8], bool)], &'static [u8])] {
+fn signed() -> &'static [(&'static [(&'static [u8], bool)], &'static [u8])] {
     &SIGNED
 }
 
-static SIGNED: [(&[(&[u8], bool)], &[u8]); 9] = [
+static SIGNED: [(&[(&[u8], bool)], &[u8]); 11] = [
     (&[], b""),
     (&[(P0, true)], P0),
     (&[(P0, false)], b""),
@@ -31,28 +33,60 @@ static SIGNED: [(&[(&[u8], bool)], &[u8]); 9] = [
         b"\x04Org1\x02\x02p0\x04Org2\x02\x02p0\x04Org1\x01\x02p0\x04Org1\x02\0",
     ),
     (&[(ADMIN, false), (P1, true), (P1, false)], P1),
+    (
+        &[(P0, true), (P1, false), (P1, true)],
+        b"\x04Org1\x02\x02p0\x04Org1\x02\x02p1",
+    ),
+    (
+        &[(P0, true), (P1, true)],
+        b"\x04Org1\x02\x02p0\x04Org1\x02\x02p1",
+    ),
 ];
 
-#[test]
-fn who_signed(rt: HostRuntime) -> Result<(), Fail> {
-    let alloc = rt.alloc();
-    for (endorsements, expected) in signed() {
-        let bytes = endorsed(alloc, endorsements)?;
-        let signers = signers_of(alloc, &bytes)?;
-        assert!(rt; spellings(alloc, &signers)?.as_slice() == *expected);
-    }
-    Ok(())
+fn are_signers(alloc: Global, bytes: &[u8], wanted: &[u8]) -> Result<bool, TxFault> {
+    let signers = signers_of(alloc, bytes)?;
+    are_spelled(alloc, &signers, wanted)
 }
 
-#[test]
-fn refused_63_times(rt: HostRuntime) -> Result<(), Fail> {
-    let alloc = rt.alloc();
+fn have_signed(
+    alloc: Global,
+    endorsements: &[(&[u8], bool)],
+    wanted: &[u8],
+) -> Result<bool, TxFault> {
+    let bytes = endorsed(alloc, endorsements)?;
+    are_signers(alloc, &bytes, wanted)
+}
+
+// The same of the two forms of an item.
+fn have_signed_each(
+    alloc: Global,
+    endorsements: &[(&[u8], bool)],
+    wanted: &[u8],
+) -> Result<bool, TxFault> {
+    let is_so = have_signed(alloc, endorsements, wanted)?;
+    let is_so_of_tx = have_signed_item(alloc, body(), endorsements, wanted)?;
+    let is_so_of_update = have_signed_item(alloc, update_body(), endorsements, wanted)?;
+    Ok(is_so && is_so_of_tx && is_so_of_update)
+}
+
+// Whether these have signed where the last of 64 signatures is as given, and those before it are refused.
+fn have_signed_at_last(alloc: Global, is_good: bool, wanted: &[u8]) -> Result<bool, TxFault> {
     let mut endorsements = [(P0, false); 64];
-    let bytes = endorsed(alloc, &endorsements)?;
-    assert!(rt; signers_of(alloc, &bytes)?.is_empty());
-    endorsements[63] = (P0, true);
-    let bytes = endorsed(alloc, &endorsements)?;
-    let signers = signers_of(alloc, &bytes)?;
-    assert!(rt; spellings(alloc, &signers)?.as_slice() == P0);
+    endorsements[63] = (P0, is_good);
+    have_signed(alloc, &endorsements, wanted)
+}
+
+// To be run with memory, too, that is refused at any one call: the preparation then ends the test by `?`, and
+// what is tested answers the error, and as wanted when it is asked again.
+#[test]
+fn who_signed(rt: HostRuntime) -> Result<(), TxFault> {
+    for (row, &(endorsements, wanted)) in signed().iter().enumerate() {
+        assert!(rt;
+            have_signed_each(rt.alloc(), endorsements, wanted)?,
+            "row {row}"
+        );
+    }
+    assert!(rt; have_signed_at_last(rt.alloc(), false, b"")?);
+    assert!(rt; have_signed_at_last(rt.alloc(), true, P0)?);
     Ok(())
 }

@@ -1,20 +1,21 @@
 //! Who signed an update, and what its creator signs.
 
-use super::signing::signed;
-use super::{ADMIN, Echo, P0, P1, body, endorsed_body, push_counted, signature, spellings};
+use super::{
+    ADMIN, BODY, Echo, P0, P1, are_spelled, body, endorsed_body, push_counted, push_endorsement,
+};
 use policy_eval::{Signers, Verify, signers, update_signers};
 use std::alloc::{AllocError, Global};
-use std::process::Abort;
-use std::test::Fail;
 use transaction::{BlockVersion, Item, SpelledItem, TxFault, decode_item};
 
-// Channel `ch`, creator `Org1:admin:a`, nonce `n2`, namespace `cc`, policy `OR('Org2.peer')`.
-fn update_body(alloc: Global) -> Result<Vec<u8>, AllocError> {
-    let mut bytes = Vec::from_slice(alloc, b"\0\x02ch")?;
-    bytes.extend_from_slice(&[5; 64])?;
-    bytes.extend_from_slice(b"\x04Org1\0\x01a\x02n2\x02cc\0\x0fOR('Org2.peer')")?;
-    Ok(bytes)
+pub(super) fn update_body() -> &'static [u8] {
+    UPDATE
 }
+
+// Channel `ch`, creator `Org1:admin:a`, nonce `n2`, namespace `cc`, policy `OR('Org2.peer')`.
+const UPDATE: &[u8] = b"\0\x02ch\
+    \x05\x05\x05\x05\x05\x05\x05\x05\x05\x05\x05\x05\x05\x05\x05\x05\x05\x05\x05\x05\x05\x05\x05\x05\x05\x05\x05\x05\x05\x05\x05\x05\
+    \x05\x05\x05\x05\x05\x05\x05\x05\x05\x05\x05\x05\x05\x05\x05\x05\x05\x05\x05\x05\x05\x05\x05\x05\x05\x05\x05\x05\x05\x05\x05\x05\
+    \x04Org1\0\x01a\x02n2\x02cc\0\x0fOR('Org2.peer')";
 
 fn signers_of_item<'a>(
     alloc: Global,
@@ -26,14 +27,26 @@ fn signers_of_item<'a>(
     }
 }
 
-// The signers of the item of these bytes, and their bytes one after another.
-fn spelled_signers(alloc: Global, bytes: &[u8]) -> Result<Vec<u8>, TxFault> {
-    let spelled = decode_item(alloc, BlockVersion::V2, bytes)?;
-    let signers = signers_of_item(alloc, &spelled)?;
-    match spellings(alloc, &signers) {
-        Ok(bytes) => Ok(bytes),
-        Err(_) => Err(TxFault::Memory),
+// Asked again where memory is refused.
+fn signers_at_last<'a>(
+    alloc: Global,
+    spelled: &SpelledItem<'a>,
+) -> Result<Signers<'a>, AllocError> {
+    match signers_of_item(alloc, spelled) {
+        Ok(found) => Ok(found),
+        Err(AllocError) => signers_of_item(alloc, spelled),
     }
+}
+
+fn are_signers(alloc: Global, spelled: &SpelledItem<'_>, wanted: &[u8]) -> Result<bool, TxFault> {
+    let signers = signers_at_last(alloc, spelled)?;
+    are_spelled(alloc, &signers, wanted)
+}
+
+// Whether the signers of the item of these bytes are these, one after another.
+fn are_signers_of(alloc: Global, bytes: &[u8], wanted: &[u8]) -> Result<bool, TxFault> {
+    let spelled = decode_item(alloc, BlockVersion::V2, bytes)?;
+    are_signers(alloc, &spelled, wanted)
 }
 
 // The bytes of an item of this body with these endorsers, whose creator signs all before its signature.
@@ -48,57 +61,66 @@ fn signed_item(
     Ok(bytes)
 }
 
-fn expect_signers(rt: &impl Abort, alloc: Global, body: &[u8]) -> Result<(), TxFault> {
-    for (endorsements, expected) in signed() {
-        let bytes = signed_item(alloc, body, endorsements)?;
-        assert!(rt; spelled_signers(alloc, &bytes)?.as_slice() == *expected);
-    }
-    Ok(())
+// Whether these have signed the item of this body.
+pub(super) fn have_signed_item(
+    alloc: Global,
+    body: &[u8],
+    endorsements: &[(&[u8], bool)],
+    wanted: &[u8],
+) -> Result<bool, TxFault> {
+    let bytes = signed_item(alloc, body, endorsements)?;
+    are_signers_of(alloc, &bytes, wanted)
 }
 
-#[test]
-fn who_signed_an_item(rt: HostRuntime) -> Result<(), Fail> {
-    let alloc = rt.alloc();
-    expect_signers(&rt, alloc, &body(alloc)?)?;
-    expect_signers(&rt, alloc, &update_body(alloc)?)?;
-    Ok(())
-}
-
-// The update with P0's endorsement by this signature.
-fn endorsed_by_p0(alloc: Global, signature: &[u8]) -> Result<Vec<u8>, AllocError> {
-    let mut bytes = update_body(alloc)?;
+// One endorsement of P0, by a signature of these bytes and of this identity's.
+fn push_endorsement_of_p0(
+    alloc: Global,
+    bytes: &mut Vec<u8>,
+    front: &[u8],
+    identity: &[u8],
+) -> Result<(), AllocError> {
     bytes.push(1)?;
-    bytes.extend_from_slice(P0)?;
-    push_counted(&mut bytes, signature)?;
-    push_counted(&mut bytes, b"")?;
-    Ok(bytes)
+    push_endorsement(alloc, bytes, P0, front, identity)?;
+    push_counted(bytes, b"")
 }
 
-// Whether P0 is a signer of the update by a signature of these bytes, and of this identity's behind them.
+// Whether P0 is a signer of the update by such a signature.
 fn is_signer_by(alloc: Global, front: &[u8], identity: &[u8]) -> Result<bool, TxFault> {
-    let signature = signature(alloc, front, identity, true)?;
-    let bytes = endorsed_by_p0(alloc, &signature)?;
-    Ok(spelled_signers(alloc, &bytes)?.as_slice() == P0)
+    let mut bytes = Vec::from_slice(alloc, update_body())?;
+    push_endorsement_of_p0(alloc, &mut bytes, front, identity)?;
+    are_signers_of(alloc, &bytes, P0)
 }
 
-// With P0's bytes behind, P1's, and none.
-fn are_signers_by(alloc: Global, front: &[u8]) -> Result<[bool; 3], TxFault> {
-    Ok([
-        is_signer_by(alloc, front, P0)?,
-        is_signer_by(alloc, front, P1)?,
-        is_signer_by(alloc, front, b"")?,
-    ])
+// A body, how many of its first bytes are left out, the identity, and whether P0 is a signer by them.
+fn parts() -> &'static [(&'static [u8], usize, &'static [u8], bool)] {
+    &PARTS
 }
+
+static PARTS: [(&[u8], usize, &[u8], bool); 12] = [
+    (UPDATE, 0, P0, true),
+    (UPDATE, 0, P1, false),
+    (UPDATE, 0, b"", false),
+    (UPDATE, 1, P0, false),
+    (UPDATE, 1, P1, false),
+    (UPDATE, 1, b"", false),
+    (b"", 0, P0, false),
+    (b"", 0, P1, false),
+    (b"", 0, b"", false),
+    // A transaction's.
+    (BODY, 0, P0, false),
+    (BODY, 0, P1, false),
+    (BODY, 0, b"", false),
+];
 
 #[test]
-fn an_endorser_signs_the_body_and_its_own_bytes(rt: HostRuntime) -> Result<(), Fail> {
-    let alloc = rt.alloc();
-    let update = update_body(alloc)?;
-    assert!(rt; are_signers_by(alloc, &update)? == [true, false, false]);
-    // Without its first byte, nothing, and a transaction's.
-    assert!(rt; are_signers_by(alloc, update.get(1..).unwrap_or_default())? == [false; 3]);
-    assert!(rt; are_signers_by(alloc, b"")? == [false; 3]);
-    assert!(rt; are_signers_by(alloc, &body(alloc)?)? == [false; 3]);
+fn an_endorser_signs_the_body_and_its_own_bytes(rt: HostRuntime) -> Result<(), TxFault> {
+    for (row, &(body, skipped, identity, is_signer)) in parts().iter().enumerate() {
+        let front = body.get(skipped..).unwrap_or_default();
+        assert!(rt;
+            is_signer_by(rt.alloc(), front, identity)? == is_signer,
+            "row {row}"
+        );
+    }
     Ok(())
 }
 
@@ -118,44 +140,32 @@ fn is_signed_by_creator(alloc: Global, bytes: &[u8]) -> Result<bool, TxFault> {
     Ok(is_creators(&spelled))
 }
 
-fn expect_creator(rt: &impl Abort, alloc: Global, body: &[u8]) -> Result<(), TxFault> {
-    let endorsements = [(P0, true), (ADMIN, false)];
-    let mut bytes = signed_item(alloc, body, &endorsements)?;
-    assert!(rt; is_signed_by_creator(alloc, &bytes)?);
-    // Another id, which the signature isn't over.
-    assert!(rt; bytes.len() > 70 && bytes[10] == 5);
-    bytes[10] = 6;
-    assert!(rt; !is_signed_by_creator(alloc, &bytes)?);
-    Ok(())
-}
-
-#[test]
-fn a_creator_signs_all_before_its_signature(rt: HostRuntime) -> Result<(), Fail> {
-    let alloc = rt.alloc();
-    expect_creator(&rt, alloc, &body(alloc)?)?;
-    expect_creator(&rt, alloc, &update_body(alloc)?)?;
-    Ok(())
-}
-
-// As the tests of memory say.
-fn update_signers_at_last<'a>(
-    alloc: Global,
-    spelled: &SpelledItem<'a>,
-) -> Result<Signers<'a>, AllocError> {
-    match signers_of_item(alloc, spelled) {
-        Ok(found) => Ok(found),
-        Err(AllocError) => signers_of_item(alloc, spelled),
+// Puts this byte into the id, and answers whether it took the place of the id's own.
+fn put_into_id(bytes: &mut [u8], new: u8) -> bool {
+    match bytes.get_mut(10) {
+        Some(byte) => {
+            let was_of_id = *byte == 5;
+            *byte = new;
+            was_of_id
+        }
+        None => false,
     }
 }
 
+// Whether the creator's signature is one for the id with this byte in it, which is a 5 where it signs.
+fn is_signed_for(alloc: Global, body: &[u8], id_byte: u8) -> Result<Option<bool>, TxFault> {
+    let mut bytes = signed_item(alloc, body, &[(P0, true), (ADMIN, false)])?;
+    if !put_into_id(&mut bytes, id_byte) {
+        return Ok(None);
+    }
+    Ok(Some(is_signed_by_creator(alloc, &bytes)?))
+}
+
 #[test]
-fn update_signers_with_refused_memory(rt: HostRuntime) -> Result<(), Fail> {
-    let alloc = rt.alloc();
-    let bytes = signed_item(alloc, &update_body(alloc)?, &[(P0, true), (P1, true)])?;
-    let spelled = decode_item(alloc, BlockVersion::V2, &bytes)?;
-    let found = update_signers_at_last(alloc, &spelled)?;
-    assert!(rt;
-        spellings(alloc, &found)?.as_slice() == b"\x04Org1\x02\x02p0\x04Org1\x02\x02p1".as_slice()
-    );
+fn a_creator_signs_all_before_its_signature(rt: HostRuntime) -> Result<(), TxFault> {
+    assert!(rt; is_signed_for(rt.alloc(), body(), 5)? == Some(true));
+    assert!(rt; is_signed_for(rt.alloc(), body(), 6)? == Some(false));
+    assert!(rt; is_signed_for(rt.alloc(), update_body(), 5)? == Some(true));
+    assert!(rt; is_signed_for(rt.alloc(), update_body(), 6)? == Some(false));
     Ok(())
 }

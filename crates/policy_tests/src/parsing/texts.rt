@@ -1,6 +1,5 @@
 use policy::{Expression, Node, Policy, PolicyFault, PolicyRole, one_reading};
 use std::alloc::Global;
-use std::test::Fail;
 
 // A text, and the canonical text of what it spells.
 fn spelled() -> &'static [(&'static str, &'static str)] {
@@ -79,13 +78,21 @@ static SPELLED: [(&str, &str); 34] = [
     ("AND( OR( 'A.peer' ) )", "OR(OR('A.peer'))"),
 ];
 
-fn is_text(alloc: Global, text: &str, canonical: &str) -> Result<bool, PolicyFault> {
-    let policy = Policy::parse(alloc, text)?;
+pub(super) fn has_text(
+    alloc: Global,
+    policy: &Policy,
+    canonical: &str,
+) -> Result<bool, PolicyFault> {
     Ok(policy.text(alloc)?.as_str() == canonical)
 }
 
+pub(super) fn is_text(alloc: Global, text: &str, canonical: &str) -> Result<bool, PolicyFault> {
+    let policy = Policy::parse(alloc, text)?;
+    has_text(alloc, &policy, canonical)
+}
+
 #[test]
-fn texts_and_canonical_texts(rt: HostRuntime) -> Result<(), Fail> {
+fn texts_and_canonical_texts(rt: HostRuntime) -> Result<(), PolicyFault> {
     for &(text, canonical) in spelled() {
         assert!(rt; is_text(rt.alloc(), text, canonical)?, "{text}");
         assert!(rt; is_text(rt.alloc(), canonical, canonical)?, "{canonical}");
@@ -101,30 +108,41 @@ fn gate_of(expression: &Expression) -> Option<(u16, usize)> {
     }
 }
 
-#[test]
-fn a_copy_has_the_same_tree(rt: HostRuntime) -> Result<(), Fail> {
-    let alloc = rt.alloc();
-    one_reading();
-    let policy = Policy::parse(
-        alloc,
-        "OutOf(2,'A.peer',AND('B.admin','C.client'),'D.member')",
-    )?;
-    assert!(rt; gate_of(policy.root()) == Some((2, 3)));
+const NESTED: &str = "OutOf(2,'A.peer',AND('B.admin','C.client'),'D.member')";
+
+fn is_copied(alloc: Global, policy: &Policy) -> Result<bool, PolicyFault> {
     let copied = policy.copy(alloc)?;
-    let text = copied.text(alloc)?;
-    assert!(rt; text.as_str() == "OutOf(2,'A.peer',AND('B.admin','C.client'),'D.member')");
-    Ok(())
+    has_text(alloc, &copied, NESTED)
+}
+
+fn has_copy_and_gate(alloc: Global) -> Result<bool, PolicyFault> {
+    let policy = Policy::parse(alloc, NESTED)?;
+    Ok(gate_of(policy.root()) == Some((2, 3)) && is_copied(alloc, &policy)?)
+}
+
+fn is_signed_by(expression: &Expression, org: &[u8], role: PolicyRole) -> bool {
+    match &expression.node {
+        Node::Signed(principal) => principal.org.as_slice() == org && principal.role == role,
+        Node::Gate { .. } => false,
+    }
+}
+
+fn is_principal(
+    alloc: Global,
+    text: &str,
+    org: &[u8],
+    role: PolicyRole,
+) -> Result<bool, PolicyFault> {
+    let policy = Policy::parse(alloc, text)?;
+    Ok(is_signed_by(policy.root(), org, role))
 }
 
 #[test]
-fn a_principal_is_an_organization_and_a_role(rt: HostRuntime) -> Result<(), Fail> {
-    let alloc = rt.alloc();
-    let policy = Policy::parse(alloc, "'a.b.admin'")?;
-    if let Node::Signed(principal) = &policy.root().node {
-        assert!(rt; principal.org.as_slice() == b"a.b".as_slice());
-        assert!(rt; principal.role == PolicyRole::Admin);
-    } else {
-        assert!(rt; false);
-    }
+fn a_copy_has_the_same_tree_and_a_principal_an_organization_and_a_role(
+    rt: HostRuntime,
+) -> Result<(), PolicyFault> {
+    one_reading();
+    assert!(rt; has_copy_and_gate(rt.alloc())?);
+    assert!(rt; is_principal(rt.alloc(), "'a.b.admin'", b"a.b", PolicyRole::Admin)?);
     Ok(())
 }

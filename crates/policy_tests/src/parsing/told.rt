@@ -1,5 +1,5 @@
 use policy::PolicyFault;
-use std::test::Fail;
+use std::alloc::{AllocError, Global};
 
 fn told() -> &'static [(PolicyFault, &'static str)] {
     &TOLD
@@ -29,11 +29,15 @@ static TOLD: [(PolicyFault, &str); 6] = [
     (PolicyFault::Memory, "out of memory"),
 ];
 
+fn is_told(alloc: Global, fault: PolicyFault, text: &str) -> Result<bool, AllocError> {
+    let told = format!(in alloc; "{fault}")?;
+    Ok(told.as_str() == text)
+}
+
 #[test]
-fn each_fault_is_told(rt: HostRuntime) -> Result<(), Fail> {
-    for (fault, text) in told() {
-        let told = format!(in rt.alloc(); "{fault}")?;
-        assert!(rt; told.as_str() == *text);
+fn each_fault_is_told(rt: HostRuntime) -> Result<(), AllocError> {
+    for &(fault, text) in told() {
+        assert!(rt; is_told(rt.alloc(), fault, text)?, "{text}");
     }
     Ok(())
 }

@@ -1,0 +1,59 @@
+//! Bytes with a field in place of some of theirs.
+
+use std::alloc::{AllocError, Global};
+use transaction::TxFault;
+
+#[derive(Clone, Copy)]
+pub enum Field {
+    /// These bytes.
+    Is(&'static [u8]),
+    /// A front, a unit so many times, and a back.
+    Long(&'static [u8], &'static [u8], usize, &'static [u8]),
+}
+
+/// A field in place of the bytes from one place to before another, and whether they are good with it.
+pub type Change = (usize, usize, Field, bool);
+
+impl Field {
+    fn parts(&self) -> (&'static [u8], &'static [u8], usize, &'static [u8]) {
+        match *self {
+            Field::Is(bytes) => (bytes, b"", 0, b""),
+            Field::Long(front, unit, times, back) => (front, unit, times, back),
+        }
+    }
+
+    pub fn bytes(&self, alloc: Global) -> Result<Vec<u8>, AllocError> {
+        let (front, unit, times, back) = self.parts();
+        let middle = unit.repeat(alloc, times)?;
+        joined(alloc, &[front, &middle, back])
+    }
+}
+
+fn joined(alloc: Global, parts: &[&[u8]]) -> Result<Vec<u8>, AllocError> {
+    parts.concat(alloc)
+}
+
+/// The bytes with a field in place of those from one place to before another.
+pub fn with_field(
+    alloc: Global,
+    bytes: &[u8],
+    from: usize,
+    to: usize,
+    field: &[u8],
+) -> Result<Vec<u8>, AllocError> {
+    let head = bytes.get(..from).unwrap_or_default();
+    let tail = bytes.get(to..).unwrap_or_default();
+    joined(alloc, &[head, field, tail])
+}
+
+/// The bytes with the change's field.
+pub fn changed(alloc: Global, bytes: &[u8], change: &Change) -> Result<Vec<u8>, AllocError> {
+    let &(from, to, field, _) = change;
+    let field = field.bytes(alloc)?;
+    with_field(alloc, bytes, from, to, &field)
+}
+
+/// The fault of bytes that are good, or aren't.
+pub fn fault_unless(good: bool) -> Option<TxFault> {
+    if good { None } else { Some(TxFault::Form) }
+}

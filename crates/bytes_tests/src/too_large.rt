@@ -1,0 +1,26 @@
+//! What keeps a body, what is signed of it, and the whole from being written.
+
+use transaction::EncodeFault;
+
+pub type Faults = [Option<EncodeFault>; 3];
+
+/// The first that is too large; so is what it stands in.
+#[derive(Clone, Copy)]
+pub enum TooLarge {
+    Nothing,
+    Body,
+    Signed,
+    Whole,
+}
+
+impl TooLarge {
+    pub fn faults(self) -> Faults {
+        let fault = Some(EncodeFault::TooLarge);
+        match self {
+            TooLarge::Nothing => [None, None, None],
+            TooLarge::Body => [fault, fault, fault],
+            TooLarge::Signed => [None, fault, fault],
+            TooLarge::Whole => [None, None, fault],
+        }
+    }
+}
