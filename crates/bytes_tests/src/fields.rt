@@ -1,7 +1,6 @@
 //! Bytes with a field in place of some of theirs.
 
 use std::alloc::{AllocError, Global};
-use transaction::TxFault;
 
 #[derive(Clone, Copy)]
 pub enum Field {
@@ -10,9 +9,6 @@ pub enum Field {
     /// A front, a unit so many times, and a back.
     Long(&'static [u8], &'static [u8], usize, &'static [u8]),
 }
-
-/// A field in place of the bytes from one place to before another, and whether they are good with it.
-pub type Change = (usize, usize, Field, bool);
 
 impl Field {
     fn parts(&self) -> (&'static [u8], &'static [u8], usize, &'static [u8]) {
@@ -44,16 +40,4 @@ pub fn with_field(
     let head = bytes.get(..from).unwrap_or_default();
     let tail = bytes.get(to..).unwrap_or_default();
     joined(alloc, &[head, field, tail])
-}
-
-/// The bytes with the change's field.
-pub fn changed(alloc: Global, bytes: &[u8], change: &Change) -> Result<Vec<u8>, AllocError> {
-    let &(from, to, field, _) = change;
-    let field = field.bytes(alloc)?;
-    with_field(alloc, bytes, from, to, &field)
-}
-
-/// The fault of bytes that are good, or aren't.
-pub fn fault_unless(good: bool) -> Option<TxFault> {
-    if good { None } else { Some(TxFault::Form) }
 }

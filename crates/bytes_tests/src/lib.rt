@@ -4,6 +4,8 @@
 #[cfg(test)]
 mod blocks;
 #[cfg(test)]
+mod changes;
+#[cfg(test)]
 mod fields;
 #[cfg(test)]
 mod header_hashes;

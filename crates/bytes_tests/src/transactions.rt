@@ -39,10 +39,6 @@ fn example() -> &'static [u8] {
     EXAMPLE
 }
 
-fn fault_of(alloc: Global, bytes: &[u8]) -> Option<TxFault> {
-    decode_tx(alloc, bytes).err()
-}
-
 // How long what was written is, where it is a beginning of the bytes.
 pub(crate) fn beginning(written: Result<Bytes, EncodeFault>, bytes: &[u8]) -> Option<usize> {
     match written {

@@ -1,21 +1,9 @@
 //! What the bytes of a transaction can't be.
 
-use super::{example, fault_of};
+use super::example;
+use crate::changes::{Change, Kind, first_unlike_cut, is_as_said};
 use crate::fields::Field::{Is, Long};
-use crate::fields::{Change, changed, fault_unless};
-use std::alloc::{AllocError, Global};
-use transaction::TxFault;
-
-// The first length to which the example is cut that has another fault than its form.
-fn first_unlike_cut(alloc: Global, whole: &[u8]) -> Option<usize> {
-    for len in 0..whole.len() {
-        let bytes = whole.get(..len).unwrap_or_default();
-        if fault_of(alloc, bytes) != Some(TxFault::Form) {
-            return Some(len);
-        }
-    }
-    None
-}
+use std::alloc::AllocError;
 
 fn changes() -> &'static [Change] {
     &CHANGES
@@ -101,16 +89,14 @@ static CHANGES: [Change; 35] = [
     (122, 166, Long(b"\x41", b"\x01O\x02\0\0\0", 65, b""), false),
 ];
 
-fn is_as_said(alloc: Global, change: &Change) -> Result<bool, AllocError> {
-    let bytes = changed(alloc, example(), change)?;
-    Ok(fault_of(alloc, &bytes) == fault_unless(change.3))
-}
-
 #[test]
 fn cut_lengthened_and_changed(rt: HostRuntime) -> Result<(), AllocError> {
-    assert!(rt; first_unlike_cut(rt.alloc(), example()) == None);
+    assert!(rt; first_unlike_cut(rt.alloc(), Kind::Tx, example()) == None);
     for (number, change) in changes().iter().enumerate() {
-        assert!(rt; is_as_said(rt.alloc(), change)?, "row {number}");
+        assert!(rt;
+            is_as_said(rt.alloc(), Kind::Tx, example(), change)?,
+            "row {number}"
+        );
     }
     Ok(())
 }
