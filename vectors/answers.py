@@ -10,6 +10,11 @@ def accepted(world, number):
     return " ".join(["accepted", str(number), header_hash.hex(), *map(str, flags)]) + "\n"
 
 
+def committed(world, number):
+    """The line behind it where commit hashes are asked for."""
+    return f"commit {number} {world.commit_hashes[number].hex()}\n"
+
+
 FAULTS = {
     "BadMagic": "C1 B1",
     "Truncated": "C1 B2",

@@ -3,6 +3,7 @@
 from collections.abc import Callable
 from dataclasses import dataclass, field
 
+from commit_hashes import commit_hash
 from encoding import (
     NoSpelling,
     Refused,
@@ -36,6 +37,7 @@ class World:
     first_uses: dict = field(default_factory=dict)  # id to (block, place, flag)
     blocks: list = field(default_factory=list)  # (bytes, header hash, flags)
     reasons: list = field(default_factory=list)  # for each block one for each transaction
+    commit_hashes: list = field(default_factory=list)  # one for each block
 
     def version(self):
         """That of the last block, and 1 where there is none."""
@@ -53,8 +55,10 @@ class World:
             raise Refused("OldVersion")
         block = BlockRun(self, octets)
         verdicts = [block.take(place, tx) for place, tx in enumerate(txs)]
-        self.definitions = block.definitions
-        self.blocks.append((octets, header_hash(number, previous, hash_of_data), [flag for flag, _ in verdicts]))
+        self.definitions, flags = block.definitions, [flag for flag, _ in verdicts]
+        last = self.commit_hashes[-1] if self.commit_hashes else None
+        self.commit_hashes.append(commit_hash(last, version_of_block(octets), number, flags, block.before, self.state, block.definition))
+        self.blocks.append((octets, header_hash(number, previous, hash_of_data), flags))
         self.reasons.append([reason for _, reason in verdicts])
 
 
@@ -143,6 +147,7 @@ class BlockRun:
         self.number, _, _, txs = read_block(octets)
         self.is_alone = len(txs) == 1
         self.before, self.touched, self.definitions = dict(world.state), {}, world.definitions
+        self.definition = None  # the one that it replaces
 
     def take(self, place, octets):
         """The flag, and why."""
@@ -163,7 +168,8 @@ class BlockRun:
         flag, reason = self.checked_update(tx) if is_update else self.checked(place, tx)
         self.world.first_uses[tx.id] = (self.number, place, flag)
         if flag == 0 and is_update:
-            self.definitions = self.world.definitions | {tx.namespace: read_policy(tx.policy)}
+            self.definition = tx.namespace, read_policy(tx.policy)
+            self.definitions = self.world.definitions | dict([self.definition])
         elif flag == 0:
             self.apply(place, tx)
         return flag, reason

@@ -380,6 +380,8 @@ class Trial:
         files = [f"block{number}" for number in range(len(blocks))]
         lines = "".join(answers.accepted(world, number) for number in range(len(files)))
         self.want(0, lines, "", "run", *files)
+        lines = "".join(answers.accepted(world, number) + answers.committed(world, number) for number in range(len(files)))
+        self.want(0, lines, "", "run", "--hashes", *files)
         for _ in range(3):
             self.ask(world, files)
         self.mixed(blocks)
@@ -387,19 +389,22 @@ class Trial:
     def mixed(self, blocks):
         """The chain's blocks with spoiled ones between them, by workers and by one thread."""
         self.lists += 1
-        world, lines, files = self.blank(), "", []
+        world, lines, hashes, files = self.blank(), "", "", []
         for octets in mixed_list(self.pick, blocks):
             files.append(f"mixed{len(files)}")
             self.write(files[-1], octets)
             try:
                 world.submit(octets)
-                lines += answers.accepted(world, len(world.blocks) - 1)
+                told = answers.accepted(world, len(world.blocks) - 1)
+                lines, hashes = lines + told, hashes + told + answers.committed(world, len(world.blocks) - 1)
             except Refused as fault:
-                lines += answers.refused(len(files), fault)
+                told = answers.refused(len(files), fault)
+                lines, hashes = lines + told, hashes + told
                 self.refusals[str(fault).split()[0]] += 1
         status = 1 if "refused" in lines else 0
         for workers in (1, 2, 5):
             self.want(status, lines, "", "run", "--workers", str(workers), *files)
+            self.want(status, hashes, "", "run", "--workers", str(workers), "--hashes", *files)
         name, key = self.pick.choice([*CHANNEL]), self.pick.choice(KEYS)
         self.want(status, answers.get(world, name.encode(), word_bytes(key)), "", "get", "--ns", name, "--key", key, *files)
 

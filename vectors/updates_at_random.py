@@ -110,9 +110,9 @@ class UpdateTrial(Trial):
         lines = "".join(line + "\n" for line in explained(world, octets))
         self.want(0, lines, "", "explain", *files)
         world.submit(octets)
-        lines = "".join(answers.accepted(world, number) for number in range(len(files)))
+        lines = "".join(answers.accepted(world, number) + answers.committed(world, number) for number in range(len(files)))
         for workers in (1, 2, 5):
-            self.want(0, lines, "", "run", "--workers", str(workers), *files)
+            self.want(0, lines, "", "run", "--workers", str(workers), "--hashes", *files)
 
 
 def main():

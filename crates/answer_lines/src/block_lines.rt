@@ -5,9 +5,9 @@ use std::io::Write;
 use values::Hash;
 
 // `NUMBER HASH`, HASH in lower case hexadecimal.
-fn write_number_and_hash<W: Write>(out: &mut W, number: u64, header_hash: &Hash) -> io::Result<()> {
+fn write_number_and_hash<W: Write>(out: &mut W, number: u64, hash: &Hash) -> io::Result<()> {
     write!(out, "{number} ")?;
-    for byte in header_hash {
+    for byte in hash {
         write!(out, "{byte:02x}")?;
     }
     Ok(())
@@ -34,5 +34,12 @@ pub fn write_accepted<W: Write>(
 pub fn write_block<W: Write>(out: &mut W, number: u64, header_hash: &Hash) -> io::Result<()> {
     write!(out, "block ")?;
     write_number_and_hash(out, number, header_hash)?;
+    writeln!(out)
+}
+
+/// Writes `commit NUMBER HASH`, HASH in lower case hexadecimal. Takes no memory.
+pub fn write_commit<W: Write>(out: &mut W, number: u64, commit_hash: &Hash) -> io::Result<()> {
+    write!(out, "commit ")?;
+    write_number_and_hash(out, number, commit_hash)?;
     writeln!(out)
 }

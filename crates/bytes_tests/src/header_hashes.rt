@@ -1,5 +1,5 @@
 use block::{Header, Previous};
-use header_hash::{DataHasher, header_der, header_hash, tx_id};
+use header_hash::{DataHasher, commit_hash, header_der, header_hash, tx_id};
 use vectors::{Row, rows};
 
 mod vectors;
@@ -13,6 +13,12 @@ const ABC: [u8; 32] = [
 const NOTHING: [u8; 32] = [
     0xe3, 0xb0, 0xc4, 0x42, 0x98, 0xfc, 0x1c, 0x14, 0x9a, 0xfb, 0xf4, 0xc8, 0x99, 0x6f, 0xb9, 0x24,
     0x27, 0xae, 0x41, 0xe4, 0x64, 0x9b, 0x93, 0x4c, 0xa4, 0x95, 0x99, 0x1b, 0x78, 0x52, 0xb8, 0x55,
+];
+
+// SHA-256 of 32 zero bytes, 1, and 17 zero bytes (Python's hashlib): of the empty block 0.
+const OF_EMPTY_BLOCK: [u8; 32] = [
+    0x3b, 0x4c, 0xdd, 0xf9, 0x52, 0x76, 0x80, 0x76, 0x3e, 0x1b, 0x6c, 0x8d, 0x24, 0x8d, 0x0a, 0xdf,
+    0x0f, 0x71, 0xc0, 0x2b, 0x76, 0x9a, 0x5e, 0xf7, 0xba, 0xeb, 0xce, 0xdf, 0x88, 0x72, 0x37, 0xae,
 ];
 
 fn previous_of(row: &Row) -> Option<Previous> {
@@ -65,4 +71,12 @@ fn data_hashes_and_ids(rt: HostRuntime) {
     assert!(rt; abc.map(data_hash) == [ABC; 4]);
     let id = b"ba7816bf8f01cfea414140de5dae2223b00361a396177a9cb410ff61f20015ad";
     assert!(rt; [tx_id(b"ab", b"c"), tx_id(b"", b"abc")] == [*id; 2]);
+}
+
+#[test]
+fn commit_hashes(rt: HostRuntime) {
+    let told = b"\x01\0\0\0\0\0\0\0\0\0\0\0\0\0\0\0\0\0";
+    assert!(rt; commit_hash(&[0; 32], told) == OF_EMPTY_BLOCK);
+    // What comes first counts.
+    assert!(rt; commit_hash(&[1; 32], told) != OF_EMPTY_BLOCK);
 }

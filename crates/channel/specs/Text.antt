@@ -62,12 +62,15 @@ on_line n (Err f) = Err (no_policy n f)
 abbrev pub policy_on : ℕ → List ℕ → Result Tree Fault
 policy_on n text = on_line n (policy_or_fault text)
 
+abbrev pub with_policy : SoFar → List ℕ → Tree → SoFar
+with_policy so_far chaincode tree = record so_far { definitions = insert so_far.definitions chaincode tree }
+
 -- a chaincode on line n that isn't defined so far, with its policy
 abbrev pub said_policy : ℕ → SoFar → List ℕ → Result Tree Fault → Result SoFar Fault
 said_policy n so_far chaincode (Err fault) = Err fault
 said_policy n so_far chaincode (Ok tree) =
     if nat_lt (len so_far.definitions) max_chaincodes
-    then Ok (record so_far { definitions = insert so_far.definitions chaincode tree })
+    then Ok (with_policy so_far chaincode tree)
     else Err (too_many n)
 
 -- the first admin policy

@@ -1,13 +1,15 @@
 //! The lines of a channel text, one after the other.
-ghost use Rattle.std.specs.Prelude.{◌≡◌, Ok, IfOk, IfErr};
+ghost use Rattle.std.specs.Prelude.{◌≡◌, ◌<◌, Ok, OnOk, IfOk, IfErr};
+ghost use Rattle.std.specs.FinMap.{insert, len};
 ghost use Rattle.text_lines.specs.Lines.{statements};
+ghost use Rattle.channel.specs.Configuration.{max_chaincodes};
 ghost use Rattle.channel.specs.Fault.{Refuses};
 ghost use Rattle.channel.specs.Text as spec;
 ghost use Rattle.channel.specs.Lines.{seen};
 
 use crate::ChannelFault;
 use policy::{Definitions, Policy};
-use std::alloc::Global;
+use std::alloc::{AllocError, Global};
 use std::marker::Model;
 use text_lines::{Statements, first_part};
 use values::{Name, NameRef, is_name};
@@ -84,6 +86,22 @@ fn policy_of_line(alloc: Global, line: u64, text: &[u8]) -> Result<Policy, Chann
     Policy::parse_bytes(alloc, text).map_err(|fault| ChannelFault::of_policy(line, fault))
 }
 
+// Where memory runs out between them, one of the maps has the policy.
+fn set_in_both(
+    alloc: Global,
+    one: &mut Definitions,
+    other: &mut Definitions,
+    chaincode: &NameRef<'_>,
+    policy: Policy,
+) -> Result<(), AllocError>
+    ensures { OnOk result ((one.new ≡ insert one.old chaincode.now policy) × (other.new ≡ insert other.old chaincode.now policy)) }
+{
+    let chaincode = chaincode.copy(alloc)?;
+    let copied = policy.copy(alloc)?;
+    one.set(&chaincode, policy)?;
+    other.set(&chaincode, copied)
+}
+
 // What the lines so far say, with the definitions once more. A line takes it by value: where memory runs out between the two
 // maps they differ, and then nothing is left of it.
 #[derive(Drop)]
@@ -140,6 +158,28 @@ impl SoFar {
         Ok(self)
     }
 
+    // The policy that a line gives a chaincode, where it may be defined.
+    fn new_policy(
+        &self,
+        alloc: Global,
+        line: u64,
+        chaincode: &NameRef<'_>,
+        policy_text: &[u8],
+    ) -> Result<Policy, ChannelFault>
+        ensures few { IfOk result (λ _. len self.now.definitions < max_chaincodes) }
+        ensures ok { IfOk result (λ policy. spec.said_by line self.now (spec.defines chaincode.now policy_text.now) ≡ Ok (spec.with_policy self.now chaincode.now policy)) }
+        ensures err { IfErr result (λ fault. Refuses fault (spec.said_by line self.now (spec.defines chaincode.now policy_text.now))) }
+    {
+        if self.definitions.of(chaincode).is_some() {
+            return Err(ChannelFault::Repeated(line));
+        }
+        let policy = policy_of_line(alloc, line, policy_text)?;
+        if self.definitions.len() >= MAX_CHAINCODES {
+            return Err(ChannelFault::TooMany(line));
+        }
+        Ok(policy)
+    }
+
     fn define(
         mut self,
         alloc: Global,
@@ -150,17 +190,14 @@ impl SoFar {
         ensures ok { IfOk result (λ so_far. spec.said_by line self (spec.defines chaincode.now policy_text.now) ≡ Ok so_far) }
         ensures err { IfErr result (λ fault. Refuses fault (spec.said_by line self (spec.defines chaincode.now policy_text.now))) }
     {
-        if self.definitions.of(chaincode).is_some() {
-            return Err(ChannelFault::Repeated(line));
-        }
-        let policy = policy_of_line(alloc, line, policy_text)?;
-        if self.definitions.len() >= MAX_CHAINCODES {
-            return Err(ChannelFault::TooMany(line));
-        }
-        let chaincode = chaincode.copy(alloc)?;
-        let copied = policy.copy(alloc)?;
-        self.definitions.set(&chaincode, policy)?;
-        self.copied.set(&chaincode, copied)?;
+        let policy = self.new_policy(alloc, line, chaincode, policy_text)?;
+        set_in_both(
+            alloc,
+            &mut self.definitions,
+            &mut self.copied,
+            chaincode,
+            policy,
+        )?;
         Ok(self)
     }
 

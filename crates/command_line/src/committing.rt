@@ -48,6 +48,7 @@ fn next_blocks(alloc: Global, blocks: &mut IntoIter<Bytes>) -> Result<Vec<Bytes>
 fn write_answers<'a, W: Write>(
     answers: Vec<Result<Receipt, NotCommitted>>,
     before: u64,
+    hashes: bool,
     out: &mut W,
     last: &mut Option<Receipt>,
 ) -> Result<u8, Fault<'a>>
@@ -57,7 +58,7 @@ fn write_answers<'a, W: Write>(
     let mut place = before;
     for answer in answers {
         place = place.wrapping_add(1);
-        status = status.max(write_answer(out, place, &answer)?);
+        status = status.max(write_answer(out, place, &answer, hashes)?);
         if let Ok(receipt) = answer {
             *last = Some(receipt);
         }
@@ -73,6 +74,7 @@ pub(crate) fn commit_each<'a, R: Threads + Wait + Sync, W: Write>(
     committer: &mut Committer,
     blocks: Vec<Bytes>,
     keys: &KeyBook,
+    hashes: bool,
     out: &mut W,
 ) -> Result<Committed, Fault<'a>>
     ensures handed { IfOk result (λ committed. AreHandedIn (accepts keys.now) committer.old blocks.items committed.last committer.new) }
@@ -85,7 +87,7 @@ pub(crate) fn commit_each<'a, R: Threads + Wait + Sync, W: Write>(
     while blocks.len() > 0 {
         let some = next_blocks(alloc, &mut blocks)?;
         let answers = committer.run(rt, some.as_slice(), keys, &Open)?;
-        status = status.max(write_answers(answers, before, out, &mut last)?);
+        status = status.max(write_answers(answers, before, hashes, out, &mut last)?);
         before = before.wrapping_add(some.len() as u64);
     }
     Ok(Committed { status, last })

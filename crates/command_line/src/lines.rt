@@ -5,7 +5,7 @@ ghost use Rattle.block.specs.declared.fault.BlockFault.TheVariants as block_faul
 ghost use Rattle.commit.specs.declared.not_committed.NotCommitted.TheVariants as not_committed;
 ghost use Rattle.rules.specs.declared.answer.Refused.TheVariants as refused_as;
 
-use answer_lines::{Refusal, write_accepted};
+use answer_lines::{Refusal, write_accepted, write_commit};
 use commit::{NotCommitted, Receipt};
 use ledger_commands::{ACCEPTED, Fault, REFUSED};
 use std::alloc::{AllocError, Global};
@@ -22,12 +22,13 @@ fn refusal_of(why: NotCommitted) -> Result<Refusal, AllocError>
 }
 
 /// Writes the line for the answer to the block at this place, from 1: `accepted NUMBER HASH` and the
-/// flags, or `refused PLACE FAULT`. Returns what the process ends with where the other blocks are
+/// flags, and where hashes are asked for `commit NUMBER HASH` behind it; or `refused PLACE FAULT`. Returns what the process ends with where the other blocks are
 /// accepted. Want of memory is a fault and has no line. Takes no memory.
 pub fn write_answer<'a, W: Write>(
     out: &mut W,
     place: u64,
     answer: &Result<Receipt, NotCommitted>,
+    hashes: bool,
 ) -> Result<u8, Fault<'a>> {
     match answer {
         Ok(receipt) => {
@@ -37,6 +38,9 @@ pub fn write_answer<'a, W: Write>(
                 &receipt.header_hash,
                 receipt.flags.as_slice(),
             )?;
+            if hashes {
+                write_commit(out, receipt.number, &receipt.commit_hash)?;
+            }
             Ok(ACCEPTED)
         }
         Err(why) => {

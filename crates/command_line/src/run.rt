@@ -45,6 +45,7 @@ fn commit_while_asked<'a, 's, E, R: Threads + Wait + Sync, W: Write>(
     handles: Vec<QueryHandle>,
     blocks: Vec<Bytes>,
     keys: &KeyBook,
+    hashes: bool,
     out: &mut W,
 ) -> Result<Ended, Fault<'a>>
     requires { All (λ handle. handle.book ≡ committer.old.book) handles.items }
@@ -53,7 +54,7 @@ fn commit_while_asked<'a, 's, E, R: Threads + Wait + Sync, W: Write>(
     ensures last { IfOk result (λ ended. IfSome ended.1.last (λ receipt. receipt.front.book ≡ committer.old.book)) }
 {
     let readers = start(alloc, scope, committer, handles)?;
-    let committed = commit_each(rt, alloc, committer, blocks, keys, out)?;
+    let committed = commit_each(rt, alloc, committer, blocks, keys, hashes, out)?;
     Ok((readers, committed))
 }
 
@@ -65,6 +66,7 @@ fn commit_beside_readers<'a, R: Threads + Wait + Sync, W: Write>(
     handles: Vec<QueryHandle>,
     blocks: Vec<Bytes>,
     keys: &KeyBook,
+    hashes: bool,
     out: &mut W,
 ) -> Result<Ended, Fault<'a>>
     requires { All (λ handle. handle.book ≡ committer.old.book) handles.items }
@@ -78,7 +80,11 @@ fn commit_beside_readers<'a, R: Threads + Wait + Sync, W: Write>(
             requires { All (λ handle. handle.book ≡ committer.now.book) handles.items }
             ensures readers { IfOk result (λ ended. All (λ reader. reader.promise.0.value.book ≡ committer.entry.now.book) ended.0.items) }
             ensures last { IfOk result (λ ended. IfSome ended.1.last (λ receipt. receipt.front.book ≡ committer.entry.now.book)) }
-        { commit_while_asked(rt, alloc, scope, committer, handles, blocks, keys, out) },
+        {
+            commit_while_asked(
+                rt, alloc, scope, committer, handles, blocks, keys, hashes, out,
+            )
+        },
     )
 }
 
@@ -90,12 +96,13 @@ fn write_lines<'a, R: Threads + Wait + Sync, W: Write>(
     handles: Vec<QueryHandle>,
     blocks: Vec<Bytes>,
     keys: &KeyBook,
+    hashes: bool,
     out: &mut W,
 ) -> Result<u8, Fault<'a>>
     requires { All (λ handle. handle.book ≡ committer.old.book) handles.items }
 {
     let (readers, committed) = commit_beside_readers(
-        rt, alloc, committer, handles, blocks, keys, out,
+        rt, alloc, committer, handles, blocks, keys, hashes, out,
     )?;
     write_heights(rt, readers, &committed.last, out)?;
     Ok(committed.status)
@@ -109,12 +116,15 @@ fn write_through_buffer<'a, R: Threads + Wait + Sync, W: Write>(
     handles: Vec<QueryHandle>,
     blocks: Vec<Bytes>,
     keys: &KeyBook,
+    hashes: bool,
     out: &mut W,
 ) -> Result<u8, Fault<'a>>
     requires { All (λ handle. handle.book ≡ committer.old.book) handles.items }
 {
     let mut lines = BufWriter::new(alloc, out)?;
-    let ended = write_lines(rt, alloc, committer, handles, blocks, keys, &mut lines);
+    let ended = write_lines(
+        rt, alloc, committer, handles, blocks, keys, hashes, &mut lines,
+    );
     finish(lines, ended)
 }
 
@@ -134,7 +144,16 @@ pub(crate) fn run_blocks<'a, R: AllocGlobal + Threads + Wait + Sync, F: Files, W
     } = Inputs::read(alloc, files, &words.paths)?;
     let Configuration { channel, keys } = configuration;
     let (mut committer, handles) = opened(rt, alloc, channel, &words.parallelism)?;
-    let ended = write_through_buffer(rt, alloc, &mut committer, handles, blocks, &keys, out);
+    let ended = write_through_buffer(
+        rt,
+        alloc,
+        &mut committer,
+        handles,
+        blocks,
+        &keys,
+        words.hashes,
+        out,
+    );
     committer.close(rt);
     ended
 }

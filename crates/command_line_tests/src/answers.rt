@@ -15,7 +15,7 @@ static WANTS: [NotCommitted; 4] = [
 // Whether this is told as want of memory, and has no line.
 fn is_without_line(alloc: Global, why: NotCommitted) -> bool {
     let mut out = Vec::new(alloc);
-    write_answer(&mut out, 1, &Err(why)) == Err(Fault::Memory) && out.is_empty()
+    write_answer(&mut out, 1, &Err(why), true) == Err(Fault::Memory) && out.is_empty()
 }
 
 #[test]

@@ -104,6 +104,16 @@ refused 2 C2 want 1 got 0
 ",
                 "",
             ),
+            // with commit hashes
+            (
+                "run --channel c --keys k --hashes b0 b0",
+                1,
+                "accepted 0 9cae6f5c10756febc407bba95fc23853774c1f65f10354895bfdab6443d66ed3
+commit 0 3b4cddf9527680763e1b6c8d248d0adf0f71c02b769a5ef7baebcedf887237ae
+refused 2 C2 want 1 got 0
+",
+                "",
+            ),
         ],
     ),
     // a chain and what does not continue it
@@ -185,12 +195,22 @@ accepted 0 9cae6f5c10756febc407bba95fc23853774c1f65f10354895bfdab6443d66ed3
     // a flag for each transaction
     (
         &[("c", CHANNEL), ("k", KEYS), ("b", TWO)],
-        &[(
-            "run --channel c --keys k b",
-            0,
-            "accepted 0 a852b3f80de4474b202ef7be14c3aa53fdddcca389bbca2f6c702447fbab6e4a 2 2\n",
-            "",
-        )],
+        &[
+            (
+                "run --channel c --keys k b",
+                0,
+                "accepted 0 a852b3f80de4474b202ef7be14c3aa53fdddcca389bbca2f6c702447fbab6e4a 2 2\n",
+                "",
+            ),
+            (
+                "run --channel c --keys k --hashes b",
+                0,
+                "accepted 0 a852b3f80de4474b202ef7be14c3aa53fdddcca389bbca2f6c702447fbab6e4a 2 2
+commit 0 cf5d05deea35f321ab2fd782421335dbf32fdd901039176ac2944050998f9fd7
+",
+                "",
+            ),
+        ],
     ),
 ];
 

@@ -22,6 +22,8 @@ pub(crate) enum Form {
         least: u16,
         most: u16,
     },
+    /// `--NAME`, or not.
+    Flag,
     /// One positional.
     Positional,
     /// The positionals that are left, so many at least.
@@ -67,6 +69,13 @@ fn positional<'a>(alloc: Global, argument: &Argument) -> Arg<'a> {
         .help(argument.help)
 }
 
+fn flag<'a>(alloc: Global, argument: &Argument) -> Arg<'a> {
+    Arg::new(alloc, argument.name)
+        .long(argument.name)
+        .help(argument.help)
+        .action(ArgAction::SetTrue)
+}
+
 // A number in bounds; that it has digits alone is looked at by `number_of`.
 fn count<'a>(alloc: Global, argument: &Argument, least: u16, most: u16) -> Arg<'a> {
     option(alloc, argument).value_parser(value_parser!(u16).range(
@@ -94,6 +103,7 @@ impl Argument {
                 most,
             } => count(alloc, self, least, most).default_value(default),
             Form::OptionalCount { least, most } => count(alloc, self, least, most),
+            Form::Flag => flag(alloc, self),
             Form::Positional => positional(alloc, self).required(true),
             Form::Positionals { least } => positionals(alloc, self, least),
         }

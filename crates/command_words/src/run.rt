@@ -1,9 +1,17 @@
 //! The words of `run`.
+use crate::arguments::{Argument, Form};
 use crate::parallelism::{Parallelism, READERS, WORKERS};
 use crate::paths::{CHANNEL, KEYS, LedgerPaths, SOME_BLOCKS};
 use crate::subcommand::Subcommand;
 use clap::ArgMatches;
 use std::alloc::{AllocError, Global};
+
+const HASHES: Argument = Argument {
+    name: "hashes",
+    value_name: "",
+    help: "Prints the commit hash of each accepted block",
+    form: Form::Flag,
+};
 
 pub(crate) static RUN: Subcommand = Subcommand {
     name: "run",
@@ -13,6 +21,7 @@ Example, with a worker for each of four processors and two readers:
   fabcommit run --channel channel.txt --keys keys.txt --workers 4 --readers 2 block0.blk block1.blk
 
   accepted NUMBER HASH FLAG ..  the header's hash, and a flag for each transaction: 0 is valid
+  commit NUMBER HASH            with --hashes, behind it: by which peers compare what they hold
   refused PLACE FAULT           the file's place among the blocks, from 1; the next one is still tried
   reader J height H             behind all blocks, what reader J then finds: the number of accepted ones
 
@@ -23,7 +32,7 @@ Example, with a worker for each of four processors and two readers:
 
   Readers stand for the clients who query a peer while it commits. Each asks for the height, 1,000 times,
   while the blocks are handed in, and waits for nobody.",
-    arguments: &[CHANNEL, KEYS, WORKERS, READERS, SOME_BLOCKS],
+    arguments: &[CHANNEL, KEYS, WORKERS, READERS, HASHES, SOME_BLOCKS],
 };
 
 /// Blocks in, and a line for each out.
@@ -31,6 +40,8 @@ Example, with a worker for each of four processors and two readers:
 pub struct Run<'a> {
     pub paths: LedgerPaths<'a>,
     pub parallelism: Parallelism,
+    /// Whether commit hashes are printed.
+    pub hashes: bool,
 }
 
 impl<'a> Run<'a> {
@@ -41,6 +52,12 @@ impl<'a> Run<'a> {
         let Some(parallelism) = Parallelism::from_matches(matches) else {
             return Ok(None);
         };
-        Ok(LedgerPaths::from_matches(alloc, matches)?.map(|paths| Run { paths, parallelism }))
+        let hashes = matches.get_flag("hashes");
+        let paths = LedgerPaths::from_matches(alloc, matches)?;
+        Ok(paths.map(|paths| Run {
+            paths,
+            parallelism,
+            hashes,
+        }))
     }
 }

@@ -1,5 +1,5 @@
 -- The delta of the next block may be published, and once it is, the block is committed.
-use Rattle.std.proofs.Common.{◌≡◌, ℕ, true, false, List, [], ◌∷◌, ◌++◌, length, refl, sym, ap, subst, ◌∙◌}
+use Rattle.std.proofs.Common.{◌≡◌, ℕ, true, false, List, [], ◌∷◌, ◌++◌, refl, sym, ap, subst, ◌∙◌}
 use Rattle.channel.specs.Configuration.{Configuration}
 use Rattle.policy_eval.specs.Accepts.{Accepts}
 use Rattle.policy.specs.Policies.{Policies}
@@ -61,9 +61,9 @@ module _ (channel : Configuration) (accepts : Accepts) where
       → old.failed ≡ false → old.base ≡ first → w ≡ published_world old → IsNextDelta channel accepts w bytes d
       → new ≡ record old { list = old.list ++ d ∷ [] }
       → r.number ≡ height_of (published_world old) → r.height ≡ height_of (published_world new)
-      → r.header_hash ≡ d.block.header_hash → r.flags ≡ d.block.flags → r.front ≡ record { book = new.book; list = new.list }
+      → r.header_hash ≡ d.block.header_hash → r.commit_hash ≡ d.block.commit_hash → r.flags ≡ d.block.flags → r.front ≡ record { book = new.book; list = new.list }
       → IsCommitted accepts (committing channel old) bytes r (committing channel new)
-  committed old new w bytes d r going empty lent next published number height hash flags told =
+  committed old new w bytes d r going empty lent next published number height hash commit_hash flags told =
       let before : World = applied_all first old.list in
       let is_before : published_world old ≡ before = ap (λ (u : World). applied_all u old.list) empty in
       let is : w ≡ before = lent ∙ is_before in
@@ -73,7 +73,7 @@ module _ (channel : Configuration) (accepts : Accepts) where
       let next' : IsNextDelta channel accepts before bytes d = subst (λ (u : World). IsNextDelta channel accepts u bytes d) is next in
       record {
         going = going;
-        step = next_delta-step channel accepts before bytes d (accepted_in r) (applied_all first new.list) next' (λ i. record { number = (number ∙ ap height_of is_before) i; header_hash = hash i; flags = flags i }) after;
+        step = next_delta-step channel accepts before bytes d (accepted_in r) (applied_all first new.list) next' (λ i. record { number = (number ∙ ap height_of is_before) i; header_hash = hash i; commit_hash = commit_hash i; flags = flags i }) after;
         height = height ∙ ap (λ (u : World). height_of (applied_all u new.list)) base;
         delta = d;
         published = ap (committing channel) published;

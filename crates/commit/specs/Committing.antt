@@ -30,7 +30,7 @@ abbrev pub world_of : Committing → World
 world_of c = applied_all (empty_world c.channel.definitions) c.list
 
 abbrev pub accepted_in : Receipt → Accepted
-accepted_in r = record { number = r.number; header_hash = r.header_hash; flags = r.flags }
+accepted_in r = record { number = r.number; header_hash = r.header_hash; commit_hash = r.commit_hash; flags = r.flags }
 
 -- what a ledger would answer, which has no readers: that a committer has stopped is want of memory too
 abbrev pub answer_in : Result Receipt NotCommitted → Result Accepted rules.Refused

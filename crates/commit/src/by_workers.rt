@@ -18,13 +18,13 @@ use intake_workers::{Handed, Hashed};
 use key_chains::Job;
 use ledger::{delta_of, job_of};
 use policy_eval::Verify;
-use rules::{Delta, Refused};
+use rules::Refused;
 use std::alloc::{AllocError, Global};
 use std::sync::Wait;
 use std::thread::Threads;
 use transaction::TxId;
-use values::{Bytes, Shared};
-use world::World;
+use values::{Bytes, Hash, Shared};
+use world::{ReadyDelta, World};
 
 fn one_handed<'b>(alloc: Global, block: DecodedBlock<'b>) -> Result<Vec<Handed<'b>>, AllocError>
     ensures { IfOk result (λ handed. (bytes : List ℕ) → Spells bytes block.entry → AreHanded (bytes ∷ []) handed.items) }
@@ -89,13 +89,14 @@ fn checked_delta<R: Threads + Wait + Sync, V, G: Gate + Sync>(
     block: &LinkedBlock<'_>,
     job: &Job<'_>,
     ids: &[Option<TxId>],
-) -> Result<(Delta, u32), Refused>
+    last: Option<Hash>,
+) -> Result<(ReadyDelta, u32), Refused>
     requires ids { length ids.now ≡ length job.now.candidates }
     requires few { length ids.now ≤ max_txs }
-    ensures { MatchResult result (λ r. IsDeltaOfJob job.now ids.now bytes block.now r.0) (λ refused. refused ≡ Memory) }
+    ensures { MatchResult result (λ r. IsDeltaOfJob job.now ids.now last bytes block.now r.0) (λ refused. refused ≡ Memory) }
 {
     let checked = check_all(means.rt, means.alloc, job, checkers.count, means.gate)?;
-    let delta = delta_of(means.alloc, bytes, block, job, ids, checked.flags)?;
+    let delta = delta_of(means.alloc, bytes, block, last, job, ids, checked.flags)?;
     Ok((delta, checked.gathered))
 }
 
@@ -108,7 +109,7 @@ pub(crate) fn next_delta<R: Threads + Wait + Sync, V: Verify, G: Gate + Sync>(
     checkers: Workers,
     bytes: &[u8],
     prepared: Prepared<'_>,
-) -> Result<(Delta, u32), Refused>
+) -> Result<(ReadyDelta, u32), Refused>
     requires prepared { IsPrepared means.now.channel.now (V.accepts means.now.verifier.now) bytes.now prepared }
     requires names { HasNamesOf means.now.channel.now world.now }
     ensures { IsNextDeltaOr means.now.channel.now (V.accepts means.now.verifier.now) world.now bytes.now result }
@@ -118,5 +119,13 @@ pub(crate) fn next_delta<R: Threads + Wait + Sync, V: Verify, G: Gate + Sync>(
     let Prepared { hashed, taken } = prepared;
     let (block, kept) = linked(world, hashed)?;
     let (job, ids) = job_of(means.alloc, means.channel, world, taken)?;
-    checked_delta(means, checkers, kept, &block, &job, ids.as_slice())
+    checked_delta(
+        means,
+        checkers,
+        kept,
+        &block,
+        &job,
+        ids.as_slice(),
+        world.commit_hash(),
+    )
 }

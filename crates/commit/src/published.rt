@@ -133,7 +133,7 @@ impl Published {
             bytes,
             prepared?,
         )?;
-        match self.publisher.publish(means.rt, delta) {
+        match self.publisher.publish_ready(means.rt, delta) {
             Ok(receipt) => {
                 self.gathered = gathered;
                 Ok(receipt)

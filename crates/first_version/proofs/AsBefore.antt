@@ -44,7 +44,7 @@ use Rattle.rules.specs.Reads.{read_verdict}
 use Rattle.rules.specs.Candidate as candidate
 use Rattle.rules.specs.Job as job
 use Rattle.rules.specs.Fold as fold
-use Rattle.rules.specs.World.{World, height_of, last_header_hash, last_version, previous_from}
+use Rattle.rules.specs.World.{World, height_of, last_header_hash, last_commit_hash, last_version, previous_from}
 use Rattle.rules.specs.Linked.{is_older, IsRefused}
 use Rattle.rules.specs.Commit as commit
 use Rattle.rules.specs.Step.{Step}
@@ -278,7 +278,7 @@ module _ (channel : Configuration) (accepts : Accepts) (w : World) (bytes : List
       ap (with_definitions w.definitions) ((λ i. fold.definitions_to (job_is i) (length_is i)) ∙ no_definitions channel.admin was_own (length was_own.candidates)) ∙ no_more w.definitions
 
   abbrev kept : CommittedBlock
-  kept = commit.committed_of bytes b (commit.job_of channel accepts w (commit.items_of b))
+  kept = commit.committed_of bytes (last_commit_hash w) b (commit.job_of channel accepts w (commit.items_of b))
 
   kept_is : seen_block kept ≡ was_commit.committed_of bytes (contents_of b) was_own
   kept_is = λ i. record { bytes = bytes; header_hash = header_hash_of b.header; flags = flags_are i }

@@ -121,7 +121,7 @@ one_step_by laws channel accepts old a b bytes (Err r) (Err r') s t p q =
 
 -- a world of now whose blocks are all of version 1
 abbrev kept_of : CommittedBlock → kept.CommittedBlock
-kept_of b = record { bytes = b.bytes; header_hash = b.header_hash; version = V1; flags = b.flags }
+kept_of b = record { bytes = b.bytes; header_hash = b.header_hash; commit_hash = []; version = V1; flags = b.flags }
 
 abbrev pub world_of : Policies → World → world.World
 world_of definitions w = record { state = w.state; history = w.history; first_uses = w.first_uses; definitions = definitions; blocks = map kept_of w.blocks }

@@ -1,5 +1,5 @@
 ghost use Rattle.std.specs.Prelude.{◌≡◌};
-ghost use Rattle.header_hash.specs.Hashes.{header_hash_of, tx_id_of};
+ghost use Rattle.header_hash.specs.Hashes.{commit_hash_of, header_hash_of, tx_id_of};
 
 use crate::der::header_der;
 use block::Header;
@@ -28,4 +28,15 @@ pub fn tx_id(nonce: &[u8], creator: &[u8]) -> TxId
     // Two digits a byte fill it, so there is no other answer.
     encode_to_slice(hasher.finalize(), &mut id).unwrap();
     id
+}
+
+/// The commit hash of a block: SHA-256 (FIPS 180-4) of the commit hash before it, or of 32 zero bytes, followed by what the
+/// block changes. Linear in these bytes, and takes no memory.
+pub fn commit_hash(previous: &Hash, changed: &[u8]) -> Hash
+    ensures { result ≡ commit_hash_of previous.now changed.now }
+{
+    let mut hasher = Sha256::new();
+    hasher.update(previous.as_slice());
+    hasher.update(changed);
+    hasher.finalize()
 }

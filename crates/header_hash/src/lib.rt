@@ -1,4 +1,4 @@
-//! Header hashes, data hashes and transaction ids. Nothing here takes memory.
+//! Header hashes, data hashes, commit hashes and transaction ids. Nothing here takes memory.
 #![tactic(auto)]
 
 mod data_hasher;
@@ -7,4 +7,4 @@ mod hash;
 
 pub use data_hasher::{DataHasher, data_hash};
 pub use der::{Der, header_der, integers_are_minimal};
-pub use hash::{header_hash, tx_id};
+pub use hash::{commit_hash, header_hash, tx_id};

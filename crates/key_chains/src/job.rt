@@ -2,6 +2,7 @@ ghost use Rattle.std.specs.Prelude.{◌≡◌, ◌≢◌, ◌<◌, ◌≤◌, �
 ghost use Rattle.std.specs.Option.{option_copied};
 ghost use Rattle.std.specs.FinMap.{get};
 ghost use Rattle.block.specs.Limits.{max_txs};
+ghost use Rattle.rules.specs.CommitBytes.{update_bytes};
 ghost use Rattle.rules.specs.State.{StateKey, is_among};
 ghost use Rattle.rules.specs.Ranges.{is_within, rows_where};
 ghost use Rattle.rules.specs.Job.{candidate_at, flag_by};
@@ -11,13 +12,14 @@ ghost use Rattle.candidates.specs.Seen.{seen};
 ghost use Rattle.key_chains.specs.Operations.{operations};
 ghost use Rattle.key_chains.specs.PolicyWriters.{policy_writers};
 ghost use Rattle.key_chains.specs.WrittenRows.{AreRows};
+ghost use Rattle.state_db.specs.Batch.{changed};
 
 use crate::chains::{Chains, newest_on};
 use crate::links::{Operations, PolicyWriters};
 use candidates::{Candidate, OpenTx, StateKey};
 use policy::{Definitions, Policy};
 use rules::{EarlyFlag, Flag, ReadVerdict, Row};
-use state_db::{Rows, StateDb};
+use state_db::{Batch, Rows, StateDb};
 use std::alloc::{AllocError, Global};
 use std::marker::Model;
 use values::{BoundRef, NameRef};
@@ -197,6 +199,13 @@ impl<'a> Job<'a> {
         ensures { result ≡ rows_where self.now.state namespace.now (is_within start.now end.now) }
     {
         self.state.range(namespace, start, end)
+    }
+
+    /// The rows that a batch would make differ from those before the block, spelled (`StateDb::update_bytes`).
+    pub fn update_bytes(&self, batch: &Batch) -> Result<Vec<u8>, AllocError>
+        ensures { IfOk result (λ bytes. bytes.items ≡ update_bytes self.now.state (changed self.now.state batch.now)) }
+    {
+        self.state.update_bytes(batch)
     }
 
     /// The policy of a chaincode.

@@ -5,7 +5,6 @@ use Rattle.std.proofs.lemmas.List.{length-map}
 use Rattle.block.specs.declared.block.Block.{Block}
 use Rattle.block.specs.Grammar.{Spells}
 use Rattle.channel.specs.Configuration.{Configuration}
-use Rattle.header_hash.specs.Hashes.{header_hash_of}
 use Rattle.policy_eval.specs.Accepts.{Accepts}
 use Rattle.rules.specs.declared.answer.Accepted.{Accepted}
 use Rattle.rules.specs.declared.answer.Refused.{Refused}
@@ -21,7 +20,7 @@ use Rattle.rules.specs.Names.{HasNamesOf}
 use Rattle.rules.specs.Job.{Job}
 use Rattle.rules.specs.Linked.{IsLinked, IsRefused}
 use Rattle.rules.specs.Step.{Step}
-use Rattle.rules.specs.World.{World, height_of}
+use Rattle.rules.specs.World.{World, height_of, last_commit_hash}
 use Rattle.rules.proofs.Candidates.{length-candidates_from}
 use Rattle.rules.proofs.Deltas.{committed-is_delta}
 use Rattle.rules.proofs.OpenUpdates.{steps_keep_names}
@@ -37,11 +36,11 @@ module _ (channel : Configuration) (accepts : Accepts) (w : World) where
   pub count-job : (b : Block) (j : Job) (ids : List (Option (List ℕ))) → j ≡ job_of channel accepts w (items_of b) → ids ≡ map (used_id channel accepts) (items_of b) → length ids ≡ length j.candidates
   count-job b j ids job_is ids_are = count-ids b ids ids_are ∙ ap (λ (k : Job). length k.candidates) (sym job_is)
 
-  pub changes-is_delta : (bytes : List ℕ) (b : Block) (j : Job) (ids : List (Option (List ℕ))) (kept : CommittedBlock) (d : Delta)
-      → j ≡ job_of channel accepts w (items_of b) → ids ≡ map (used_id channel accepts) (items_of b) → kept ≡ committed_of bytes b j
+  pub changes-is_delta : (bytes : List ℕ) (b : Block) (j : Job) (ids : List (Option (List ℕ))) (last : Option (List ℕ)) (kept : CommittedBlock) (d : Delta)
+      → j ≡ job_of channel accepts w (items_of b) → ids ≡ map (used_id channel accepts) (items_of b) → last ≡ last_commit_hash w → kept ≡ committed_of bytes last b j
       → Changes j ids kept d
-      → IsDelta channel accepts w (items_of b) (committed_of bytes b (job_of channel accepts w (items_of b))) d × AreRealChanges w.state (changes_in d.changes)
-  changes-is_delta bytes b j ids kept d job_is ids_are kept_is changes =
+      → IsDelta channel accepts w (items_of b) (committed_of bytes (last_commit_hash w) b (job_of channel accepts w (items_of b))) d × AreRealChanges w.state (changes_in d.changes)
+  changes-is_delta bytes b j ids last kept d job_is ids_are last_is kept_is changes =
       let own = subst (λ (us : List (Option (List ℕ))). Changes (job_of channel accepts w (items_of b)) us kept d) ids_are (
       subst (λ (k : Job). Changes k ids kept d) job_is changes) in (
         record {
@@ -49,33 +48,33 @@ module _ (channel : Configuration) (accepts : Accepts) (w : World) where
           history = own.history w.history;
           first_uses = ap (with_uses w.first_uses) own.uses;
           definitions = ap (with_definitions w.definitions) own.definitions;
-          block = own.block ∙ kept_is ∙ ap (committed_of bytes b) job_is;
+          block = own.block ∙ kept_is ∙ (λ i. committed_of bytes (last_is i) b (job_is i));
         },
         own.real,
       )
 
   -- the delta of a job is the next one where the job is that of the next block
-  pub is_next : (bytes kept : List ℕ) (b : Block) (j : Job) (ids : List (Option (List ℕ))) (d : Delta)
+  pub is_next : (bytes kept : List ℕ) (b : Block) (j : Job) (ids : List (Option (List ℕ))) (last : Option (List ℕ)) (d : Delta)
       → kept ≡ bytes → Spells bytes b → IsLinked w b → j ≡ job_of channel accepts w (items_of b) → ids ≡ map (used_id channel accepts) (items_of b)
-      → IsDeltaOfJob j ids kept b d → IsNextDelta channel accepts w bytes d
-  is_next bytes kept b j ids d same spelled linked job_is ids_are is =
-      let both = is channel accepts w job_is ids_are in
+      → last ≡ last_commit_hash w → IsDeltaOfJob j ids last kept b d → IsNextDelta channel accepts w bytes d
+  is_next bytes kept b j ids last d same spelled linked job_is ids_are last_is is =
+      let both = is channel accepts w job_is ids_are last_is in
       record {
         block = b;
         spelled = spelled;
         linked = linked;
-        delta = subst (λ (k : List ℕ). IsDelta channel accepts w (items_of b) (committed_of k b (job_of channel accepts w (items_of b))) d) same both.0;
+        delta = subst (λ (k : List ℕ). IsDelta channel accepts w (items_of b) (committed_of k (last_commit_hash w) b (job_of channel accepts w (items_of b))) d) same both.0;
         changes = both.1;
       }
 
   -- a world to which the delta of its next block is applied, with the answer that the delta keeps, is a step
   pub next_delta-step : (bytes : List ℕ) (d : Delta) (answer : Accepted) (new : World) → IsNextDelta channel accepts w bytes d
-      → answer ≡ record { number = height_of w; header_hash = d.block.header_hash; flags = d.block.flags } → new ≡ applied w d
+      → answer ≡ record { number = height_of w; header_hash = d.block.header_hash; commit_hash = d.block.commit_hash; flags = d.block.flags } → new ≡ applied w d
       → Step channel accepts w bytes (Ok answer) new
   next_delta-step bytes d answer new next answer_is new_is =
       let b = next.block in
-      let kept : CommittedBlock = committed_of bytes b (job_of channel accepts w (items_of b)) in
-      let shown : (n : ℕ) → CommittedBlock → Accepted = λ n k. record { number = n; header_hash = k.header_hash; flags = k.flags } in (
+      let kept : CommittedBlock = committed_of bytes (last_commit_hash w) b (job_of channel accepts w (items_of b)) in
+      let shown : (n : ℕ) → CommittedBlock → Accepted = λ n k. record { number = n; header_hash = k.header_hash; commit_hash = k.commit_hash; flags = k.flags } in (
         b,
         next.spelled,
         next.linked,

@@ -11,7 +11,7 @@ use Rattle.rules.specs.declared.answer.Accepted.{Accepted}
 use Rattle.rules.specs.declared.delta.Delta.{Delta}
 use Rattle.rules.specs.Candidate.{used_id}
 use Rattle.rules.specs.Job.{Job}
-use Rattle.rules.specs.World.{World, height_of}
+use Rattle.rules.specs.World.{World, height_of, last_commit_hash}
 use Rattle.rules.specs.Names.{HasNamesOf}
 use Rattle.rules.specs.Linked.{IsLinked}
 use Rattle.rules.specs.Commit.{items_of, job_of, committed_of}
@@ -23,7 +23,7 @@ pub record IsNextDelta (channel : Configuration) (accepts : Accepts) (w : World)
   pub block : Block
   pub spelled : Spells bytes block
   pub linked : IsLinked w block
-  pub delta : IsDelta channel accepts w (items_of block) (committed_of bytes block (job_of channel accepts w (items_of block))) d
+  pub delta : IsDelta channel accepts w (items_of block) (committed_of bytes (last_commit_hash w) block (job_of channel accepts w (items_of block))) d
   pub changes : AreRealChanges w.state (changes_in d.changes)
 
 -- Whatever the verifier and the items of which this was taken in, the job is theirs where the world has the names of the
@@ -39,14 +39,14 @@ AreIdsOfTaken channel taken ids =
     → ids ≡ map (used_id channel accepts) items
 
 -- Of whatever world and verifier the job is that of this block, and the ids are its, this is the block's delta, which keeps these
--- bytes. A step to the former.
-abbrev pub IsDeltaOfJob : Job → List (Option (List ℕ)) → List ℕ → Block → Delta → Type 0
-IsDeltaOfJob j ids bytes b d =
+-- bytes, where that world's last commit hash is this one. A step to the former.
+abbrev pub IsDeltaOfJob : Job → List (Option (List ℕ)) → Option (List ℕ) → List ℕ → Block → Delta → Type 0
+IsDeltaOfJob j ids last bytes b d =
     (channel : Configuration) (accepts : Accepts) (w : World) → j ≡ job_of channel accepts w (items_of b)
-    → ids ≡ map (used_id channel accepts) (items_of b)
-    → IsDelta channel accepts w (items_of b) (committed_of bytes b (job_of channel accepts w (items_of b))) d
+    → ids ≡ map (used_id channel accepts) (items_of b) → last ≡ last_commit_hash w
+    → IsDelta channel accepts w (items_of b) (committed_of bytes (last_commit_hash w) b (job_of channel accepts w (items_of b))) d
     × AreRealChanges w.state (changes_in d.changes)
 
 -- what is answered to the block of this delta
 abbrev pub answer_to : World → Delta → Accepted
-answer_to w d = record { number = height_of w; header_hash = d.block.header_hash; flags = d.block.flags }
+answer_to w d = record { number = height_of w; header_hash = d.block.header_hash; commit_hash = d.block.commit_hash; flags = d.block.flags }

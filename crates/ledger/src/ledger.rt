@@ -21,7 +21,7 @@ use rules::{Accepted, CommittedBlock, Delta, Refused};
 use std::alloc::{AllocError, Global};
 use std::marker::Model;
 use values::{Bytes, Items};
-use world::World;
+use world::{ReadyDelta, World};
 
 /// The ledger of one channel, which takes blocks one by one, on one thread. A contract sees its channel and its
 /// world.
@@ -52,11 +52,12 @@ impl Model for Ledger {
 
 /// What is answered to the block of this number.
 fn accepted(alloc: Global, number: u64, block: &CommittedBlock) -> Result<Accepted, AllocError>
-    ensures { IfOk result (λ a. a ≡ record { number = number; header_hash = block.now.header_hash; flags = block.now.flags }) }
+    ensures { IfOk result (λ a. a ≡ record { number = number; header_hash = block.now.header_hash; commit_hash = block.now.commit_hash; flags = block.now.flags }) }
 {
     Ok(Accepted {
         number,
         header_hash: block.header_hash,
+        commit_hash: block.commit_hash,
         flags: block.flags.copy(alloc)?,
     })
 }
@@ -87,7 +88,8 @@ impl Ledger {
     pub fn delta<V: Verify>(&self, bytes: &[u8], verifier: &V) -> Result<Delta, Refused>
         ensures { MatchResult result (IsNextDelta self.now.channel (V.accepts verifier.now) self.now.world bytes.now) (IsRefused self.now.world bytes.now) }
     {
-        next_delta(self.alloc, &self.channel, &self.world, bytes, verifier)
+        let ready = next_delta(self.alloc, &self.channel, &self.world, bytes, verifier)?;
+        Ok(ready.into_delta())
     }
 
     /// Why each transaction of the block of these bytes would have its flag, in block order, or why the block would be
@@ -112,19 +114,21 @@ impl Ledger {
     {
         first_version_steps_as_before();
         let delta = next_delta(self.alloc, &self.channel, &self.world, bytes, verifier)?;
-        self.apply(&delta)
+        self.apply(delta)
     }
 
     /// Applies the delta of the next block, and answers to that block. An `Err` has changed nothing.
-    fn apply(&mut self, delta: &Delta) -> Result<Accepted, Refused>
-        requires { HasNamesOf self.old.channel (applied self.old.world delta.now) }
-        ensures accepted { IfOk result (λ a. a ≡ answer_to self.old.world delta.now) }
-        ensures applied { OnOk result (self.new ≡ record self.old { world = applied self.old.world delta.now }) }
+    fn apply(&mut self, delta: ReadyDelta) -> Result<Accepted, Refused>
+        requires { HasNamesOf self.old.channel (applied self.old.world delta) }
+        ensures accepted { IfOk result (λ a. a ≡ answer_to self.old.world delta) }
+        ensures applied { OnOk result (self.new ≡ record self.old { world = applied self.old.world delta }) }
         ensures refused { IfErr result (λ refused. refused ≡ Memory) }
         ensures err { OnErr result (self.new ≡ self.old) }
     {
-        let accepted = accepted(self.alloc, self.world.height(), delta.block.get())?;
-        self.world.apply(delta)?;
+        let accepted = accepted(self.alloc, self.world.height(), delta.delta().block.get())?;
+        if self.world.apply_or_return(delta).is_err() {
+            return Err(Refused::Memory);
+        }
         Ok(accepted)
     }
 

@@ -4,21 +4,24 @@ ghost use Rattle.block.specs.Limits.{max_txs};
 ghost use Rattle.rules.specs.Delta.{AreRealChanges, changes_in, definitions_in};
 ghost use Rattle.rules.specs.Fold as fold;
 ghost use Rattle.rules.specs.Fold.{final_state, definitions_to};
-ghost use Rattle.rules.specs.State.{with_changes};
-ghost use Rattle.ledger.specs.Changes.{AddEntriesOf, Changes};
+ghost use Rattle.rules.specs.Commit.{commit_hash_in, committed_of};
+ghost use Rattle.rules.specs.State.{State, with_changes};
+ghost use Rattle.state_db.specs.Batch.{changed};
+ghost use Rattle.ledger.specs.Changes.{AddEntriesOf};
 ghost use Rattle.ledger.specs.NextDelta.{AreIdsOfTaken, IsDeltaOfJob, IsJobOfTaken};
 
-use block_steps::{LinkedBlock, uses_of};
+use block_steps::{LinkedBlock, next_commit_hash, uses_of};
 use channel::Configuration;
 use effects::{Effects, effects_of};
 use header_hash::header_hash;
 use intake::{Taken, candidates_of, ids_of};
 use key_chains::Job;
-use rules::{CommittedBlock, Delta, Flag};
+use rules::{CommittedBlock, Delta, Flag, NewDefinition, NewUse};
+use state_db::Batch;
 use std::alloc::{AllocError, Global};
-use transaction::TxId;
-use values::{Bytes, Items, Shared, Slice};
-use world::World;
+use transaction::{BlockVersion, TxId};
+use values::{Bytes, Hash, Items, Shared, Slice};
+use world::{ReadyDelta, World};
 
 // how many bytes tell how long a transaction is
 const TX_COUNT: usize = 4;
@@ -68,78 +71,133 @@ fn starts_of(alloc: Global, bytes: usize, txs: &[Slice<'_>]) -> Result<Vec<usize
     Ok(starts)
 }
 
-/// What a job changes of rows, histories and policies, where these transactions stand in the bytes that are kept.
-fn effects_in(
+/// The commit hash of a job's block behind this one, where these are its flags, what a batch makes of the state before it is its
+/// last state, and these are the definitions that it gives.
+fn commit_hash_of(
     alloc: Global,
     job: &Job<'_>,
-    block: &CommittedBlock,
-    txs: &[Slice<'_>],
-) -> Result<Effects, AllocError>
-    requires { block.now.flags ≡ fold.flags job.now }
-    ensures state { IfOk result (λ e. with_changes job.now.state (changes_in e.changes.items) ≡ final_state job.now) }
-    ensures changes { IfOk result (λ e. AreRealChanges job.now.state (changes_in e.changes.items)) }
-    ensures history { IfOk result (λ e. AddEntriesOf job.now e.entries.items) }
-    ensures definitions { IfOk result (λ e. definitions_in e.definitions.items ≡ definitions_to job.now (length job.now.candidates)) }
+    last: Option<Hash>,
+    version: BlockVersion,
+    flags: &[Flag],
+    batch: &Batch,
+    definitions: &[NewDefinition],
+) -> Result<Hash, AllocError>
+    requires flags { flags.now ≡ fold.flags job.now }
+    requires state { changed job.now.state batch.now ≡ final_state job.now }
+    requires definitions { definitions_in definitions.now ≡ definitions_to job.now (length job.now.candidates) }
+    ensures { IfOk result (λ hash. hash ≡ commit_hash_in last version job.now) }
 {
-    let starts = starts_of(alloc, block.bytes.get().len(), txs)?;
-    effects_of(
+    let update = job.update_bytes(batch)?;
+    next_commit_hash(
         alloc,
-        job,
-        block.flags.as_slice(),
-        &block.bytes,
-        starts.as_slice(),
+        last,
+        version,
+        job.number(),
+        flags,
+        update.as_slice(),
+        definitions,
     )
 }
 
-/// What the candidates of a job change where their block is kept so.
-fn changes_of(
+/// The effects of a job, with a batch of its changes.
+fn effects_in(
     alloc: Global,
     job: &Job<'_>,
-    ids: &[Option<TxId>],
+    flags: &[Flag],
+    bytes: &Shared<Bytes>,
     txs: &[Slice<'_>],
-    block: Shared<CommittedBlock>,
-) -> Result<Delta, AllocError>
-    requires flags { block.flags ≡ fold.flags job.now }
-    requires ids { length ids.now ≡ length job.now.candidates }
-    requires few { length ids.now ≤ max_txs }
-    ensures { IfOk result (λ d. Changes job.now ids.now block d) }
+) -> Result<(Effects, Batch), AllocError>
+    requires { flags.now ≡ fold.flags job.now }
+    ensures state { IfOk result (λ r. with_changes job.now.state (changes_in r.0.changes.items) ≡ final_state job.now) }
+    ensures changes { IfOk result (λ r. AreRealChanges job.now.state (changes_in r.0.changes.items)) }
+    ensures history { IfOk result (λ r. AddEntriesOf job.now r.0.entries.items) }
+    ensures definitions { IfOk result (λ r. definitions_in r.0.definitions.items ≡ definitions_to job.now (length job.now.candidates)) }
+    ensures batch { IfOk result (λ r. (s : State) → changed s r.1 ≡ with_changes s (changes_in r.0.changes.items)) }
 {
-    let effects = effects_in(alloc, job, block.get(), txs)?;
-    let uses = uses_of(alloc, job.number(), ids, block.get().flags.as_slice())?;
-    Ok(Delta {
+    let starts = starts_of(alloc, bytes.get().len(), txs)?;
+    let effects = effects_of(alloc, job, flags, bytes, starts.as_slice())?;
+    let batch = Batch::of(alloc, effects.changes.as_slice())?;
+    Ok((effects, batch))
+}
+
+/// The block as it is kept, where these are its effects and a batch of their changes.
+fn kept_of(
+    alloc: Global,
+    bytes: Shared<Bytes>,
+    block: &LinkedBlock<'_>,
+    last: Option<Hash>,
+    job: &Job<'_>,
+    flags: Vec<Flag>,
+    effects: &Effects,
+    batch: &Batch,
+) -> Result<Shared<CommittedBlock>, AllocError>
+    requires flags { flags.items ≡ fold.flags job.now }
+    requires state { changed job.now.state batch.now ≡ final_state job.now }
+    requires definitions { definitions_in effects.now.definitions.items ≡ definitions_to job.now (length job.now.candidates) }
+    ensures { IfOk result (λ kept. kept ≡ committed_of bytes last block.now job.now) }
+{
+    let commit_hash = commit_hash_of(
+        alloc,
+        job,
+        last,
+        block.version(),
+        flags.as_slice(),
+        batch,
+        effects.definitions.as_slice(),
+    )?;
+    Shared::new(
+        alloc,
+        CommittedBlock {
+            bytes,
+            header_hash: header_hash(block.header()),
+            commit_hash,
+            version: block.version(),
+            flags: Items::from_vec(flags),
+        },
+    )
+}
+
+/// The delta of these effects and uses.
+fn ready_of(
+    effects: Effects,
+    batch: Batch,
+    uses: Vec<NewUse>,
+    block: Shared<CommittedBlock>,
+) -> ReadyDelta
+    requires { (s : State) → changed s batch ≡ with_changes s (changes_in effects.changes.items) }
+    ensures { result ≡ record { changes = effects.changes.items; entries = effects.entries.items; uses = uses.items; definitions = effects.definitions.items; block = block } }
+{
+    let delta = Delta {
         changes: Items::from_vec(effects.changes),
         entries: Items::from_vec(effects.entries),
         uses: Items::from_vec(uses),
         definitions: Items::from_vec(effects.definitions),
         block,
-    })
+    };
+    ReadyDelta::of_parts(delta, batch)
 }
 
-/// The delta of a block that is the next one, which keeps these bytes; of its job, ids and flags.
+/// The delta of a block that is the next one behind a block of this commit hash, which keeps these bytes; of its job, ids and flags.
+/// With the batch of its changes, by which the rows that differ are hashed too.
 ///
-/// Linear in the block and in what it writes, and a search for each key that it writes. Memory for the delta alone, whose keys
-/// and values are parts of the bytes where they stand in them.
+/// Linear in the block and in what it writes, and two searches for each key that it writes. Memory for the delta and its batch, and for
+/// what is hashed; keys and values are parts of the bytes where they stand in them.
 pub fn delta_of(
     alloc: Global,
     bytes: Shared<Bytes>,
     block: &LinkedBlock<'_>,
+    last: Option<Hash>,
     job: &Job<'_>,
     ids: &[Option<TxId>],
     flags: Vec<Flag>,
-) -> Result<Delta, AllocError>
+) -> Result<ReadyDelta, AllocError>
     requires flags { flags.items ≡ fold.flags job.now }
     requires ids { length ids.now ≡ length job.now.candidates }
     requires few { length ids.now ≤ max_txs }
-    ensures { IfOk result (λ d. IsDeltaOfJob job.now ids.now bytes block.now d) }
+    ensures { IfOk result (λ d. IsDeltaOfJob job.now ids.now last bytes block.now d) }
 {
-    let kept = Shared::new(
-        alloc,
-        CommittedBlock {
-            bytes,
-            header_hash: header_hash(block.header()),
-            version: block.version(),
-            flags: Items::from_vec(flags),
-        },
-    )?;
-    changes_of(alloc, job, ids, block.txs(), kept)
+    let uses = uses_of(alloc, job.number(), ids, flags.as_slice())?;
+    let (effects, batch) = effects_in(alloc, job, flags.as_slice(), &bytes, block.txs())?;
+    let kept = kept_of(alloc, bytes, block, last, job, flags, &effects, &batch)?;
+    Ok(ready_of(effects, batch, uses, kept))
 }

@@ -14,11 +14,12 @@ use channel::Configuration;
 use intake::{Taken, take_in};
 use key_chains::Job;
 use policy_eval::Verify;
-use rules::{Delta, Refused};
+use rules::Refused;
 use serial_checks::flags;
 use std::alloc::Global;
 use transaction::TxId;
-use world::World;
+use values::Hash;
+use world::{ReadyDelta, World};
 
 /// The next block of a world, or why the bytes are refused. Its transactions are hashed where it stands at its place.
 fn next_block<'b>(alloc: Global, world: &World, bytes: &'b [u8]) -> Result<LinkedBlock<'b>, Refused>
@@ -44,20 +45,21 @@ pub(crate) fn take_in_next<'b, V: Verify>(
     Ok((block, taken))
 }
 
-/// The delta of a block that is the next one, of its job and ids.
+/// The delta of a block that is the next one behind a block of this commit hash, of its job and ids.
 fn delta_in_order(
     alloc: Global,
     block: &LinkedBlock<'_>,
+    last: Option<Hash>,
     job: &Job<'_>,
     ids: &[Option<TxId>],
-) -> Result<Delta, Refused>
+) -> Result<ReadyDelta, Refused>
     requires ids { length ids.now ≡ length job.now.candidates }
     requires few { length ids.now ≤ max_txs }
-    ensures { MatchResult result (IsDeltaOfJob job.now ids.now (bytes_of block.now) block.now) (λ refused. refused ≡ Memory) }
+    ensures { MatchResult result (IsDeltaOfJob job.now ids.now last (bytes_of block.now) block.now) (λ refused. refused ≡ Memory) }
 {
     let kept = block.kept_bytes(alloc)?;
     let flags = flags(alloc, job)?;
-    Ok(delta_of(alloc, kept, block, job, ids, flags)?)
+    Ok(delta_of(alloc, kept, block, last, job, ids, flags)?)
 }
 
 /// What the block of these bytes would change, or why it would be refused.
@@ -67,11 +69,11 @@ pub(crate) fn next_delta<V: Verify>(
     world: &World,
     bytes: &[u8],
     verifier: &V,
-) -> Result<Delta, Refused>
+) -> Result<ReadyDelta, Refused>
     requires { HasNamesOf channel.now world.now }
     ensures { MatchResult result (IsNextDelta channel.now (V.accepts verifier.now) world.now bytes.now) (IsRefused world.now bytes.now) }
 {
     let (block, taken) = take_in_next(alloc, channel, world, bytes, verifier)?;
     let (job, ids) = job_of(alloc, channel, world, taken)?;
-    delta_in_order(alloc, &block, &job, ids.as_slice())
+    delta_in_order(alloc, &block, world.commit_hash(), &job, ids.as_slice())
 }

@@ -21,6 +21,9 @@ use transaction::TxId;
 use values::{Bytes, Hash, Items, Key, Name, Part, Shared};
 use world::World;
 
+// The plain peer makes no commit hashes.
+const UNKNOWN: Hash = [0; 32];
+
 /// Both, with the same blocks.
 #[derive(Drop)]
 pub struct Pair {
@@ -42,6 +45,14 @@ fn is_same_answer(one: &Result<Accepted, Refused>, other: &Result<Accepted, Refu
         }
         (Err(one), Err(other)) => one == other,
         _ => false,
+    }
+}
+
+// Whether an accepted block's commit hash is the world's.
+fn has_commit_hash(answer: &Result<Accepted, Refused>, world: &World) -> bool {
+    match answer {
+        Ok(accepted) => world.commit_hash() == Some(accepted.commit_hash),
+        Err(_) => true,
     }
 }
 
@@ -111,6 +122,7 @@ fn is_same_block(one: Option<&CommittedBlock>, other: Option<&CommittedBlock>) -
         (Some(one), Some(other)) => {
             one.bytes.get().is_same(other.bytes.get())
                 && one.header_hash == other.header_hash
+                && one.commit_hash == other.commit_hash
                 && one.flags.as_slice() == other.flags.as_slice()
         }
         (None, None) => true,
@@ -250,6 +262,7 @@ impl Pair {
         Ok(Accepted {
             number: block.header.number,
             header_hash: header_hash(&block.header),
+            commit_hash: UNKNOWN,
             flags,
         })
     }
@@ -285,7 +298,8 @@ impl Pair {
         verifier: &V,
         wanted: &Result<Accepted, Refused>,
     ) -> bool {
-        is_same_answer(&submitted(&mut self.ledger, bytes, verifier), wanted)
+        let answer = submitted(&mut self.ledger, bytes, verifier);
+        is_same_answer(&answer, wanted) && has_commit_hash(&answer, self.world())
     }
 
     fn keep(&mut self, alloc: Global, bytes: &[u8], accepted: Accepted) -> Result<(), AllocError> {
@@ -293,6 +307,7 @@ impl Pair {
         let block = CommittedBlock {
             bytes: shared(alloc, bytes)?,
             header_hash: accepted.header_hash,
+            commit_hash: self.world().commit_hash().unwrap_or(UNKNOWN),
             version: version_of(bytes),
             flags: accepted.flags,
         };

@@ -13,6 +13,8 @@ mod chain;
 #[cfg(test)]
 mod changed_updates;
 #[cfg(test)]
+mod commit_hashes;
+#[cfg(test)]
 mod committers;
 #[cfg(test)]
 mod explained_memory;

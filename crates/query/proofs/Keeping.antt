@@ -1,5 +1,5 @@
 -- Each step keeps the rule.
-use Rattle.std.proofs.Common.{◌≡◌, ℕ, zero, suc, ◌≢◌, ◌⊎◌, List, [], ◌∷◌, ◌++◌, set, fold, refl, ap, sym, ◌∙◌, subst, ⊎_elim, Some, None, Result, Ok, Err, MatchResult, OnOk, OnErr}
+use Rattle.std.proofs.Common.{◌≡◌, ℕ, zero, suc, ◌≢◌, List, [], ◌∷◌, ◌++◌, set, fold, refl, ap, sym, ◌∙◌, subst, ⊎_elim, Some, None, Result, Ok, Err, MatchResult, OnOk, OnErr}
 use Rattle.std.proofs.lemmas.List.Sums.{fold-append}
 use mathlib.Core.Option.{some, some-injective, some-ne-none}
 use mathlib.Core.List.{IsPrefix}
@@ -14,7 +14,7 @@ use Rattle.rules.specs.Linked.{IsLinkedDelta}
 use Rattle.query.specs.declared.shown.Shown.{Shown}
 use Rattle.query.specs.declared.shown.Entry.{Entry}
 use Rattle.query.specs.declared.shown.Told.{Told}
-use Rattle.query.specs.Published.{Beginning, Watch, GoesOn, applied_all, AreLinkedDeltas}
+use Rattle.query.specs.Published.{Beginning, GoesOn, applied_all, AreLinkedDeltas}
 use Rattle.query.specs.Rule.{View, Fits, IsRuled, Finds, Sees, Begins, Takes, IsTold, IsShown, absorbed, base_of}
 
 -- ---- chains

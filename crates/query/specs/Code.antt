@@ -1,12 +1,12 @@
 -- Injective codes of what handles and publishers know, which the prover asks of a type that contracts see.
-use Rattle.std.specs.Prelude.{Bool, List, Option, refl}
-use Rattle.std.specs.Coded.{Coded, coded×, coded_list, coded_option, coded_ℕ, coded_bool, code_by}
+use Rattle.std.specs.Prelude.{Bool, List, refl}
+use Rattle.std.specs.Coded.{Coded, coded×, coded_list, coded_bool, code_by}
 use Rattle.logbook.specs.Pages.{Book, book_coded}
 use Rattle.rules.specs.contracts.delta.Delta as delta
 use Rattle.rules.specs.declared.delta.Delta.{Delta}
 use Rattle.rules.specs.World.{World}
 use Rattle.rules.specs.Code.{keyed_row_code, world_code}
-use Rattle.rules.specs.Answers.{Reply, RangeAnswer}
+use Rattle.rules.specs.Answers.{RangeAnswer}
 use Rattle.rules.specs.State.{StateKey}
 use Rattle.rules.specs.declared.row.Row.{Row}
 use Rattle.query.specs.Published.{Beginning, Watch, Publishing}

@@ -17,6 +17,8 @@ pub struct Reply<A> {
     pub height: u64,
     /// Of the last block; none at height 0.
     pub header_hash: Option<Hash>,
+    /// The same.
+    pub commit_hash: Option<Hash>,
     pub answer: A,
 }
 
@@ -25,7 +27,7 @@ impl<A> Model for Reply<A> {
 
     ghost Value = { answers.Reply A };
 
-    ghost view = { λ r. record { height = r.height; header_hash = r.header_hash; answer = r.answer } };
+    ghost view = { λ r. record { height = r.height; header_hash = r.header_hash; commit_hash = r.commit_hash; answer = r.answer } };
 }
 
 /// Rows in the order of their keys.

@@ -41,6 +41,7 @@ fn replied<Q: Question>(world: &World, question: &Q) -> Result<Reply<Q::Answer>,
     Ok(Reply {
         height: world.height(),
         header_hash: world.header_hash(),
+        commit_hash: world.commit_hash(),
         answer,
     })
 }

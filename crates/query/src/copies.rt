@@ -76,6 +76,7 @@ pub(crate) fn copied_block(
         Some(block) => Ok(Some(CommittedBlock {
             bytes: block.bytes.share()?,
             header_hash: block.header_hash,
+            commit_hash: block.commit_hash,
             version: block.version,
             flags: block.flags.copy(alloc)?,
         })),

@@ -137,20 +137,42 @@ impl Publisher {
         ensures ok { OnOk result (self.new ≡ record self.old { list = self.old.list ++ delta ∷ [] }) }
         ensures number { IfOk result (λ r. r.number ≡ height_of (published_world self.old)) }
         ensures height { IfOk result (λ r. r.height ≡ height_of (published_world self.new)) }
-        ensures block { IfOk result (λ r. (r.header_hash ≡ delta.block.header_hash) × (r.flags ≡ delta.block.flags)) }
+        ensures block { IfOk result (λ r. (r.header_hash ≡ delta.block.header_hash) × (r.commit_hash ≡ delta.block.commit_hash) × (r.flags ≡ delta.block.flags)) }
+        ensures front { IfOk result (λ r. r.front ≡ record { book = self.new.book; list = self.new.list }) }
+        ensures err { OnErr result (self.new ≡ record self.old { failed = true }) }
+    {
+        let Ok(ready) = ReadyDelta::new(self.alloc, delta) else {
+            self.failed = true;
+            return Err(AllocError);
+        };
+        self.publish_ready(rt, ready)
+    }
+
+    /// The same with a delta whose batch is made.
+    pub fn publish_ready<R: Wait>(
+        &mut self,
+        rt: &R,
+        delta: ReadyDelta,
+    ) -> Result<Receipt, AllocError>
+        requires linked { IsLinkedDelta (published_world self.old) delta }
+        requires open { self.old.failed ≡ false }
+        ensures ok { OnOk result (self.new ≡ record self.old { list = self.old.list ++ delta ∷ [] }) }
+        ensures number { IfOk result (λ r. r.number ≡ height_of (published_world self.old)) }
+        ensures height { IfOk result (λ r. r.height ≡ height_of (published_world self.new)) }
+        ensures block { IfOk result (λ r. (r.header_hash ≡ delta.block.header_hash) × (r.commit_hash ≡ delta.block.commit_hash) × (r.flags ≡ delta.block.flags)) }
         ensures front { IfOk result (λ r. r.front ≡ record { book = self.new.book; list = self.new.list }) }
         ensures err { OnErr result (self.new ≡ record self.old { failed = true }) }
     {
         self.failed = true;
         let number = self.writer.published().world.height();
-        let header_hash = delta.block.get().header_hash;
-        let ready = ReadyDelta::new(self.alloc, delta)?;
-        let flags = ready.delta().block.get().flags.copy(self.alloc)?;
-        let Some(front) = self.front.with(&self.counter, ready.delta()) else {
+        let block = delta.delta().block.get();
+        let (header_hash, commit_hash) = (block.header_hash, block.commit_hash);
+        let flags = block.flags.copy(self.alloc)?;
+        let Some(front) = self.front.with(&self.counter, delta.delta()) else {
             return Err(AllocError);
         };
         let entry = Entry {
-            delta: ready,
+            delta,
             front: front.again(),
         };
         show(rt, &mut self.writer, entry)?;
@@ -160,6 +182,7 @@ impl Publisher {
             number,
             height: self.writer.published().world.height(),
             header_hash,
+            commit_hash,
             flags,
             front,
         })

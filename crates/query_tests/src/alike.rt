@@ -9,7 +9,9 @@ use world::World;
 
 /// Whether a reply is of this world's height.
 pub fn is_of<A>(reply: &Reply<A>, world: &World) -> bool {
-    reply.height == world.height() && reply.header_hash == world.header_hash()
+    reply.height == world.height()
+        && reply.header_hash == world.header_hash()
+        && reply.commit_hash == world.commit_hash()
 }
 
 fn is_same_value(one: &Option<Part>, other: &Option<Part>) -> bool {
@@ -57,5 +59,6 @@ pub fn is_same_entry(one: &HistoryEntry, other: &HistoryEntry) -> bool {
 pub fn is_same_block(one: &CommittedBlock, other: &CommittedBlock) -> bool {
     one.bytes.get().is_same(other.bytes.get())
         && one.header_hash == other.header_hash
+        && one.commit_hash == other.commit_hash
         && one.flags.as_slice() == other.flags.as_slice()
 }

@@ -45,6 +45,7 @@ fn is_same(answer: &Result<Receipt, NotCommitted>, of_ledger: &Result<Accepted, 
             receipt.number == accepted.number
                 && receipt.height == accepted.number.wrapping_add(1)
                 && receipt.header_hash == accepted.header_hash
+                && receipt.commit_hash == accepted.commit_hash
                 && receipt.flags.as_slice() == accepted.flags.as_slice()
         }
         (Err(NotCommitted::Refused(refused)), Err(of_ledger)) => refused == of_ledger,

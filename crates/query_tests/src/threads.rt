@@ -32,8 +32,8 @@ const TURNS: u32 = 2_000_000;
 /// What the threads share.
 #[derive(Drop)]
 struct Watched {
-    /// The header hash of each block.
-    hashes: Vec<Hash>,
+    /// The header hash and the commit hash of each block.
+    hashes: Vec<[Hash; 2]>,
     /// How many readers have asked.
     begun: AtomicU64,
     replies: AtomicU64,
@@ -42,7 +42,7 @@ struct Watched {
 }
 
 impl Watched {
-    fn over(hashes: Vec<Hash>) -> Watched {
+    fn over(hashes: Vec<[Hash; 2]>) -> Watched {
         Watched {
             hashes,
             begun: AtomicU64::new(0),
@@ -52,13 +52,14 @@ impl Watched {
         }
     }
 
-    fn has_hash<A>(&self, reply: &Reply<A>) -> bool {
-        match reply.height {
-            0 => reply.header_hash.is_none(),
-            height => {
-                reply.header_hash.is_some()
-                    && reply.header_hash.as_ref() == self.hashes.get(height as usize - 1)
+    fn has_hashes<A>(&self, reply: &Reply<A>) -> bool {
+        match (reply.height, reply.header_hash, reply.commit_hash) {
+            (0, None, None) => true,
+            (0, _, _) => false,
+            (height, Some(header), Some(commit)) => {
+                self.hashes.get(height as usize - 1) == Some(&[header, commit])
             }
+            _ => false,
         }
     }
 
@@ -119,7 +120,7 @@ fn height_of_row(
     watched: &Watched,
 ) -> Result<Option<u64>, Failed> {
     let reply = row_of_cc(handle, b"k")?;
-    let is_right = watched.has_hash(&reply) && has_value(alloc, &reply)?;
+    let is_right = watched.has_hashes(&reply) && has_value(alloc, &reply)?;
     Ok(is_right.then_some(reply.height))
 }
 
@@ -131,7 +132,7 @@ fn height_of_history(
 ) -> Result<Option<u64>, Failed> {
     let reply = handle.history(alloc, &name(b"cc")?, &key(b"k")?)?;
     let count = reply.answer.len() as u64;
-    let is_right = watched.has_hash(&reply) && count == reply.height.wrapping_add(1) / 2;
+    let is_right = watched.has_hashes(&reply) && count == reply.height.wrapping_add(1) / 2;
     Ok(is_right.then_some(reply.height))
 }
 
@@ -142,7 +143,7 @@ fn height_of_policy(
     watched: &Watched,
 ) -> Result<Option<u64>, Failed> {
     let reply = handle.definition(alloc, &name(b"cc")?)?;
-    let is_right = watched.has_hash(&reply) && has_policy(alloc, &reply)?;
+    let is_right = watched.has_hashes(&reply) && has_policy(alloc, &reply)?;
     Ok(is_right.then_some(reply.height))
 }
 
@@ -286,11 +287,11 @@ fn add_all(story: &mut Story) -> Result<(), Failed> {
     Ok(())
 }
 
-fn hashes_of(alloc: Global, world: &World) -> Result<Vec<Hash>, AllocError> {
+fn hashes_of(alloc: Global, world: &World) -> Result<Vec<[Hash; 2]>, AllocError> {
     let mut hashes = Vec::new(alloc);
     for number in 0..world.height() {
         if let Some(block) = world.block(number) {
-            hashes.push(block.header_hash)?;
+            hashes.push([block.header_hash, block.commit_hash])?;
         }
     }
     Ok(hashes)

@@ -21,7 +21,7 @@ use Rattle.rules.specs.FirstUses.{with_uses}
 use Rattle.rules.specs.Definitions.{with_definitions}
 use Rattle.rules.specs.Job.{Job, candidate_at, version_of, changes_by}
 use Rattle.rules.specs.Fold.{running, flag, final_state, changes_to, entries_to, definitions_to}
-use Rattle.rules.specs.World.{World}
+use Rattle.rules.specs.World.{World, last_commit_hash}
 use Rattle.rules.specs.Candidate.{used_id}
 use Rattle.rules.specs.Commit.{items_of, channel_in, job_of, uses_from, committed_of, committed}
 use Rattle.rules.specs.Delta.{changes_in, entries_in, uses_in, definitions_in, applied, IsDelta}
@@ -147,7 +147,7 @@ module _ (channel : Configuration) (accepts : Accepts) (w : World) (items : List
 -- ---- the delta of a linked block
 
 pub delta-is_linked : (channel : Configuration) (accepts : Accepts) (w : World) (bytes : List ℕ) (b : Block) (d : Delta) → Spells bytes b → IsLinked w b
-    → IsDelta channel accepts w (items_of b) (committed_of bytes b (job_of channel accepts w (items_of b))) d → IsLinkedDelta w d
+    → IsDelta channel accepts w (items_of b) (committed_of bytes (last_commit_hash w) b (job_of channel accepts w (items_of b))) d → IsLinkedDelta w d
 delta-is_linked channel accepts w bytes b d spelled linked is =
     let j = job_of channel accepts w (items_of b) in record {
       block = b;

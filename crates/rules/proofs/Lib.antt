@@ -12,6 +12,8 @@ pub mod Locality
 pub mod Sound
 pub mod Net
 pub mod Deltas
+pub mod Differing
+pub mod CommitBytes
 pub mod Invalid
 pub mod BlockFlags
 pub mod Runs

@@ -15,3 +15,4 @@ mod Answers
 mod Versions
 mod Runs
 mod Updates
+mod Commits

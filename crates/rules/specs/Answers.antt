@@ -1,4 +1,4 @@
--- Answers of queries: each is a function of one world. A `Reply` adds the world's height and last header hash.
+-- Answers of queries: each is a function of one world. A `Reply` adds the world's height, and its last header hash and commit hash.
 use Rattle.std.specs.Prelude.{ℕ, nat_lt, List, length, take, Bool, Option, option_map, slice_get}
 use Rattle.std.specs.FinMap.{get}
 use Rattle.policy.specs.Text.{text_of}
@@ -9,17 +9,17 @@ use Rattle.rules.specs.declared.row.Row.{Row}
 use Rattle.rules.specs.State.{StateKey}
 use Rattle.rules.specs.History.{entries_at}
 use Rattle.rules.specs.Ranges.{is_within, rows_where}
-use Rattle.policy.specs.Text.{text_of}
-use Rattle.rules.specs.World.{World, height_of, last_header_hash}
+use Rattle.rules.specs.World.{World, height_of, last_header_hash, last_commit_hash}
 
 pub record Reply (A : Type 0) : Type 0 where
   pub height : ℕ
-  -- none at height 0
+  -- neither at height 0
   pub header_hash : Option (List ℕ)
+  pub commit_hash : Option (List ℕ)
   pub answer : A
 
 abbrev pub reply : {A : Type 0} → World → A → Reply A
-reply w x = record { height = height_of w; header_hash = last_header_hash w; answer = x }
+reply w x = record { height = height_of w; header_hash = last_header_hash w; commit_hash = last_commit_hash w; answer = x }
 
 abbrev pub row_answer : World → StateKey → Option Row
 row_answer w k = get w.state k

@@ -1,9 +1,10 @@
 -- What a linked block makes of a world.
-use Rattle.std.specs.Prelude.{ℕ, suc, List, [], ◌∷◌, ◌++◌, ◌==◌, length, map, Option, option_to_list}
+use Rattle.std.specs.Prelude.{ℕ, suc, List, [], ◌∷◌, ◌++◌, ◌==◌, length, map, Option, option_to_list, slice_get}
 use Rattle.block.specs.declared.block.Block.{Block}
+use Rattle.transaction.specs.declared.block_version.BlockVersion.{BlockVersion}
 use Rattle.transaction.specs.declared.item.Item.{Item}
 use Rattle.transaction.specs.Items.{item_of}
-use Rattle.header_hash.specs.Hashes.{header_hash_of}
+use Rattle.header_hash.specs.Hashes.{header_hash_of, commit_hash_of}
 use Rattle.policy_eval.specs.Accepts.{Accepts}
 use Rattle.channel.specs.Configuration.{Configuration}
 use Rattle.rules.specs.declared.committed.CommittedBlock.{CommittedBlock}
@@ -14,7 +15,8 @@ use Rattle.rules.specs.Fold.{flag, flags, final_state, entries_to, definitions_t
 use Rattle.rules.specs.History.{with_entries}
 use Rattle.rules.specs.FirstUses.{with_uses}
 use Rattle.rules.specs.Definitions.{with_definitions}
-use Rattle.rules.specs.World.{World, height_of}
+use Rattle.rules.specs.CommitBytes.{BlockCommit, commit_bytes, commit_hash_before}
+use Rattle.rules.specs.World.{World, height_of, last_commit_hash}
 
 -- the items of a block, none where the bytes spell none
 abbrev pub items_of : Block → List (Option Item)
@@ -40,9 +42,30 @@ uses_from j i [] = []
 uses_from j i (id ∷ ids) =
     map (λ x. (x, record { block = j.number; place = i; flag = flag j i })) (option_to_list id) ++ uses_from j (suc i) ids
 
--- the block as it is kept
-abbrev pub committed_of : List ℕ → Block → Job → CommittedBlock
-committed_of bytes b j = record { bytes = bytes; header_hash = header_hash_of b.header; version = b.version; flags = flags j }
+-- what the block of a job commits; one definition at most is there
+abbrev pub commit_by : BlockVersion → Job → BlockCommit
+commit_by version j = record {
+  version = version;
+  number = j.number;
+  flags = flags j;
+  before = j.state;
+  after = final_state j;
+  definition = slice_get (definitions_to j (length j.candidates)) 0;
+}
+
+-- the commit hash of that block, behind one with this commit hash, or as the first one
+abbrev pub commit_hash_in : Option (List ℕ) → BlockVersion → Job → List ℕ
+commit_hash_in previous version j = commit_hash_of (commit_hash_before previous) (commit_bytes (commit_by version j))
+
+-- the block as it is kept, behind one with this commit hash
+abbrev pub committed_of : List ℕ → Option (List ℕ) → Block → Job → CommittedBlock
+committed_of bytes previous b j = record {
+  bytes = bytes;
+  header_hash = header_hash_of b.header;
+  commit_hash = commit_hash_in previous b.version j;
+  version = b.version;
+  flags = flags j;
+}
 
 abbrev pub committed : Configuration → Accepts → World → List (Option Item) → CommittedBlock → World
 committed channel accepts w items kept =
@@ -58,4 +81,4 @@ committed channel accepts w items kept =
 -- the world after a linked block, which bytes spell
 abbrev pub world_after : Configuration → Accepts → World → List ℕ → Block → World
 world_after channel accepts w bytes b =
-    committed channel accepts w (items_of b) (committed_of bytes b (job_of channel accepts w (items_of b)))
+    committed channel accepts w (items_of b) (committed_of bytes (last_commit_hash w) b (job_of channel accepts w (items_of b)))

@@ -14,6 +14,8 @@ pub mod Fold
 pub mod World
 pub mod Names
 pub mod Linked
+pub mod Differing
+pub mod CommitBytes
 pub mod Commit
 pub mod Delta
 pub mod Listings

@@ -7,9 +7,9 @@ use Rattle.header_hash.specs.Hashes.{header_hash_of}
 use Rattle.policy_eval.specs.Accepts.{Accepts}
 use Rattle.rules.specs.declared.answer.Accepted.{Accepted}
 use Rattle.rules.specs.declared.answer.Refused.{Refused}
-use Rattle.rules.specs.World.{World}
+use Rattle.rules.specs.World.{World, last_commit_hash}
 use Rattle.rules.specs.Linked.{IsLinked, IsRefused}
-use Rattle.rules.specs.Commit.{items_of, job_of, world_after}
+use Rattle.rules.specs.Commit.{items_of, job_of, commit_hash_in, world_after}
 use Rattle.rules.specs.Fold.{flags}
 
 -- what is answered to a linked block
@@ -17,6 +17,7 @@ abbrev pub accepted_of : Configuration → Accepts → World → Block → Accep
 accepted_of channel accepts w b = record {
   number = b.header.number;
   header_hash = header_hash_of b.header;
+  commit_hash = commit_hash_in (last_commit_hash w) b.version (job_of channel accepts w (items_of b));
   flags = flags (job_of channel accepts w (items_of b));
 }
 

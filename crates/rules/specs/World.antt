@@ -32,6 +32,10 @@ height_of w = length w.blocks
 abbrev pub last_header_hash : World → Option (List ℕ)
 last_header_hash w = option_map (λ b. b.header_hash) (slice_get w.blocks (length w.blocks - 1))
 
+-- the commit hash of the last block
+abbrev pub last_commit_hash : World → Option (List ℕ)
+last_commit_hash w = option_map (λ b. b.commit_hash) (slice_get w.blocks (length w.blocks - 1))
+
 -- what the next block has as its previous hash
 abbrev pub previous_from : Option (List ℕ) → Previous
 previous_from None = Empty

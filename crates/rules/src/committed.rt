@@ -9,6 +9,8 @@ pub struct CommittedBlock {
     pub bytes: Shared<Bytes>,
     /// SHA-256 of the header's DER bytes.
     pub header_hash: Hash,
+    /// SHA-256 of the commit hash before it, followed by what the block changes.
+    pub commit_hash: Hash,
     /// As its first four bytes tell it.
     pub version: BlockVersion,
     /// One for each transaction, in order.

@@ -1,5 +1,5 @@
-ghost use Rattle.std.specs.Prelude.{◌≡◌, ◌≢◌, ◌<◌, ◌≤◌, ℕ, suc, Bool, false, List, length, Option, Some, IsSome, Result, Err, slice_index};
-ghost use Rattle.std.specs.FinMap.{get};
+ghost use Rattle.std.specs.Prelude.{◌≡◌, ◌≢◌, ◌<◌, ◌≤◌, ℕ, suc, Bool, true, false, if◌then◌else◌, List, length, map, Option, Some, None, IsSome, option_map, Result, Err, slice_index};
+ghost use Rattle.std.specs.FinMap.{get, find, is_sorted};
 ghost use Rattle.std.specs.Option.{option_or};
 ghost use Rattle.block.specs.declared.block.Block.{Block};
 ghost use Rattle.transaction.specs.declared.item.Item.{Item};
@@ -19,10 +19,13 @@ ghost use Rattle.rules.specs.declared.flag.Flag.{Flag};
 ghost use Rattle.rules.specs.declared.flag.Flag.TheVariants.{Valid};
 ghost use Rattle.rules.specs.declared.read_verdict.ReadVerdict.{ReadVerdict};
 ghost use Rattle.rules.specs.Flags.{number_of, flag_numbered, is_valid};
-ghost use Rattle.rules.specs.State.{StateKey};
+ghost use Rattle.rules.specs.declared.row.Row.{Row};
+ghost use Rattle.rules.specs.State.{StateKey, State, ChangeOf, key_cmp, with_changes};
+ghost use Rattle.rules.specs.Differing.{is_unchanged, differing};
+ghost use Rattle.rules.specs.CommitBytes.{BlockCommit, update_bytes, commit_bytes, told_change, told_definition, HasRoom};
 ghost use Rattle.rules.specs.Job.{Job, reads};
 ghost use Rattle.rules.specs.Fold.{running, endorsed, flag, changes_to, entries_to, definitions_to};
-ghost use Rattle.rules.specs.World.{World};
+ghost use Rattle.rules.specs.World.{World, last_commit_hash};
 ghost use Rattle.rules.specs.Candidate.{is_defined, candidate_of, candidates_from};
 ghost use Rattle.rules.specs.Definitions.{given};
 ghost use Rattle.rules.specs.Names.{HasNamesOf};
@@ -115,7 +118,7 @@ pub fn what_a_block_changes_is_its_delta()
 /// spell is a linked block.
 pub fn linked_deltas_keep_linked_blocks()
     ensures of_a_block { (channel : Configuration) (accepts : Accepts) (w : World) (bytes : List ℕ) (b : Block) (d : Delta)
-        → Spells bytes b → IsLinked w b → IsDelta channel accepts w (items_of b) (committed_of bytes b (job_of channel accepts w (items_of b))) d
+        → Spells bytes b → IsLinked w b → IsDelta channel accepts w (items_of b) (committed_of bytes (last_commit_hash w) b (job_of channel accepts w (items_of b))) d
         → IsLinkedDelta w d }
     ensures its_block { (w : World) (b : Block) (d : Delta) → IsLinkedDelta w d → Spells d.block.bytes b
         → IsLinked w b × (d.block.header_hash ≡ header_hash_of b.header) × (d.block.version ≡ b.version) × (length d.block.flags ≡ length b.txs) }
@@ -191,4 +194,30 @@ pub fn checks_decide_what_is_known()
 pub fn checks_in_order_know_everything()
     ensures { (j : Job) (events : List Event) (old new : Board)
         → Run j (first_board j) events old → Run j old (checks_in_order j) new → new ≡ full_board j }
+{}
+
+/// Laws, and no work: the rows that differ between two states stand in the order of their keys; a key is among them, with the row
+/// after or none, exactly where its row isn't the same before and after.
+pub fn rows_differ_where_they_are_not_the_same()
+    ensures in_order { (before after : State) → is_sorted key_cmp (differing before after) ≡ true }
+    ensures each_key { (before after : State) (k : StateKey)
+        → find key_cmp k (differing before after) ≡ (if is_unchanged (get before k) (get after k) then None else Some (get after k)) }
+    ensures no_other { (before after : State) (cs : List (ChangeOf Row)) → is_sorted key_cmp cs ≡ true
+        → ((k : StateKey) → find key_cmp k cs ≡ (if is_unchanged (get before k) (get after k) then None else Some (get after k)))
+        → cs ≡ differing before after }
+{}
+
+/// A law, and no work: changes that leave the same row at each key, whatever their order and repeats, give the same bytes.
+pub fn update_bytes_are_of_what_is_left()
+    ensures { (before : State) (cs ds : List (ChangeOf Row)) → ((k : StateKey) → get (with_changes before cs) k ≡ get (with_changes before ds) k)
+        → update_bytes before (with_changes before cs) ≡ update_bytes before (with_changes before ds) }
+{}
+
+/// A law, and no work: blocks of which the same bytes are hashed have the same version, number, flags, rows that differ and replaced
+/// definition, where each policy is told by its canonical text.
+pub fn commit_bytes_tell_the_block()
+    ensures { (a b : BlockCommit) → HasRoom a → HasRoom b → commit_bytes a ≡ commit_bytes b
+        → (a.version ≡ b.version) × (a.number ≡ b.number) × (a.flags ≡ b.flags)
+        × (map told_change (differing a.before a.after) ≡ map told_change (differing b.before b.after))
+        × (option_map told_definition a.definition ≡ option_map told_definition b.definition) }
 {}

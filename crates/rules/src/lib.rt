@@ -27,11 +27,12 @@ pub use kept_key::KeptKey;
 pub use keyed_row::KeyedRow;
 pub use laws::{
     a_block_is_its_delta, checks_decide_what_is_known, checks_in_order_know_everything,
-    definitions_behind_a_block, invalid_transactions_change_nothing, known_cells_stay,
-    known_dependencies_make_sure, linked_deltas_keep_linked_blocks, names_of_definitions_suffice,
-    numbers_tell_flags, one_step, refused_bytes_change_nothing, runs_agree, runs_exist,
-    runs_show_the_fold, steps_keep_the_names_of_definitions, the_fold_is_an_assignment,
-    what_a_block_changes_is_its_delta,
+    commit_bytes_tell_the_block, definitions_behind_a_block, invalid_transactions_change_nothing,
+    known_cells_stay, known_dependencies_make_sure, linked_deltas_keep_linked_blocks,
+    names_of_definitions_suffice, numbers_tell_flags, one_step, refused_bytes_change_nothing,
+    rows_differ_where_they_are_not_the_same, runs_agree, runs_exist, runs_show_the_fold,
+    steps_keep_the_names_of_definitions, the_fold_is_an_assignment,
+    update_bytes_are_of_what_is_left, what_a_block_changes_is_its_delta,
 };
 pub use read_verdict::ReadVerdict;
 pub use row::Row;

@@ -1,17 +1,16 @@
 -- A batch's changes, as changes of every state.
-use Rattle.std.proofs.Common.{◌≡◌, Bool, true, false, cond, List, [], ◌∷◌, Option, Some, Result, Ok, Err, length, refl, sym, ap, ◌∙◌}
+use Rattle.std.proofs.Common.{◌≡◌, Bool, true, false, cond, List, [], Option, Some, Result, Ok, Err, length, refl, sym, ap, ◌∙◌}
 use Rattle.std.specs.Prelude.{if◌then◌else◌, unwrap_or, OnOk, OnErr}
-use Rattle.std.specs.FinMap.{get, insert, empty, empty_of_len, len-entries, find, entries, entries_sorted, from_sorted, is_sorted, entries-from_sorted, entries-insert, get-entries, get-insert, same_map, same_entries_map}
-use Rattle.std.specs.FinMap.Entries.{put, below_all, is_sorted-put}
+use Rattle.std.specs.FinMap.{get, insert, empty, empty_of_len, len-entries, entries, entries_sorted, from_sorted, is_sorted, entries-from_sorted, entries-insert, get-entries, get-insert, same_map, same_entries_map}
+use Rattle.std.specs.FinMap.Entries.{put, is_sorted-put}
 use Rattle.rules.specs.declared.row.Row.{Row}
-use Rattle.rules.specs.State.{StateKey, State, ChangeOf, key_cmp, is_same_key, set_at, with_changes}
-use Rattle.rules.proofs.Booleans.{both_true}
-use Rattle.rules.proofs.Keys.{key_cmp_total, key_cmp-IsAntisymmetric, key_ties, same_key_is}
+use Rattle.rules.specs.State.{StateKey, State, ChangeOf, key_cmp, is_same_key, set_at}
+use Rattle.rules.proofs.Keys.{key_cmp_total, key_cmp-IsAntisymmetric, key_ties}
 use Rattle.rules.proofs.Changes.{get-set_at}
+use Rattle.rules.proofs.Differing.{get-with_sorted}
 use Rattle.state_db.specs.Search.{Keyed, IsSorted}
 use Rattle.state_db.specs.Batch.{Changes, changed}
 use Rattle.state_db.proofs.Tests.{told, shown}
-use Rattle.state_db.proofs.Order.{find_above}
 
 -- ---- the list of a batch
 
@@ -27,25 +26,8 @@ put_sorted es k v h = shown _ (is_sorted-put key_cmp key_cmp_total k v es (told 
 
 -- ---- what the changes make of a state, key by key
 
--- what a key has after changes in order: what they say of it, else what it had
-get_sorted : (s : State) (cs : List (ChangeOf Row)) (q : StateKey) → IsSorted cs → get (with_changes s cs) q ≡ unwrap_or (find key_cmp q cs) (get s q)
-unfolding with_changes
-get_sorted s [] q h = refl
-get_sorted s (c ∷ cs) q h =
-    get_sorted (set_at s c.0 c.1) cs q parts.1
-    ∙ ap (unwrap_or (find key_cmp q cs)) (get-set_at s c.0 c.1 q)
-    ∙ by (is_same_key q c.0) refl
-    ∙ ap (λ (b : Bool). unwrap_or (cond b (Some c.1) (find key_cmp q cs)) (get s q)) (sym (key_ties q c.0))
-  where
-    parts : (below_all key_cmp c.0 cs ≡ true) × (is_sorted key_cmp cs ≡ true)
-    parts = both_true (below_all key_cmp c.0 cs) (is_sorted key_cmp cs) h
-
-    by : (b : Bool) → is_same_key q c.0 ≡ b → unwrap_or (find key_cmp q cs) (if b then c.1 else get s q) ≡ unwrap_or (cond b (Some c.1) (find key_cmp q cs)) (get s q)
-    by true e = ap (λ (o : Option (Option Row)). unwrap_or o c.1) (ap (λ (k : StateKey). find key_cmp k cs) (same_key_is q c.0 e) ∙ find_above c.0 cs parts.0)
-    by false e = refl
-
 pub get_changed : (s : State) (changes : Changes) (q : StateKey) → get (changed s changes) q ≡ unwrap_or (get changes q) (get s q)
-get_changed s changes q = get_sorted s (entries changes) q (shown _ (entries_sorted changes)) ∙ ap (λ (o : Option (Option Row)). unwrap_or o (get s q)) (sym (get-entries changes q))
+get_changed s changes q = get-with_sorted s (entries changes) q (shown _ (entries_sorted changes)) ∙ ap (λ (o : Option (Option Row)). unwrap_or o (get s q)) (sym (get-entries changes q))
 
 -- one change more
 pub changed_more : (s : State) (changes : Changes) (k : StateKey) (v : Option Row) → changed s (insert changes k v) ≡ set_at (changed s changes) k v

@@ -1,5 +1,7 @@
+mod Additions
 mod Batches
 mod Begun
+mod Changing
 mod Counts
 mod FromKey
 mod Leading

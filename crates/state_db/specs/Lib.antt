@@ -7,3 +7,4 @@ pub mod Ranges
 pub mod Edits
 pub mod Need
 pub mod Steps
+pub mod Changing

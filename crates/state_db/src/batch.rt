@@ -1,8 +1,8 @@
 ghost use Rattle.std.specs.Prelude.{◌≡◌, ◌≤◌, Some, None, length, IfOk, OnOk, OnErr};
 ghost use Rattle.std.specs.FinMap.{empty, entries, from_sorted, insert};
 ghost use Rattle.std.specs.FinMap.Entries.{put};
-ghost use Rattle.rules.specs.State.{State, key_cmp, set_at};
-ghost use Rattle.rules.specs.Delta.{change_of};
+ghost use Rattle.rules.specs.State.{State, key_cmp, set_at, with_changes};
+ghost use Rattle.rules.specs.Delta.{change_of, changes_in};
 ghost use Rattle.state_db.specs.Batch.{changed};
 ghost use Rattle.state_db.specs.Search.{IsSorted, is_below, ties_at, leading};
 
@@ -110,6 +110,18 @@ impl Batch {
         })
     }
 
+    /// The changes of a delta, whose rows and keys have one owner more from then on. Linear where they stand in the order of their
+    /// keys. Takes memory for the changes.
+    pub fn of(alloc: Global, changes: &[Change]) -> Result<Batch, AllocError>
+        ensures { IfOk result (λ batch. (s : State) → changed s batch ≡ with_changes s (changes_in changes.now)) }
+    {
+        let mut batch = Batch::with_capacity(alloc, changes.len())?;
+        for change in changes {
+            batch.add(change)?;
+        }
+        Ok(batch)
+    }
+
     fn set(&mut self, change: Change) -> Result<(), AllocError>
         ensures ok { OnOk result (self.new ≡ insert self.old (change_of change).0 (change_of change).1) }
         ensures err { OnErr result (self.new ≡ self.old) }
@@ -156,6 +168,14 @@ impl Batch {
             alloc: self.alloc,
             edits: shared(self.alloc, self.edits.as_slice())?,
         })
+    }
+
+    /// Its edits in the order of their keys, lent.
+    pub(crate) fn edits(&self) -> &[Edit]
+        ensures edits { result.now ≡ entries self.now }
+        ensures sorted { IsSorted result.now }
+    {
+        self.edits.as_slice()
     }
 
     /// Of edits in the order of their keys.

@@ -1,4 +1,5 @@
 ghost use Rattle.std.specs.Prelude.{◌≡◌, IsTrue, IfOk};
+ghost use Rattle.std.specs.Option.{option_copied};
 ghost use Rattle.values.specs.Name.{is_name};
 ghost use Rattle.rules.specs.State.{key_cmp};
 ghost use Rattle.rules.specs.Delta.{change_of};
@@ -7,11 +8,12 @@ ghost use Rattle.state_db.specs.Need.{added};
 ghost use Rattle.state_db.specs.Search.{is_below};
 
 use crate::search::Ordered;
-use rules::Change;
+use rules::{Change, Row};
 use state_keys::{Head, Wanted, head_of};
 use std::alloc::AllocError;
 use std::cmp::Ordering;
 use std::marker::Model;
+use values::{KeyRef, NameRef};
 
 /// What becomes of a key in a batch, beside it the head of the key. A contract sees the key with its row, or none where
 /// it is removed.
@@ -61,6 +63,25 @@ impl Edit {
         ensures { change_of result ≡ self }
     {
         self.change
+    }
+
+    pub fn namespace(&self) -> NameRef<'_>
+        ensures { result ≡ self.now.0.0 }
+    {
+        self.change.namespace()
+    }
+
+    pub fn key(&self) -> KeyRef<'_>
+        ensures { result ≡ self.now.0.1 }
+    {
+        self.change.key()
+    }
+
+    /// The row, or none where the key is removed.
+    pub fn row(&self) -> Option<&Row>
+        ensures { option_copied result ≡ self.now.1 }
+    {
+        self.change.row()
     }
 
     /// How many rows it may add.

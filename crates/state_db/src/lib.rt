@@ -14,6 +14,7 @@ mod slot;
 mod slots;
 mod spare;
 mod state_db;
+mod update;
 
 pub use batch::Batch;
 pub use rows::Rows;

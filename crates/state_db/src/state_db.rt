@@ -1,6 +1,7 @@
-ghost use Rattle.std.specs.Prelude.{◌≡◌, ◌≤◌, [], sum, length, IfErr, IfSome, OnOk, OnErr, slice_get};
+ghost use Rattle.std.specs.Prelude.{◌≡◌, ◌≤◌, [], sum, length, IfErr, IfOk, IfSome, OnOk, OnErr, slice_get};
 ghost use Rattle.std.specs.Option.{option_copied};
 ghost use Rattle.std.specs.FinMap.{get, empty, entries};
+ghost use Rattle.rules.specs.CommitBytes.{update_bytes};
 ghost use Rattle.rules.specs.Ranges.{is_within, rows_where};
 ghost use Rattle.rules.specs.State.{with_changes};
 ghost use Rattle.state_db.specs.Limits.{max_page_rows};
@@ -13,6 +14,7 @@ use crate::directory::row_of;
 use crate::edit::Edit;
 use crate::page::Page;
 use crate::rows::{Rows, rows_from};
+use crate::update::update_of;
 use rules::Row;
 use state_keys::{StateKey, Wanted};
 use std::alloc::{AllocError, Global};
@@ -131,6 +133,15 @@ impl StateDb {
             return Ok(());
         }
         edit_pages(self.alloc, &mut self.pages, edits)
+    }
+
+    /// The rows that a batch would make differ, and changes none: how many they are, and then each with its key, in the order of the
+    /// keys, spelled as the commit hash has them. A row that is put where the same one is, or removed where there is none, is none of
+    /// them. A look-up for each change, else linear in what is answered, for which it takes memory.
+    pub fn update_bytes(&self, batch: &Batch) -> Result<Vec<u8>, AllocError>
+        ensures { IfOk result (λ bytes. bytes.items ≡ update_bytes self.now.state (changed self.now.state batch.now)) }
+    {
+        update_of(self.alloc, self.pages.as_slice(), batch.edits())
     }
 
     /// How many pages hold the rows.

@@ -1,6 +1,6 @@
 //! Deltas: at random, noted as they are made, and one of 600 puts.
 
-use crate::fixture::{entry, kept_key, name, numbered, row, version_of};
+use crate::fixture::{commit_hash_of, entry, kept_key, name, numbered, row, version_of};
 use crate::noted::{
     CHAINCODES, IDS, KEYS, NAMESPACE, Noted, POLICIES, has_policy, id_of, key_of, use_at,
 };
@@ -132,6 +132,7 @@ fn block_of(alloc: Global, hash: [u8; 32]) -> Result<Shared<CommittedBlock>, Fai
     let block = CommittedBlock {
         bytes: Shared::new(alloc, Bytes::from_vec(Vec::new(alloc)))?,
         header_hash: hash,
+        commit_hash: commit_hash_of(hash),
         version: BlockVersion::V1,
         flags: Items::new(alloc),
     };

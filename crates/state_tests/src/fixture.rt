@@ -4,7 +4,7 @@ use failing::Failed;
 use rules::{HistoryEntry, KeptKey, NewEntry, Row};
 use std::alloc::Global;
 use transaction::Version;
-use values::{BoundRef, KeyRef, NameRef, Part, Shared, is_bound, is_key, is_name};
+use values::{BoundRef, Hash, KeyRef, NameRef, Part, Shared, is_bound, is_key, is_name};
 
 pub fn name(bytes: &[u8]) -> Result<NameRef<'_>, Failed> {
     if !is_name(bytes) {
@@ -37,6 +37,12 @@ pub fn version_of(place: u32) -> Version {
         block: 0,
         tx: place,
     }
+}
+
+/// The commit hash of a block with this header hash.
+pub fn commit_hash_of(mut hash: Hash) -> Hash {
+    hash[31] = 1;
+    hash
 }
 
 /// A row of block 0, without a policy.

@@ -1,6 +1,6 @@
 //! Whether a world holds what was noted.
 
-use crate::fixture::{bound, key, name, version_of};
+use crate::fixture::{bound, commit_hash_of, key, name, version_of};
 use crate::noted::{
     CHAINCODES, KEYS, NAMESPACE, Noted, POLICIES, has_policy, id_of, key_of, use_at,
 };
@@ -159,7 +159,9 @@ pub fn definitions_are_noted(alloc: Global, world: &World, noted: &Noted) -> Res
 
 /// Whether this is the last block.
 pub fn is_behind(world: &World, block: u32) -> bool {
-    world.height() == block as u64 + 1 && world.header_hash() == Some(hash_of(block))
+    world.height() == block as u64 + 1
+        && world.header_hash() == Some(hash_of(block))
+        && world.commit_hash() == Some(commit_hash_of(hash_of(block)))
 }
 
 /// Whether all is as noted, behind this block.

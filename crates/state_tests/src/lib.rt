@@ -20,4 +20,6 @@ mod pages;
 #[cfg(test)]
 mod steps;
 #[cfg(test)]
+mod update_bytes;
+#[cfg(test)]
 mod worlds;

@@ -22,15 +22,6 @@ use Rattle.rules.proofs.Changes.{with_changes-push}
 use Rattle.rules.proofs.HistoryEntries.{with_entries-append, with_entries-none}
 use Rattle.rules.proofs.IdUses.{with_uses-append}
 
-pub changes_more : (changes : List Change) (i : ℕ) (c : Change) (s old new : State) → i < length changes → c ≡ get_or changes i c
-    → new ≡ set_at old (change_of c).0 (change_of c).1 → old ≡ with_changes s (changes_in (take i changes))
-    → new ≡ with_changes s (changes_in (take (i + 1) changes))
-changes_more changes i c s old new lt is made so_far =
-    made
-    ∙ (λ j. set_at (so_far j) (change_of (is j)).0 (change_of (is j)).1)
-    ∙ sym (with_changes-push s (changes_in (take i changes)) (change_of (get_or changes i c)))
-    ∙ ap (with_changes s) (sym (map_more change_of changes i c lt))
-
 pub uses_more : (uses : List NewUse) (i : ℕ) (d : NewUse) (first old new : FirstUses) → i < length uses
     → new ≡ with_uses old (((get_or uses i d).id, (get_or uses i d).first_use) ∷ []) → old ≡ with_uses first (uses_in (take i uses))
     → new ≡ with_uses first (uses_in (take (i + 1) uses))
@@ -52,9 +43,6 @@ entry_more e left rest first old new all is made so_far =
     ∙ sym (with_entries-append old (entries_in (e ∷ [])) (entries_in rest))
     ∙ ap (λ l. with_entries old (entries_in l)) (sym is)
     ∙ so_far
-
-pub no_changes : (s : State) → changed s empty ≡ with_changes s []
-no_changes s = ap (with_changes s) (nil_from_length (entries {X = Option Row} {R = key_cmp} empty) (sym (len-entries empty) ∙ len-empty key_cmp (Option Row)))
 
 pub no_entry_left : (left all : List NewEntry) (first now : History) → length left ≡ 0 → with_entries now (entries_in left) ≡ with_entries first (entries_in all)
     → now ≡ with_entries first (entries_in all)

@@ -1,29 +1,15 @@
 ghost use Rattle.std.specs.Prelude.{◌≡◌, ◌≤◌, ◌+◌, length, vec_len, vec_capacity, unwrap_or, IfOk, OnOk};
-ghost use Rattle.rules.specs.State.{State, with_changes};
 ghost use Rattle.rules.specs.History.{with_entries};
 ghost use Rattle.rules.specs.FirstUses.{with_uses};
 ghost use Rattle.rules.specs.Definitions.{with_definitions};
-ghost use Rattle.rules.specs.Delta.{changes_in, entries_in, uses_in, definitions_in};
-ghost use Rattle.state_db.specs.Batch.{changed};
+ghost use Rattle.rules.specs.Delta.{entries_in, uses_in, definitions_in};
 
 use history_index::HistoryIndex;
 use policy::Definitions;
-use rules::{Change, CommittedBlock, Delta, NewDefinition, NewEntry, NewUse};
-use state_db::Batch;
+use rules::{CommittedBlock, Delta, NewDefinition, NewEntry, NewUse};
 use std::alloc::{AllocError, Global};
 use txid_index::TxIds;
 use values::Shared;
-
-/// The changes of a delta as a batch.
-pub(crate) fn batch_of(alloc: Global, changes: &[Change]) -> Result<Batch, AllocError>
-    ensures { IfOk result (λ batch. (s : State) → changed s batch ≡ with_changes s (changes_in changes.now)) }
-{
-    let mut batch = Batch::with_capacity(alloc, changes.len())?;
-    for change in changes {
-        batch.add(change)?;
-    }
-    Ok(batch)
-}
 
 /// The entries of a delta, with one owner more.
 pub(crate) fn share_entries(

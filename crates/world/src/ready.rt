@@ -3,7 +3,6 @@ ghost use Rattle.rules.specs.State.{State, with_changes};
 ghost use Rattle.rules.specs.Delta.{changes_in};
 ghost use Rattle.state_db.specs.Batch.{changed};
 
-use crate::deltas::batch_of;
 use rules::Delta;
 use state_db::Batch;
 use std::alloc::{AllocError, Global};
@@ -40,7 +39,7 @@ impl ReadyDelta {
     pub fn new(alloc: Global, delta: Delta) -> Result<ReadyDelta, AllocError>
         ensures { IfOk result (λ ready. ready ≡ delta) }
     {
-        let batch = batch_of(alloc, delta.changes.as_slice())?;
+        let batch = Batch::of(alloc, delta.changes.as_slice())?;
         Ok(ReadyDelta { delta, batch })
     }
 
@@ -57,11 +56,19 @@ impl ReadyDelta {
         &self.batch
     }
 
-    pub(crate) fn of_parts(delta: Delta, batch: Batch) -> ReadyDelta
+    /// Of a delta and a batch that makes of each state what its changes make of it.
+    pub fn of_parts(delta: Delta, batch: Batch) -> ReadyDelta
         requires { (s : State) → changed s batch ≡ with_changes s (changes_in delta.changes) }
         ensures { result ≡ delta }
     {
         ReadyDelta { delta, batch }
+    }
+
+    /// The delta, without its batch.
+    pub fn into_delta(self) -> Delta
+        ensures { result ≡ self }
+    {
+        self.delta
     }
 
     pub(crate) fn into_parts(self) -> (Delta, Batch)

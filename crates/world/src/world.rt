@@ -2,12 +2,12 @@ ghost use Rattle.std.specs.Prelude.{◌≡◌, [], map, IfOk, IfErr, OnOk, OnErr
 ghost use Rattle.std.specs.Option.{option_copied};
 ghost use Rattle.rules.specs.State.{State, with_changes};
 ghost use Rattle.rules.specs.Delta.{applied, changes_in};
-ghost use Rattle.rules.specs.World.{empty_world, height_of, last_header_hash, last_version};
+ghost use Rattle.rules.specs.World.{empty_world, height_of, last_header_hash, last_commit_hash, last_version};
 ghost use Rattle.rules.specs.Answers.{row_answer, range_answer, history_answer, first_use_answer, block_answer};
 ghost use Rattle.state_db.specs.Batch.{changed};
 ghost use Rattle.txid_index.specs.Marks.{marks};
 
-use crate::deltas::{add_entries, add_uses, batch_of, make_room, replace};
+use crate::deltas::{add_entries, add_uses, make_room, replace};
 use crate::range::{RangeAnswer, up_to};
 use crate::ready::ReadyDelta;
 use history_index::{Entries, HistoryIndex};
@@ -81,6 +81,16 @@ impl World {
         match self.blocks.last() {
             None => BlockVersion::V1,
             Some(block) => block.get().version,
+        }
+    }
+
+    /// The commit hash of the last block, or none at height 0. Constant time.
+    pub fn commit_hash(&self) -> Option<Hash>
+        ensures { result ≡ last_commit_hash self.now }
+    {
+        match self.blocks.last() {
+            None => None,
+            Some(block) => Some(block.get().commit_hash),
         }
     }
 
@@ -161,7 +171,7 @@ impl World {
         ensures ok { OnOk result (self.new ≡ applied self.old delta.now) }
         ensures err { OnErr result (self.new ≡ self.old) }
     {
-        let batch = batch_of(self.alloc, delta.changes.as_slice())?;
+        let batch = Batch::of(self.alloc, delta.changes.as_slice())?;
         match self.make(delta, batch) {
             Ok(()) => Ok(()),
             Err(_) => Err(AllocError),

@@ -64,10 +64,10 @@ abbrev new_uses : List (List ℕ × FirstUse)
 new_uses = (codes "x", used 4) ∷ (codes "y", used 5) ∷ []
 
 abbrev block_0 : CommittedBlock
-block_0 = record { bytes = codes "0"; header_hash = replicate 32 1; version = V1; flags = Valid ∷ [] }
+block_0 = record { bytes = codes "0"; header_hash = replicate 32 1; commit_hash = replicate 32 5; version = V1; flags = Valid ∷ [] }
 
 abbrev block_1 : CommittedBlock
-block_1 = record { bytes = codes "1"; header_hash = replicate 32 2; version = V2; flags = [] }
+block_1 = record { bytes = codes "1"; header_hash = replicate 32 2; commit_hash = replicate 32 6; version = V2; flags = [] }
 
 abbrev definitions : Policies
 definitions = definitions_with either_peer
@@ -199,12 +199,12 @@ height_2 = refl
 
 -- ---- replies
 
-pub reply_at_height_0 : reply (empty_world definitions) (height_answer (empty_world definitions)) ≡ record { height = 0; header_hash = None; answer = 0 }
+pub reply_at_height_0 : reply (empty_world definitions) (height_answer (empty_world definitions)) ≡ record { height = 0; header_hash = None; commit_hash = None; answer = 0 }
 reply_at_height_0 = refl
 
-pub reply_at_height_1 : reply world_1 (block_answer world_1 0) ≡ record { height = 1; header_hash = Some (replicate 32 1); answer = Some block_0 }
+pub reply_at_height_1 : reply world_1 (block_answer world_1 0) ≡ record { height = 1; header_hash = Some (replicate 32 1); commit_hash = Some (replicate 32 5); answer = Some block_0 }
 reply_at_height_1 = refl
 
 -- the hash of the newest block
-pub reply_at_height_2 : reply world_2 (block_answer world_2 0) ≡ record { height = 2; header_hash = Some (replicate 32 2); answer = Some block_0 }
+pub reply_at_height_2 : reply world_2 (block_answer world_2 0) ≡ record { height = 2; header_hash = Some (replicate 32 2); commit_hash = Some (replicate 32 6); answer = Some block_0 }
 reply_at_height_2 = refl

@@ -97,3 +97,7 @@ without-put m y v x = by (is_same_key x y) refl
     by false e = same_map key_cmp_total key_cmp-IsAntisymmetric (remove (insert m y v) x) (insert (remove m x) y v) (λ q. look q ∙ apart q e (is_same_key q x) (is_same_key q y) refl refl ∙ sym (get-put (remove m x) y v q ∙ ap (λ (o : Option Row). cond (is_same_key q y) (Some v) o) (get-without m x q)))
 
 pub ruleset scans = (looks, entries-none, entries-put, without-none, without-put)
+
+-- ---- rows that differ
+
+pub ruleset compared = (scans, get-no_row)

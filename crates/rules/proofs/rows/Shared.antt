@@ -234,7 +234,7 @@ block_over keys candidates = block_on 1 (state_with keys) candidates
 
 -- any bytes and flags will do for a kept block
 abbrev pub kept : CommittedBlock
-kept = record { bytes = []; header_hash = replicate 32 1; version = V1; flags = [] }
+kept = record { bytes = []; header_hash = replicate 32 1; commit_hash = replicate 32 5; version = V1; flags = [] }
 
 -- of a transaction with that id
 abbrev pub entry : Version → Option (List ℕ) → HistoryEntry

@@ -62,10 +62,10 @@ abbrev without_admin : Configuration
 without_admin = record { name = codes "ch"; definitions = definitions_with either_peer; admin = None }
 
 abbrev kept_1 : CommittedBlock
-kept_1 = record { bytes = []; header_hash = replicate 32 1; version = V1; flags = [] }
+kept_1 = record { bytes = []; header_hash = replicate 32 1; commit_hash = replicate 32 5; version = V1; flags = [] }
 
 abbrev kept_2 : CommittedBlock
-kept_2 = record { bytes = []; header_hash = replicate 32 2; version = V2; flags = Valid ∷ [] }
+kept_2 = record { bytes = []; header_hash = replicate 32 2; commit_hash = replicate 32 6; version = V2; flags = Valid ∷ [] }
 
 abbrev world_1 : World
 world_1 = record { state = empty; history = empty; first_uses = empty; definitions = definitions_with either_peer; blocks = kept_1 ∷ [] }

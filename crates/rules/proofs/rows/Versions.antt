@@ -14,7 +14,7 @@ use Rattle.rules.specs.Linked.{IsLinked, IsUnlinked}
 
 -- a block as it is kept, of this version and header hash
 abbrev kept : BlockVersion → List ℕ → CommittedBlock
-kept version hash = record { bytes = []; header_hash = hash; version = version; flags = [] }
+kept version hash = record { bytes = []; header_hash = hash; commit_hash = hash; version = version; flags = [] }
 
 abbrev hash_0 : List ℕ
 hash_0 = replicate 32 1

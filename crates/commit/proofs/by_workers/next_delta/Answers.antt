@@ -32,6 +32,6 @@ returns g c =
     let is : IsTaken channel accepts bytes b c.args.prepared.taken.items =
     subst (λ (x : Block). IsTaken channel accepts bytes x c.args.prepared.taken.items) (sym next.0) c.requires.prepared in
     MatchResult-weaker c.checked_delta.result c.checked_delta.ensures
-    (λ r delta. is_next channel accepts w bytes c.in_ok-block.kept b c.in_ok-job.job c.as_slice.result.now r.0 (next.2 ∙ sym is.spelled.fields) is.spelled next.1
-    (c.in_ok-job.ensures.job c.requires.names accepts (items_of b) is.taken) (c.as_slice.ensures.value ∙ c.in_ok-job.ensures.ids accepts (items_of b) is.taken) delta)
+    (λ r delta. is_next channel accepts w bytes c.in_ok-block.kept b c.in_ok-job.job c.as_slice.result.now c.commit_hash.result r.0 (next.2 ∙ sym is.spelled.fields) is.spelled next.1
+    (c.in_ok-job.ensures.job c.requires.names accepts (items_of b) is.taken) (c.as_slice.ensures.value ∙ c.in_ok-job.ensures.ids accepts (items_of b) is.taken) c.commit_hash.ensures delta)
     (λ refused memory. subst (λ (r : Refused). IsRefused w bytes r) (sym memory) tt)

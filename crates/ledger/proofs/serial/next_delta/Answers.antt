@@ -30,6 +30,6 @@ returns g c =
     let next = c.in_ok-block.ensures in
     let taken = next.is_taken.taken in
     MatchResult-weaker c.delta_in_order.result c.delta_in_order.ensures
-    (λ d is. is_next channel accepts w bytes (bytes_of b) b c.in_ok-job.job c.as_slice.result.now d (sym next.is_taken.spelled.fields) next.is_taken.spelled next.linked
-    (c.in_ok-job.ensures.job c.requires accepts (items_of b) taken) (c.as_slice.ensures.value ∙ c.in_ok-job.ensures.ids accepts (items_of b) taken) is)
+    (λ d is. is_next channel accepts w bytes (bytes_of b) b c.in_ok-job.job c.as_slice.result.now c.commit_hash.result d (sym next.is_taken.spelled.fields) next.is_taken.spelled next.linked
+    (c.in_ok-job.ensures.job c.requires accepts (items_of b) taken) (c.as_slice.ensures.value ∙ c.in_ok-job.ensures.ids accepts (items_of b) taken) c.commit_hash.ensures is)
     (λ refused memory. subst (λ (r : Refused). IsRefused w bytes r) (sym memory) tt)

@@ -1,4 +1,4 @@
-use Rattle.std.proofs.Common.{◌≡◌, ap, ◌∙◌, fold, subst}
+use Rattle.std.proofs.Common.{ap, ◌∙◌, fold, subst}
 use Rattle.left_right.specs.Sides.{view}
 use Rattle.query.specs.Rule.{IsTold, absorbed}
 use Rattle.query.proofs.Keeping.{starts, begins, told_of}

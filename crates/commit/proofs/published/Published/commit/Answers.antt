@@ -9,8 +9,8 @@ use Rattle.commit.specs.Running.{BelongsTo, committing}
 use Rattle.commit.proofs.Publishing.{committed, next-linked, refused_by, still_belongs}
 use Rattle.commit.proofs.published.Published.commit.Goals as goal
 
-pub publish-requires-clause-linked : goal.publish-requires-clause-linked
-publish-requires-clause-linked g c =
+pub publish_ready-requires-clause-linked : goal.publish_ready-requires-clause-linked
+publish_ready-requires-clause-linked g c =
     subst (λ (w : World). IsLinkedDelta w c.in_ok-delta.delta) c.published.ensures
     (next-linked c.args.means.now.channel.now (g.V.Verify.accepts c.args.means.now.verifier.now) c.published.result.now c.args.bytes.now c.in_ok-delta.delta c.in_ok-delta.ensures)
 
@@ -22,16 +22,16 @@ returns-in-Ok-clause-submits g c =
     let old = c.self.inside.publisher in
     let base = ap (λ (p : Publishing). p.base) c.self.view_is ∙ c.requires.belongs.base in
     let e = c.in-Ok.ensures in
-    subst (λ (p : Publishing). IsCommitted accepts (committing channel p) c.args.bytes.now c.in-Ok.receipt (committing channel c.publish.new.self)) c.self.view_is
-    (committed channel accepts old c.publish.new.self c.published.result.now c.args.bytes.now c.in_ok-delta.delta c.in-Ok.receipt
-    going base c.published.ensures c.in_ok-delta.ensures e.ok e.number e.height e.block.0 e.block.1 e.front)
+    subst (λ (p : Publishing). IsCommitted accepts (committing channel p) c.args.bytes.now c.in-Ok.receipt (committing channel c.publish_ready.new.self)) c.self.view_is
+    (committed channel accepts old c.publish_ready.new.self c.published.result.now c.args.bytes.now c.in_ok-delta.delta c.in-Ok.receipt
+    going base c.published.ensures c.in_ok-delta.ensures e.ok e.number e.height e.block.0 e.block.1 e.block.2 e.front)
 
 pub returns-in-Ok-clause-belongs : goal.returns-in-Ok-clause-belongs
 returns-in-Ok-clause-belongs g c =
     let channel = c.args.means.now.channel.now in
     let accepts = g.V.Verify.accepts c.args.means.now.verifier.now in
     let of = subst (λ (p : Publishing). BelongsTo channel p) (sym c.self.view_is) c.requires.belongs in
-    still_belongs channel accepts c.self.inside.publisher c.publish.new.self c.published.result.now c.args.bytes.now c.in_ok-delta.delta
+    still_belongs channel accepts c.self.inside.publisher c.publish_ready.new.self c.published.result.now c.args.bytes.now c.in_ok-delta.delta
     of c.published.ensures c.in_ok-delta.ensures c.in-Ok.ensures.ok
 
 pub returns-in_err-delta-clause-submits : goal.returns-in_err-delta-clause-submits

@@ -6,23 +6,22 @@ use Rattle.query.specs.Published.{Publishing, published_world}
 use Rattle.query.specs.Counted.{counter_of}
 use Rattle.query.specs.Rule.{base_of, IsShown}
 use Rattle.query.proofs.Keeping.{shown_on, told_on}
-use Rattle.query.proofs.publisher.Publisher.publish.Goals as goal
+use Rattle.query.proofs.publisher.Publisher.publish_ready.Goals as goal
 
 pub invariant_of-self-2 : goal.invariant_of-self-2
 invariant_of-self-2 g c =
     let was = c.self.inside in
-    let delta = c.in_ok-ready.ready in
+    let delta = c.args.delta in
     let made = c.in-Some.front in
     let kept = c.again-2.result in
     let given = c.again.result in
     let shown = c.in_ok-show.ensures in
     let seat = view was.writer.desk.place in
     let made_is : made ≡ record { book = was.front.book; list = was.front.list ++ delta ∷ [] } =
-    c.in-Some.ensures ∙ ap (λ d. record { book = was.front.book; list = was.front.list ++ d ∷ [] }) c.delta-2.ensures in
+    c.in-Some.ensures ∙ ap (λ d. record { book = was.front.book; list = was.front.list ++ d ∷ [] }) c.delta-3.ensures in
     let kept_is = c.again-2.ensures in
     let linked : IsLinkedDelta (published_world (record { book = was.front.book; base = base_of seat; list = was.front.list; failed = was.failed })) delta =
-    subst (λ d. IsLinkedDelta (published_world (record { book = was.front.book; base = base_of seat; list = was.front.list; failed = was.failed })) d) (sym c.in_ok-ready.ensures)
-    (subst (λ (p : Publishing). IsLinkedDelta (published_world p) c.args.delta) (sym c.self.view_is) c.requires.linked) in
+    subst (λ (p : Publishing). IsLinkedDelta (published_world p) c.args.delta) (sym c.self.view_is) c.requires.linked in
     let on = shown_on was.front made kept delta made_is kept_is (base_of seat) given was.writer.desk.shown.value c.show.new.writer.desk.shown.value c.self.invariant.2 linked c.again.ensures shown.ok in (
       c.self.invariant.0 ∙ ap (λ f. counter_of f.book) (sym (kept_is ∙ made_is)),
       told_on was.front made kept delta made_is kept_is seat (view c.show.new.writer.desk.place) c.self.invariant.1 shown.place,

@@ -1,7 +1,7 @@
 use Rattle.std.proofs.Common.{ap, ◌∙◌}
 use Rattle.state_db.specs.Batch.{changed}
-use Rattle.world.proofs.Steps.{no_changes, changes_more}
-use Rattle.world.proofs.deltas.batch_of.Goals as goal
+use Rattle.state_db.proofs.Additions.{no_changes, changes_more}
+use Rattle.state_db.proofs.batch.Batch.of.Goals as goal
 
 pub loop-change-init : goal.loop-change-init
 loop-change-init c = λ s. ap (changed s) c.in_ok-batch.ensures ∙ no_changes s
