@@ -1,8 +1,8 @@
 #!/usr/bin/env python3
 """Times a peer by its workers: transactions a second, memory, and how far that is from hashing alone.
 
-Run as `bench/peer.py [WORKLOAD ..]` from anywhere, on a quiet machine with four cores that has the kit; it needs 4 GB under
-TMPDIR. It builds a program over the repository's crates in a scratch folder, which hands the blocks of a workload in: those
+Run as `bench/peer.py [--beside FOLDER] [WORKLOAD ..]` from anywhere, on a quiet machine with four cores that has the kit; it needs
+4 GB under TMPDIR. It builds a program over the repository's crates in a scratch folder, which hands the blocks of a workload in: those
 that make its state by themselves, and all others at once, to `run` of a `commit::Committer` of 1, 2 and 4 workers; or one by
 one to the `commit::Ledger`, which has one thread and none to start. A state is made by blocks of at most 50,000 keys.
 
@@ -21,8 +21,8 @@ Each transaction has two endorsements, which its policy asks for; values are of 
 - `overruled`: the same where no writer is valid, so that each reader passes all of them.
 
 `hashing` is the time in which one thread of the same sha2 hashes, for one transaction, what has to be hashed: its part of
-the data hash, its id, and the HMAC-SHA-256 of what its creator and its endorsers sign, each from the key on. `ratio` is the
-time for a transaction with one worker, divided by that. `explain` is the time in which a ledger tells the reasons of a
+the data hash, its id, the HMAC-SHA-256 of what its creator and its endorsers sign, each from the key on, and its part of the commit
+hash. `ratio` is the time for a transaction with one worker, divided by that. `explain` is the time in which a ledger tells the reasons of a
 block that it isn't handed yet. `faster` is one worker's time divided by that of two and four.
 
 Above it stands the limit of the machine, `limit`: how much faster two and four processes hash that share nothing.
@@ -30,6 +30,9 @@ Above it stands the limit of the machine, `limit`: how much faster two and four 
 A second table has the time for one transaction with one worker, to whom blocks are handed in one by one: by the size of a
 block, the length of the chain and the keys of the state; the slope is that of its logarithm by theirs: 0 where it doesn't
 grow.
+
+`--beside` has another checkout of this repository whose libraries are built, and another table: how long a transaction takes, with
+1, 2 and 4 workers, by this one's committer and by that one's, in turns, and what that is divided by.
 
 Times are the least of five runs, or of as many as RUNS says in the environment. What stands in one line takes turns in them.
 UNDER has words that are put before each program that is timed. A system that gathers new threads on few processors, as one
@@ -40,6 +43,7 @@ machine changes its speed: then neither says much.
 and what part of its time was stolen from it.
 """
 
+import argparse
 import math
 import os
 import pathlib
@@ -48,11 +52,11 @@ import subprocess
 import sys
 import tempfile
 
-from scratch import RUNS, UNDER, Machine, build, times_as_long
+from scratch import RUNS, UNDER, Machine, build, built_of, times_as_long
 from encoding import Namespace, Tx, data_hash, header_hash, identity, spelled_block, spelled_tx, tx_id
 from signing import Keys
 
-CRATES = ["block", "transaction", "values", "header_hash", "key_book", "gates", "commit"]
+CRATES = ["block", "transaction", "values", "header_hash", "key_book", "rules", "gates", "commit"]
 WORKERS = [1, 2, 4]
 # How many keys a transaction writes that makes the state, and how many of them a block has.
 STEP, STEPS = 2500, 20
@@ -72,8 +76,9 @@ use anyhow::bail;
 use block::decode_block;
 use commit::{Channel, Committer, Flag, Ledger};
 use gates::Open;
-use header_hash::{DataHasher, tx_id};
+use header_hash::{DataHasher, commit_hash, tx_id};
 use key_book::{KeyBook, hmac_sha256};
+use rules::Delta;
 use std::alloc::Global;
 use std::io::Print;
 use std::rt::Files;
@@ -83,6 +88,10 @@ use std::time::{Clock, Instant};
 use std::{env, fs};
 use transaction::{SpelledTx, append_identity, decode_tx, encode_body};
 use values::{Bytes, Slice};
+
+// Of a row that differs: lengths and the row's version; and of a block.
+const OF_A_ROW: usize = 22;
+const OF_A_BLOCK: usize = 18;
 
 fn copied(alloc: Global, parts: &[&[u8]]) -> anyhow::Result<Vec<u8>> {
     let mut bytes = Vec::new(alloc);
@@ -127,7 +136,25 @@ fn messages(alloc: Global, txs: &[Slice<'_>]) -> anyhow::Result<Hashed> {
     Ok(all)
 }
 
-fn hash_all(txs: &[Slice<'_>], all: &Hashed) -> u8 {
+// As many bytes as are hashed for the commit hash, whatever they are.
+fn changed(alloc: Global, delta: &Delta) -> anyhow::Result<Vec<u8>> {
+    let mut bytes = copied(alloc, &[&[0; OF_A_BLOCK]])?;
+    bytes.resize(OF_A_BLOCK.wrapping_add(delta.block.get().flags.as_slice().len()), 0)?;
+    for change in delta.changes.as_slice() {
+        bytes.extend_from_slice(&[0; OF_A_ROW])?;
+        bytes.extend_from_slice(change.namespace().as_slice())?;
+        bytes.extend_from_slice(change.key().as_slice())?;
+        if let Some(row) = change.row() {
+            bytes.extend_from_slice(row.value.as_slice())?;
+            if let Some(policy) = &row.policy {
+                bytes.extend_from_slice(policy.get().text(alloc)?.as_bytes())?;
+            }
+        }
+    }
+    Ok(bytes)
+}
+
+fn hash_all(txs: &[Slice<'_>], all: &Hashed, changed: &[u8]) -> u8 {
     let mut sum = 0u8;
     let mut hasher = DataHasher::new();
     for tx in txs {
@@ -140,17 +167,17 @@ fn hash_all(txs: &[Slice<'_>], all: &Hashed) -> u8 {
     for message in &all.ids {
         sum ^= tx_id(message.as_slice(), &[])[0];
     }
-    sum
+    sum ^ commit_hash(&[7; 32], changed)[0]
 }
 
 // What is summed is shown, so that nothing is left out.
-fn hashing<R: Clock + Print>(rt: &R, alloc: Global, bytes: &[u8]) -> anyhow::Result<()> {
+fn hashing<R: Clock + Print>(rt: &R, alloc: Global, bytes: &[u8], changed: &[u8]) -> anyhow::Result<()> {
     let Ok(block) = decode_block(alloc, bytes) else {
         bail!("no block");
     };
     let all = messages(alloc, block.txs.as_slice())?;
     let start = Instant::now(rt)?;
-    let sum = hash_all(block.txs.as_slice(), &all);
+    let sum = hash_all(block.txs.as_slice(), &all, changed);
     let nanos = start.elapsed(rt)?.as_nanos();
     println!(rt; "{nanos} {sum}")?;
     Ok(())
@@ -232,10 +259,20 @@ fn key_book<R: AllocGlobal + Files>(rt: &R) -> anyhow::Result<KeyBook> {
     }
 }
 
+// A ledger tells what each block changes.
 fn hash_blocks<R: AllocGlobal + Files + Clock + Print>(rt: &R, paths: &[String]) -> anyhow::Result<()> {
+    let keys = key_book(rt)?;
+    let mut ledger = Ledger::open(rt.alloc(), channel(rt)?);
     for path in paths {
         let bytes = fs::read(rt, path.as_str())?;
-        hashing(rt, rt.alloc(), &bytes)?;
+        let Ok(delta) = ledger.delta(&bytes, &keys) else {
+            bail!("refused");
+        };
+        let changed = changed(rt.alloc(), &delta)?;
+        if ledger.submit_one(&bytes, &keys).is_err() {
+            bail!("refused");
+        }
+        hashing(rt, rt.alloc(), &bytes, &changed)?;
     }
     Ok(())
 }
@@ -493,12 +530,12 @@ def run(program, way, blocks):
     return lines, usage.ru_maxrss
 
 
-def timed(program, asked):
-    """For each way and its blocks the nanoseconds of the lines of so many runs, and the most memory of one, in KB.
+def timed(asked):
+    """For each program, its way and its blocks the nanoseconds of the lines of so many runs, and the most memory of one, in KB.
 
     They take turns, so that a machine whose speed changes changes it for all of them.
     """
-    rounds = [[run(program, way, blocks) for way, blocks in asked] for _ in range(RUNS)]
+    rounds = [[run(program, way, blocks) for program, way, blocks in asked] for _ in range(RUNS)]
     return [([lines for lines, _ in runs], max(memory for _, memory in runs)) for runs in zip(*rounds)]
 
 
@@ -514,7 +551,7 @@ def for_one(runs, blocks):
 
 
 def told(program, name, blocks):
-    found = timed(program, [(way, blocks) for way in ("hash", "ledger", "explain", *map(str, WORKERS))])
+    found = timed([(program, way, blocks) for way in ("hash", "ledger", "explain", *map(str, WORKERS))])
     hashing, ledger, explain, *workers = [for_one(runs, blocks) for runs, _ in found]
     least = " ".join(f"{min(times):>7.1f}" for times in (ledger, explain, workers[0]))
     rates = " ".join(f"{1_000_000 / min(times):>8,.0f}" for times in workers)
@@ -522,6 +559,14 @@ def told(program, name, blocks):
     (ratio, *faster), medians = ([f"{number:.2f}" for number in numbers] for numbers in zip(*ratios))
     memory = found[-1][1] // 1000
     print(f"{name:>10} {min(hashing):>8.1f} {least} {ratio:>6} {rates} {' '.join(faster):>10} {memory:>7,}  {' '.join(medians)}", flush=True)
+
+
+def told_beside(program, other, name, blocks):
+    found = timed([(one, str(count), blocks) for count in WORKERS for one in (program, other)])
+    times = [for_one(runs, blocks) for runs, _ in found]
+    for count, these, those in zip(WORKERS, times[::2], times[1::2]):
+        least, median = times_as_long(these, those)
+        print(f"{name:>10} {count:>8} {min(these):>8.1f} {min(those):>8.1f} {least:>6.2f} {median:>8.2f}", flush=True)
 
 
 def slope(found):
@@ -545,7 +590,7 @@ def by_size(program, folder, state):
     for size, count in sizes.items():
         for _ in range(count):
             blocks.mixed(size)
-    [(runs, _)] = timed(program, [("submit", blocks)])
+    [(runs, _)] = timed([(program, "submit", blocks)])
     for size, count in sizes.items():
         found[size] = min(each(runs, slice(first, first + count), size * count))
         first += count
@@ -555,7 +600,7 @@ def by_size(program, folder, state):
 def by_length(program, folder):
     blocks = Blocks(folder / "length", 2000)
     mixed(blocks, 10_000, 10)
-    [(runs, _)], found = timed(program, [("submit", blocks)]), {}
+    [(runs, _)], found = timed([(program, "submit", blocks)]), {}
     for length in (100, 1000, 10_000):
         found[length] = min(each(runs, slice(length - 90, length), 900))
     grows("by blocks before", found)
@@ -566,9 +611,9 @@ def by_state(program, folder):
     for state in (1000, 10_000, 100_000, 1_000_000):
         blocks = Blocks(folder / f"state{state}", state)
         mixed(blocks, 10, 500)
-        asked.append(("submit", blocks))
-    found = timed(program, asked)
-    grows("by keys of the state", {blocks.state: min(for_one(runs, blocks)) for (_, blocks), (runs, _) in zip(asked, found)})
+        asked.append((program, "submit", blocks))
+    found = timed(asked)
+    grows("by keys of the state", {blocks.state: min(for_one(runs, blocks)) for (_, _, blocks), (runs, _) in zip(asked, found)})
 
 
 def at_once(program, blocks, count):
@@ -593,8 +638,19 @@ def limit(program, folder):
     print(f"how much faster processes of their own hash: {faster}", flush=True)
 
 
+def beside(program, folder, made, top):
+    other = built_of(top, folder / "other", "peer", "peer")
+    print("            workers   µs for one transaction, here and there, and divided; medians")
+    for title, blocks in made.items():
+        told_beside(program, other, title, blocks)
+
+
 def main():
-    wanted = sys.argv[1:] or ["limit", *WORKLOADS, "growth"]
+    words = argparse.ArgumentParser()
+    words.add_argument("--beside", metavar="FOLDER")
+    words.add_argument("workloads", nargs="*")
+    words = words.parse_args()
+    wanted, made = words.workloads or ["limit", *WORKLOADS, "growth"], {}
     machine = Machine()
     with tempfile.TemporaryDirectory() as name:
         folder = pathlib.Path(name)
@@ -606,9 +662,11 @@ def main():
             print("            hashing  ledger explain  worker  ratio  workers                       faster      memory  medians")
         for title, (state, make, *sizes) in WORKLOADS.items():
             if title in wanted:
-                blocks = Blocks(folder / title, state)
+                blocks = made[title] = Blocks(folder / title, state)
                 make(blocks, *sizes)
                 told(program, title, blocks)
+        if words.beside:
+            beside(program, folder, made, words.beside)
         if "growth" in wanted:
             for state in (2000, 1_000_000):
                 by_size(program, folder, state)

@@ -80,7 +80,7 @@ fn said(outcome: &Result<Outcome, Failed>) -> &'static str {
     }
 }
 
-fn told(outcome: Result<Outcome, Failed>, was_refused: bool) -> Result<(), Failed> {
+fn outcome_told(outcome: Result<Outcome, Failed>, was_refused: bool) -> Result<(), Failed> {
     match (said(&outcome), was_refused) {
         ("done", false) => Err(Failed::Missing("told: not reached")),
         ("done", true) => Err(Failed::Missing("told: done")),
@@ -94,6 +94,10 @@ fn told(outcome: Result<Outcome, Failed>, was_refused: bool) -> Result<(), Faile
     }
 }
 """
+
+# What the runtime of a crate's tests has; outside a test only what is named.
+WITH_THREADS = "AllocGlobal + std::thread::Threads + std::sync::Wait + Sync"
+BOUNDS = {"query_tests": WITH_THREADS, "command_line_tests": WITH_THREADS}
 
 # Stands in the place of the mark at which a call begins, and tells how many allocations there were before.
 BEGINS = """
@@ -135,17 +139,17 @@ fn total_NUMBER(rt: HostRuntime) -> Result<(), Failed> {
 PLACE = """
 #[test]
 fn at_NUMBER_PLACE(rt: HostRuntime) -> Result<(), Failed> {
-    tell_NUMBER(rt, PLACE)
+    tell_NUMBER(&rt, PLACE)
 }
 """
 
 TELL = """
-fn tell_NUMBER(rt: HostRuntime, place: u32) -> Result<(), Failed> {
+fn tell_NUMBER<R: BOUNDS>(rt: &R, place: u32) -> Result<(), Failed> {
     if !are_had(rt.alloc(), REFUSED - place) {
         return Err(Failed::Missing("too early"));
     }
-    let outcome = CALL;
-    told(outcome, are_had(rt.alloc(), REFUSED))
+    let outcome = LENT;
+    outcome_told(outcome, are_had(rt.alloc(), REFUSED))
 }
 """
 
@@ -186,7 +190,8 @@ def said_of(folder, crate, tests, seconds, counts=False):
     begun = set()
     for subject, text in tests.items():
         _, file, call = SUBJECTS[subject]
-        words = {"NUMBER": list(SUBJECTS).index(subject), "CALL": call, "REFUSED": REFUSED}
+        words = {"NUMBER": list(SUBJECTS).index(subject), "CALL": call, "LENT": call.replace("&rt", "rt"), "REFUSED": REFUSED}
+        words["BOUNDS"] = BOUNDS.get(crate, "AllocGlobal")
         for word, meant in words.items():
             text = text.replace(word, str(meant))
         with open(sources / file, "a") as out:

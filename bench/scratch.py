@@ -103,3 +103,10 @@ def build(folder, name, source, own, kit, proofs=None):
     if not program.exists():
         sys.exit(f"{name} did not build:\n{built.stdout}{built.stderr}")
     return str(program)
+
+
+def built_of(top, folder, script, name):
+    """The program of another checkout, whose libraries are built, by its own script."""
+    text = f"import pathlib, {script} as s; print(s.build(pathlib.Path({str(folder)!r}), {name!r}, s.PROGRAM, own=s.CRATES, kit=['anyhow']))"
+    done = subprocess.run([sys.executable, "-c", text], cwd=pathlib.Path(top) / "bench", stdout=subprocess.PIPE, text=True, check=True)
+    return done.stdout.strip()

@@ -1,7 +1,7 @@
 #!/usr/bin/env python3
 """Times `check_workers::check_all` with 1, 2 and 4 workers beside the same checks in a plain loop, `serial_checks::flags`.
 
-Run as `bench/workers.py` from anywhere, on a quiet machine that has the kit and four cores. It builds a program over the
+Run as `bench/workers.py [--beside FOLDER]` from anywhere, on a quiet machine that has the kit and four cores. It builds a program over the
 repository's crates in a scratch folder. Each transaction reads a key and writes one, and has the two endorsements that its
 policy asks for; signatures are verified before anything is timed.
 
@@ -15,6 +15,9 @@ beside them by the least times. The two differ where a machine changes its speed
 are of different speeds, and those of a turn seldom are. By the medians it fails where one worker takes more than 1.3 times the
 loop, or four are less than 2.5 times faster than one where transactions are independent.
 
+`--beside` has another checkout of this repository whose libraries are built: how many times as long each takes here as there, in turns,
+by the median over the turns and by the least times.
+
 UNDER has words that are put before each program that is timed: `UNDER="chrt -f 50"` spreads threads at once over the
 processors, where a system gathers new ones on few of them.
 
@@ -23,12 +26,13 @@ share nothing. Where that is less than 2.5, four workers can't reach it either. 
 and after, and what part of its time was stolen from it.
 """
 
+import argparse
 import pathlib
 import subprocess
 import sys
 import tempfile
 
-from scratch import RUNS, UNDER, Machine, build, times_as_long
+from scratch import RUNS, UNDER, Machine, build, built_of, times_as_long
 from encoding import Namespace, Tx, data_hash, header_hash, identity, spelled_block, spelled_tx, tx_id
 from signing import Keys
 
@@ -270,19 +274,34 @@ def write_files(folder):
     return {name: len(txs) for name, txs in blocks.items()}
 
 
+def run(program, folder, name, found):
+    """Adds the nanoseconds of each thing that is timed; what stands behind them."""
+    done = subprocess.run([*UNDER, program, "all", f"{name}.blk"], cwd=folder, capture_output=True, text=True, check=False)
+    lines = [tuple(map(int, line.split())) for line in done.stdout.splitlines()]
+    if done.returncode != 0 or not lines:
+        sys.exit(f"the run failed: {done.stdout[-300:]}{done.stderr[-300:]}")
+    nanos = [number for [number] in lines[:-1]]
+    for place, timed in enumerate(TIMED):
+        found[timed] += nanos[place * TIMES:(place + 1) * TIMES]
+    return lines[-1]
+
+
 def times(program, folder, name):
     """The nanoseconds of each thing that is timed, each time."""
     found = {timed: [] for timed in TIMED}
     for _ in range(RUNS):
-        done = subprocess.run([*UNDER, program, "all", f"{name}.blk"], cwd=folder, capture_output=True, text=True, check=False)
-        run = [tuple(map(int, line.split())) for line in done.stdout.splitlines()]
-        if done.returncode != 0 or not run:
-            sys.exit(f"the run failed: {done.stdout[-300:]}{done.stderr[-300:]}")
-        nanos = [number for [number] in run[:-1]]
-        for place, timed in enumerate(TIMED):
-            found[timed] += nanos[place * TIMES:(place + 1) * TIMES]
-        valid, gathered = run[-1]
+        valid, gathered = run(program, folder, name, found)
     return found, valid, gathered
+
+
+def beside(program, other, folder, name):
+    here, there = ({timed: [] for timed in TIMED} for _ in range(2))
+    for _ in range(RUNS):
+        run(program, folder, name, here)
+        run(other, folder, name, there)
+    for timed in TIMED[:-1]:
+        least, median = times_as_long(here[timed], there[timed])
+        print(f"{name:>12} {timed:>5} takes {median:.2f} times as long here (by the least {least:.2f})", flush=True)
 
 
 def loops(program, folder, count):
@@ -300,6 +319,9 @@ def limit(program, folder):
 
 
 def main():
+    words = argparse.ArgumentParser()
+    words.add_argument("--beside", metavar="FOLDER")
+    words = words.parse_args()
     machine = Machine()
     with tempfile.TemporaryDirectory() as name:
         folder = pathlib.Path(name)
@@ -309,6 +331,10 @@ def main():
             found[name], valid, gathered = times(program, folder, name)
             told = ", ".join(f"{what} {min(nanos) / 1000:,.0f}" for what, nanos in found[name].items())
             print(f"{name:>12} {count:>5,} (µs): {told}; valid {valid:,}, gathered {gathered}", flush=True)
+        if words.beside:
+            other = built_of(words.beside, folder / "other", "workers", "checks")
+            for name in found:
+                beside(program, other, folder, name)
         least, median = limit(program, folder)
     independent, chain = found["independent"], found["chain"]
     least_loop, loop = map(max, zip(*(times_as_long(case["1"], case["loop"]) for case in (independent, chain))))
