@@ -21,8 +21,8 @@ fn refusal_of(why: NotCommitted) -> Result<Refusal, AllocError>
     }
 }
 
-/// Writes the line for the answer to the block at this place, from 1: `accepted NUMBER HASH` and the
-/// flags, and where hashes are asked for `commit NUMBER HASH` behind it; or `refused PLACE FAULT`. Returns what the process ends with where the other blocks are
+/// Writes the lines for the answer to the block at this place, from 1: `accepted NUMBER HASH` and the flags, with `commit NUMBER HASH`
+/// behind it where hashes are asked for; or `refused PLACE FAULT`. Returns what the process ends with where the other blocks are
 /// accepted. Want of memory is a fault and has no line. Takes no memory.
 pub fn write_answer<'a, W: Write>(
     out: &mut W,
