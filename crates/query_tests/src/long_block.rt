@@ -6,7 +6,7 @@ use crate::opening::{opened, submit_next};
 use crate::story::Story;
 use block::BlockVersion;
 use commit::{Committer, Flag, QueryFault, QueryHandle, Receipt};
-use failing::Failed;
+use failing::{Failed, check};
 use gates::{Open, Reverse};
 use std::alloc::{AllocError, Global};
 use std::sync::Wait;
@@ -51,6 +51,14 @@ fn never_goes_back(untold: &mut QueryHandle) -> Result<bool, QueryFault> {
     Ok(true)
 }
 
+// Whether a ledger found this commit hash for the block of this number.
+fn has_hash_of(story: &Story, number: usize, receipt: &Receipt) -> bool {
+    match story.answers.get(number) {
+        Some(Ok(accepted)) => accepted.commit_hash == receipt.commit_hash,
+        _ => false,
+    }
+}
+
 // Takes the block of the keys, and then the long one.
 fn submit_both<R: Threads + Wait + Sync>(
     rt: &R,
@@ -61,11 +69,12 @@ fn submit_both<R: Threads + Wait + Sync>(
     ensures { IfOk result (λ r. r.front.book ≡ committer.old.book) }
 {
     let keys = story.drafter.keys();
-    submit_next(rt, committer, keys, story.bytes(0), &Open)?;
+    let first = submit_next(rt, committer, keys, story.bytes(0), &Open)?;
+    check(has_hash_of(story, 0, &first))?;
     submit_next(rt, committer, keys, story.bytes(1), reverse)
 }
 
-// Whether the long block has its flags, and a handle that is told of it answers its height.
+// Whether the long block has its flags and its commit hash, and a handle that is told of it answers its height.
 fn is_told<R: Threads + Wait + Sync>(
     rt: &R,
     committer: &mut Committer,
@@ -80,6 +89,7 @@ fn is_told<R: Threads + Wait + Sync>(
     let reply = told.height()?;
     Ok(
         (reply.height, reply.answer) == (2, 2)
+            && has_hash_of(story, 1, &receipt)
             && are_of_chain(story.alloc, receipt.flags.as_slice())?,
     )
 }
