@@ -2,17 +2,16 @@
 ghost use Rattle.std.specs.Prelude.{◌≡◌, ◌++◌, ◌∷◌, [], length, string_bytes, slice_get, IfOk, OnOk};
 ghost use Rattle.std.specs.List.{flat_map};
 ghost use Rattle.byteorder.specs.Endian.{big_bytes};
-ghost use Rattle.transaction.specs.Grammar.{counted, listed, optional};
+ghost use Rattle.transaction.specs.Grammar.{listed, optional};
 ghost use Rattle.header_hash.specs.Hashes.{commit_hash_of};
 ghost use Rattle.rules.specs.CommitBytes.{commit_hash_before, definition_bytes, version_number};
 ghost use Rattle.rules.specs.Delta.{definitions_in};
 ghost use Rattle.rules.specs.Flags.{number_of};
 
-use byteorder::{BigEndian, ByteOrder};
 use header_hash::commit_hash;
 use rules::{Flag, NewDefinition};
 use std::alloc::{AllocError, Global};
-use transaction::{BlockVersion, put_u64};
+use transaction::{BlockVersion, put_counted8, put_counted16, put_length32, put_u64};
 use values::Hash;
 
 // Version, number, the count of flags, and whether a definition follows.
@@ -27,25 +26,6 @@ fn version_number(version: BlockVersion) -> u8
     }
 }
 
-/// Writes the lowest four bytes of a count at the end.
-fn put_count(out: &mut Vec<u8>, count: usize) -> Result<(), AllocError>
-    ensures { OnOk result (out.new.items ≡ out.old.items ++ big_bytes 4 count) }
-{
-    let mut bytes = [0; 8];
-    BigEndian::write_u64(&mut bytes, count as u64);
-    out.extend_from_slice(&bytes[4..])
-}
-
-/// Writes the lowest two bytes of a text's length, and the text, at the end.
-fn put_text(out: &mut Vec<u8>, text: &[u8]) -> Result<(), AllocError>
-    ensures { OnOk result (out.new.items ≡ out.old.items ++ counted 2 text.now) }
-{
-    let mut bytes = [0; 8];
-    BigEndian::write_u64(&mut bytes, text.len() as u64);
-    out.extend_from_slice(&bytes[6..])?;
-    out.extend_from_slice(text)
-}
-
 fn put_numbers(out: &mut Vec<u8>, flags: &[Flag]) -> Result<(), AllocError>
     ensures { OnOk result (out.new.items ≡ out.old.items ++ flat_map (λ f. number_of f ∷ []) flags.now) }
 {
@@ -58,7 +38,7 @@ fn put_numbers(out: &mut Vec<u8>, flags: &[Flag]) -> Result<(), AllocError>
 fn put_flags(out: &mut Vec<u8>, flags: &[Flag]) -> Result<(), AllocError>
     ensures { OnOk result (out.new.items ≡ out.old.items ++ listed 4 (λ f. number_of f ∷ []) flags.now) }
 {
-    put_count(out, flags.len())?;
+    put_length32(out, flags.len())?;
     put_numbers(out, flags)
 }
 
@@ -69,11 +49,9 @@ fn put_definition(
 ) -> Result<(), AllocError>
     ensures { OnOk result (out.new.items ≡ out.old.items ++ definition_bytes (definition.now.chaincode, definition.now.policy)) }
 {
-    let name = definition.chaincode.lend();
     let text = definition.policy.get().text(alloc)?;
-    out.push(name.len() as u8)?;
-    out.extend_from_slice(name.as_slice())?;
-    put_text(out, text.as_bytes())
+    put_counted8(out, definition.chaincode.as_slice())?;
+    put_counted16(out, text.as_bytes())
 }
 
 /// The first of these definitions, if there is one: a block has one at most.

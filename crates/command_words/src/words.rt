@@ -1,5 +1,6 @@
 //! What options say by words and names, which is looked at before any file.
-ghost use Rattle.std.specs.Prelude.{◌≡◌, Some, None, Err, false, IfOk};
+ghost use Rattle.std.specs.Prelude.{◌≡◌, ℕ, List, Some, None, Err, false, IfOk};
+ghost use Rattle.values.specs.Key.{is_key};
 ghost use Rattle.values.specs.Name.{is_name};
 ghost use Rattle.text_lines.specs.Words.{word_bytes};
 ghost use Rattle.command_words.specs.declared.word_fault.WordFault.TheVariants.{NotAWord};
@@ -22,7 +23,8 @@ pub fn bytes_of(alloc: Global, word: &str) -> Result<Bytes, WordFault>
 
 /// The key that a word spells. As dear as `bytes_of`.
 pub fn key_of(alloc: Global, word: &str) -> Result<Key, WordFault>
-    ensures { IfOk result (λ key. word_bytes word.now ≡ Some key) }
+    ensures ok { IfOk result (λ key. word_bytes word.now ≡ Some key) }
+    ensures err { result ≡ Err NotAWord → (bytes : List ℕ) → word_bytes word.now ≡ Some bytes → is_key bytes ≡ false }
 {
     let bytes = bytes_of(alloc, word)?;
     if !is_key(bytes.as_slice()) {

@@ -18,7 +18,8 @@ ghost use Rattle.first_version.specs.World.{World, empty_world};
 
 /// Laws, and no work: where the world's version is 1 and the bytes don't begin with the magic of version 2, a step is one of the
 /// first version over the world's definitions, and leaves version and definitions as they are. And so a chain of such strings,
-/// from the empty world of a channel, is one of the first version: the same refusals or flags, values, versions, key policies, history, first uses, blocks and header hashes.
+/// from the empty world of a channel, is one of the first version: the same refusals or flags, values, versions, key policies,
+/// history, first uses, blocks and header hashes.
 pub fn first_version_steps_as_before()
     ensures step { (channel : channel.Configuration) (accepts : Accepts) (old new : world.World) (bytes : List ℕ) (answer : Result now.Accepted Refused)
         → step.Step channel accepts old bytes answer new → StepsAsBefore channel accepts old bytes answer new }

@@ -17,56 +17,17 @@ use byteorder::{BigEndian, ByteOrder};
 use policy::Policy;
 use rules::Row;
 use std::alloc::{AllocError, Global};
-use transaction::{Version, put_u32, put_u64};
-use values::{KeyRef, NameRef, Shared};
+use transaction::{Version, put_counted8, put_counted16, put_counted32, put_u32, put_u64};
+use values::Shared;
 
 // What a row with a short key takes beside its value and its policy.
 const ROW_BYTES: usize = 48;
-
-/// Writes the lowest two bytes of a length at the end.
-fn put_len16(out: &mut Vec<u8>, len: usize) -> Result<(), AllocError>
-    ensures { OnOk result (out.new.items ≡ out.old.items ++ big_bytes 2 len) }
-{
-    let mut bytes = [0; 8];
-    BigEndian::write_u64(&mut bytes, len as u64);
-    out.extend_from_slice(&bytes[6..])
-}
-
-/// Writes the lowest four bytes of a length at the end.
-fn put_len32(out: &mut Vec<u8>, len: usize) -> Result<(), AllocError>
-    ensures { OnOk result (out.new.items ≡ out.old.items ++ big_bytes 4 len) }
-{
-    let mut bytes = [0; 8];
-    BigEndian::write_u64(&mut bytes, len as u64);
-    out.extend_from_slice(&bytes[4..])
-}
-
-fn put_name(out: &mut Vec<u8>, name: &NameRef<'_>) -> Result<(), AllocError>
-    ensures { OnOk result (out.new.items ≡ out.old.items ++ counted 1 name.now) }
-{
-    out.push(name.len() as u8)?;
-    out.extend_from_slice(name.as_slice())
-}
-
-fn put_key(out: &mut Vec<u8>, key: &KeyRef<'_>) -> Result<(), AllocError>
-    ensures { OnOk result (out.new.items ≡ out.old.items ++ counted 2 key.now) }
-{
-    put_len16(out, key.as_slice().len())?;
-    out.extend_from_slice(key.as_slice())
-}
 
 fn put_version(out: &mut Vec<u8>, version: Version) -> Result<(), AllocError>
     ensures { OnOk result (out.new.items ≡ out.old.items ++ version_bytes version) }
 {
     put_u64(out, version.block)?;
     put_u32(out, version.tx)
-}
-
-fn put_value(out: &mut Vec<u8>, value: &[u8]) -> Result<(), AllocError>
-    ensures { OnOk result (out.new.items ≡ out.old.items ++ counted 4 value.now) }
-{
-    put_len32(out, value.len())?;
-    out.extend_from_slice(value)
 }
 
 /// The canonical text of a policy, and no text where there is none.
@@ -87,15 +48,14 @@ fn put_policy(
     ensures { OnOk result (out.new.items ≡ out.old.items ++ counted 2 (policy_text policy.now)) }
 {
     let text = text_of(alloc, policy)?;
-    put_len16(out, text.len())?;
-    out.extend_from_slice(text.as_bytes())
+    put_counted16(out, text.as_bytes())
 }
 
 fn put_row(alloc: Global, out: &mut Vec<u8>, row: &Row) -> Result<(), AllocError>
     ensures { OnOk result (out.new.items ≡ out.old.items ++ row_bytes row.now) }
 {
     put_version(out, row.version)?;
-    put_value(out, row.value.as_slice())?;
+    put_counted32(out, row.value.as_slice())?;
     put_policy(alloc, out, &row.policy)
 }
 
@@ -117,8 +77,8 @@ fn put_optional(alloc: Global, out: &mut Vec<u8>, row: Option<&Row>) -> Result<(
 fn put_edit(alloc: Global, out: &mut Vec<u8>, edit: &Edit) -> Result<(), AllocError>
     ensures { OnOk result (out.new.items ≡ out.old.items ++ change_bytes edit.now) }
 {
-    put_name(out, &edit.namespace())?;
-    put_key(out, &edit.key())?;
+    put_counted8(out, edit.namespace().as_slice())?;
+    put_counted16(out, edit.key().as_slice())?;
     put_optional(alloc, out, edit.row())
 }
 

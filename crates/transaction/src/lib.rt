@@ -29,7 +29,7 @@ pub use item::Item;
 pub use item_reader::decode_item;
 pub use laws::{item_reading, limits_are_the_definitions, transaction_reading};
 pub use limits::{ID_BYTES, MAX_ENDORSEMENTS, MAX_TX_BYTES};
-pub use put::{put_u32, put_u64};
+pub use put::{put_counted8, put_counted16, put_counted32, put_length32, put_u32, put_u64};
 pub use reader::{decode_identity, decode_tx};
 pub use spelled::SpelledTx;
 pub use spelled_item::SpelledItem;

@@ -43,6 +43,43 @@ pub fn put_u64(out: &mut Vec<u8>, n: u64) -> Result<(), AllocError>
     out.extend_from_slice(&bytes)
 }
 
+/// Writes the lowest four bytes of a length at the end, the highest first.
+pub fn put_length32(out: &mut Vec<u8>, len: usize) -> Result<(), AllocError>
+    ensures { OnOk result (out.new.items ≡ out.old.items ++ big_bytes 4 len) }
+{
+    let mut bytes = [0; 8];
+    BigEndian::write_u64(&mut bytes, len as u64);
+    out.extend_from_slice(&bytes[4..])
+}
+
+/// Writes the lowest byte of their length, and these bytes, at the end.
+pub fn put_counted8(out: &mut Vec<u8>, bytes: &[u8]) -> Result<(), AllocError>
+    ensures { OnOk result (out.new.items ≡ out.old.items ++ counted 1 bytes.now) }
+{
+    let mut length = [0; 8];
+    BigEndian::write_u64(&mut length, bytes.len() as u64);
+    out.extend_from_slice(&length[7..])?;
+    out.extend_from_slice(bytes)
+}
+
+/// Writes the lowest two bytes of their length, the highest first, and these bytes, at the end.
+pub fn put_counted16(out: &mut Vec<u8>, bytes: &[u8]) -> Result<(), AllocError>
+    ensures { OnOk result (out.new.items ≡ out.old.items ++ counted 2 bytes.now) }
+{
+    let mut length = [0; 8];
+    BigEndian::write_u64(&mut length, bytes.len() as u64);
+    out.extend_from_slice(&length[6..])?;
+    out.extend_from_slice(bytes)
+}
+
+/// Writes the lowest four bytes of their length, the highest first, and these bytes, at the end.
+pub fn put_counted32(out: &mut Vec<u8>, bytes: &[u8]) -> Result<(), AllocError>
+    ensures { OnOk result (out.new.items ≡ out.old.items ++ counted 4 bytes.now) }
+{
+    put_length32(out, bytes.len())?;
+    out.extend_from_slice(bytes)
+}
+
 pub(crate) fn put_len8(out: &mut Vec<u8>, len: usize) -> Result<(), EncodeFault>
     ensures { Puts result out.old.items out.new.items (big_bytes 1 len) (len < 2 ^ 8) }
 {

@@ -12,6 +12,8 @@ use Rattle.rules.specs.Fold.{running, final_state, definitions_to}
 use Rattle.rules.specs.Differing.{differing}
 use Rattle.rules.specs.CommitBytes.{BlockCommit, commit_bytes, commit_hash_before}
 use Rattle.rules.specs.Commit.{commit_by}
+use Rattle.rules.specs.World.{World, last_commit_hash}
+use Rattle.rules.specs.declared.committed.CommittedBlock.{CommittedBlock}
 use Rattle.rules.proofs.rows.Shared.{at, put, deleted, policy_removed, k, chaincode, peer_of, both_peers, both_peers_text, tx, writing, one, block_over}
 use Rattle.rules.proofs.rows.Looks.{compared}
 
@@ -122,3 +124,12 @@ no_policy_removed = block_over (k ∷ []) (one (tx [] [] [] (policy_removed k �
 pub no_policy_removed_differs : differing no_policy_removed.state (final_state no_policy_removed) ≡ ((chaincode, k), Some (row (codes "v") 1 None)) ∷ []
 unfolding differing running with_changes
 no_policy_removed_differs = simp compared refl
+
+-- ---- what a job commits
+
+pub committed_again_differs : (λ (c : BlockCommit). differing c.before c.after) (commit_by V1 written_again) ≡ ((chaincode, k), Some (row (codes "v") 1 None)) ∷ []
+unfolding differing running with_changes
+committed_again_differs = simp compared refl
+
+pub the_last_block_tells : (w : World) (a b : CommittedBlock) → last_commit_hash (record w { blocks = a ∷ b ∷ [] }) ≡ Some b.commit_hash
+the_last_block_tells w a b = refl

@@ -34,7 +34,7 @@ use Rattle.rules.specs.Job.{Job}
 use Rattle.rules.specs.Fold.{running, flags, definitions_to}
 use Rattle.rules.specs.World.{World}
 use Rattle.rules.specs.Linked.{IsUnlinked}
-use Rattle.rules.specs.Commit.{job_of, committed}
+use Rattle.rules.specs.Commit.{job_of, commit_by, committed}
 use Rattle.rules.specs.Answers.{definition_answer, first_use_answer}
 use Rattle.rules.specs.declared.committed.CommittedBlock.{CommittedBlock}
 use Rattle.rules.proofs.Keys.{bytes_ties}
@@ -111,6 +111,11 @@ ruleset redefining = (get-definition, updating)
 pub definition_behind_it : definition_answer world_2 chaincode ≡ Some new_text
 unfolding running with_changes definitions_to with_definitions
 definition_behind_it = simp redefining refl
+
+-- and among what is hashed of its block
+pub definition_is_committed : (commit_by V2 (job_of channel any world_1 (alone good))).definition ≡ Some (chaincode, second_peer)
+unfolding running with_changes definitions_to
+definition_is_committed = simp updating refl
 
 pub definition_before_it : definition_answer world_1 chaincode ≡ Some (codes "OR('Org1.peer','Org2.peer')")
 definition_before_it = simp looks refl
