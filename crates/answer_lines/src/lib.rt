@@ -10,7 +10,7 @@ mod refusal;
 mod row_lines;
 mod value_word;
 
-pub use block_lines::{write_accepted, write_block, write_commit};
+pub use block_lines::{write_accepted, write_block, write_commit, write_refused};
 pub use laws::printed_values_are_read_back;
 pub use line_fault::LineFault;
 pub use reason_lines::write_reason;

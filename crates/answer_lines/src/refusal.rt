@@ -1,6 +1,7 @@
-ghost use Rattle.std.specs.Prelude.{◌≡◌, ◌↔◌, ◌⊎◌, IsErr};
+ghost use Rattle.std.specs.Prelude.{◌≡◌, ◌↔◌, ◌⊎◌, Some, IsErr, IfOk};
 ghost use Rattle.block.specs.declared.fault.BlockFault.TheVariants as block_fault;
 ghost use Rattle.rules.specs.declared.answer.Refused.TheVariants as refused_as;
+ghost use Rattle.answer_lines.specs.BlockLines as spec;
 
 use block::BlockFault;
 use rules::Refused;
@@ -25,7 +26,8 @@ pub enum Refusal {
 impl Refusal {
     /// The refusal, unless it is want of memory. Takes no memory.
     pub fn of(refused: Refused) -> Result<Refusal, AllocError>
-        ensures { IsErr result ↔ (refused ≡ refused_as.Memory ⊎ refused ≡ refused_as.Malformed block_fault.Memory) }
+        ensures refusal { IfOk result (λ refusal. spec.refusal_of refused ≡ Some refusal) }
+        ensures memory { IsErr result ↔ (refused ≡ refused_as.Memory ⊎ refused ≡ refused_as.Malformed block_fault.Memory) }
     {
         Ok(match refused {
             Refused::Malformed(BlockFault::BadMagic) => Refusal::BadMagic,
@@ -43,7 +45,9 @@ impl Refusal {
     }
 
     // What stands before the numbers of a refusal, if it has any.
-    fn code(&self) -> &'static str {
+    fn code(&self) -> &'static str
+        ensures { result.now ≡ spec.code_of self.now }
+    {
         match self {
             Refusal::BadMagic => "C1 B1",
             Refusal::Truncated => "C1 B2",
@@ -60,6 +64,8 @@ impl Refusal {
 }
 
 impl fmt::Display for Refusal {
+    ghost output = { λ refusal. Some (spec.refusal_text refusal) };
+
     fn fmt<W: fmt::Write>(&self, f: &mut fmt::Formatter<W>) -> fmt::Result {
         f.write_str(self.code())?;
         match self {

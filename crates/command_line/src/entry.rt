@@ -1,7 +1,7 @@
 use crate::performing::perform;
 use clap::error::ErrorKind;
 use command_words::{Asked, not_text};
-use ledger_commands::{ACCEPTED, Fault, Files, USAGE};
+use ledger_commands::{ACCEPTED, Fault, Files, Progress, USAGE};
 use std::alloc::Global;
 use std::convert::AsStr;
 use std::io;
@@ -45,17 +45,26 @@ fn status_of<E: Write>(ended: Result<u8, Fault<'_>>, err: &mut E) -> u8 {
 ///
 /// The words are read first, then all files, and then the blocks are handed in one by one, or one is
 /// drafted. Lines and help go to `out`, and a fault's line to `err`, where a write that fails changes
-/// nothing. The memory is the files' bytes, what the ledger or the committer keeps, what one block takes,
+/// nothing. `progress` is told how many blocks are in, unless the words ask for silence. The memory is the files' bytes, what the ledger or the committer keeps, what one block takes,
 /// and a buffer of a fixed size. `run` alone has threads, which have ended when this returns.
-pub fn program<R: AllocGlobal + Threads + Wait + Sync, S: AsStr, F: Files, O: Write, E: Write>(
+pub fn program<R, S, F, O, E, P>(
     rt: &R,
     words: &[S],
     files: &F,
     out: &mut O,
     err: &mut E,
-) -> u8 {
+    progress: &mut P,
+) -> u8
+where
+    R: AllocGlobal + Threads + Wait + Sync,
+    S: AsStr,
+    F: Files,
+    O: Write,
+    E: Write,
+    P: Progress,
+{
     let ended = match Asked::from_words(rt.alloc(), words) {
-        Ok(asked) => perform(&asked, rt, files, out),
+        Ok(asked) => perform(&asked, rt, files, out, progress),
         Err(error) => tell(&error, out, err),
     };
     status_of(ended, err)

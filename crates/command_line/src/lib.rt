@@ -11,5 +11,5 @@ mod run;
 
 pub use answer_lines::printed_values_are_read_back;
 pub use entry::{program, without_words};
-pub use ledger_commands::{DiskFiles, Fault, FileFault, Files};
+pub use ledger_commands::{DiskFiles, Fault, FileFault, Files, Progress, ProgressLine, Silent};
 pub use lines::write_answer;

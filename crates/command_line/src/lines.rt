@@ -1,11 +1,13 @@
 //! The lines for blocks.
 
-ghost use Rattle.std.specs.Prelude.{◌≡◌, ◌↔◌, ◌⊎◌, IsErr};
+ghost use Rattle.std.specs.Prelude.{◌≡◌, ◌↔◌, ◌⊎◌, Some, IsErr, IfOk, OnOk};
+ghost use Rattle.std.specs.Io.KnownBytes.{Appends};
 ghost use Rattle.block.specs.declared.fault.BlockFault.TheVariants as block_fault;
 ghost use Rattle.commit.specs.declared.not_committed.NotCommitted.TheVariants as not_committed;
 ghost use Rattle.rules.specs.declared.answer.Refused.TheVariants as refused_as;
+ghost use Rattle.command_line.specs.Lines as spec;
 
-use answer_lines::{Refusal, write_accepted, write_commit};
+use answer_lines::{Refusal, write_accepted, write_commit, write_refused};
 use commit::{NotCommitted, Receipt};
 use ledger_commands::{ACCEPTED, Fault, REFUSED};
 use std::alloc::{AllocError, Global};
@@ -13,7 +15,8 @@ use std::io::Write;
 
 /// The refusal, unless it is want of memory, for which alone a committer stops.
 fn refusal_of(why: NotCommitted) -> Result<Refusal, AllocError>
-    ensures { IsErr result ↔ (why ≡ not_committed.Refused refused_as.Memory ⊎ why ≡ not_committed.Refused (refused_as.Malformed block_fault.Memory) ⊎ why ≡ not_committed.MemoryInCommit ⊎ why ≡ not_committed.Stopped) }
+    ensures refusal { IfOk result (λ refusal. spec.refusal_in why ≡ Some refusal) }
+    ensures memory { IsErr result ↔ (why ≡ not_committed.Refused refused_as.Memory ⊎ why ≡ not_committed.Refused (refused_as.Malformed block_fault.Memory) ⊎ why ≡ not_committed.MemoryInCommit ⊎ why ≡ not_committed.Stopped) }
 {
     match why {
         NotCommitted::Refused(refused) => Refusal::of(refused),
@@ -21,31 +24,39 @@ fn refusal_of(why: NotCommitted) -> Result<Refusal, AllocError>
     }
 }
 
+fn write_receipt<'a, W: Write>(
+    out: &mut W,
+    receipt: &Receipt,
+    hashes: bool,
+) -> Result<(), Fault<'a>>
+    ensures { OnOk result (Appends (W.contents out.old) (W.contents out.new) (spec.receipt_lines hashes receipt.now)) }
+{
+    let flags = receipt.flags.as_slice();
+    write_accepted(out, receipt.number, &receipt.header_hash, flags)?;
+    if hashes {
+        write_commit(out, receipt.number, &receipt.commit_hash)?;
+    }
+    Ok(())
+}
+
 /// Writes the lines for the answer to the block at this place, from 1: `accepted NUMBER HASH` and the flags, with `commit NUMBER HASH`
 /// behind it where hashes are asked for; or `refused PLACE FAULT`. Returns what the process ends with where the other blocks are
 /// accepted. Want of memory is a fault and has no line. Takes no memory.
 pub fn write_answer<'a, W: Write>(
     out: &mut W,
-    place: u64,
+    place: usize,
     answer: &Result<Receipt, NotCommitted>,
     hashes: bool,
-) -> Result<u8, Fault<'a>> {
+) -> Result<u8, Fault<'a>>
+    ensures { OnOk result (Appends (W.contents out.old) (W.contents out.new) (spec.answer_lines hashes place answer.now)) }
+{
     match answer {
         Ok(receipt) => {
-            write_accepted(
-                out,
-                receipt.number,
-                &receipt.header_hash,
-                receipt.flags.as_slice(),
-            )?;
-            if hashes {
-                write_commit(out, receipt.number, &receipt.commit_hash)?;
-            }
+            write_receipt(out, receipt, hashes)?;
             Ok(ACCEPTED)
         }
         Err(why) => {
-            let refusal = refusal_of(*why)?;
-            writeln!(out, "refused {place} {refusal}")?;
+            write_refused(out, place, refusal_of(*why)?)?;
             Ok(REFUSED)
         }
     }

@@ -1,7 +1,7 @@
 use crate::run::run_blocks;
 use command_words::Asked;
 use ledger_commands::{
-    Fault, Files, draft_block, print_definition, print_history, print_reasons, print_row,
+    Fault, Files, Progress, draft_block, print_definition, print_history, print_reasons, print_row,
     print_rows,
 };
 use std::io::Write;
@@ -10,20 +10,24 @@ use std::thread::Threads;
 
 /// Does what is asked for. Returns what the process ends with, unless a fault ends it before. `run`
 /// alone has threads.
-pub(crate) fn perform<'a, R: AllocGlobal + Threads + Wait + Sync, F: Files, W: Write>(
+pub(crate) fn perform<'a, R: AllocGlobal + Threads + Wait + Sync, F: Files, W: Write, P: Progress>(
     asked: &Asked<'a>,
     rt: &R,
     files: &F,
     out: &mut W,
+    progress: &mut P,
 ) -> Result<u8, Fault<'a>> {
     let alloc = rt.alloc();
+    if asked.is_quiet() {
+        progress.silence();
+    }
     match asked {
         Asked::Draft(words) => draft_block(alloc, files, words),
-        Asked::Run(words) => run_blocks(rt, files, words, out),
-        Asked::Get(words) => print_row(alloc, files, words, out),
-        Asked::Scan(words) => print_rows(alloc, files, words, out),
-        Asked::History(words) => print_history(alloc, files, words, out),
-        Asked::Definition(words) => print_definition(alloc, files, words, out),
-        Asked::Explain(words) => print_reasons(alloc, files, words, out),
+        Asked::Run(words) => run_blocks(rt, files, words, out, progress),
+        Asked::Get(words) => print_row(alloc, files, words, out, progress),
+        Asked::Scan(words) => print_rows(alloc, files, words, out, progress),
+        Asked::History(words) => print_history(alloc, files, words, out, progress),
+        Asked::Definition(words) => print_definition(alloc, files, words, out, progress),
+        Asked::Explain(words) => print_reasons(alloc, files, words, out, progress),
     }
 }

@@ -2,13 +2,12 @@ ghost use Rattle.std.specs.Prelude.{◌≡◌, All, IfOk, IfSome};
 ghost use Rattle.key_book.specs.Book.{accepts};
 ghost use Rattle.command_line.specs.Handing.{AreHandedIn};
 
-use crate::committing::{Committed, commit_each};
+use crate::committing::{Committed, Wanted, commit_each};
 use crate::readers::{Reader, start, write_heights};
 use channel::Channel;
 use command_words::{Parallelism, Run};
 use commit::{Committer, OpenFault, QueryHandle};
-use key_book::KeyBook;
-use ledger_commands::{Configuration, Fault, Files, Inputs, finish};
+use ledger_commands::{Configuration, Fault, Files, Inputs, Progress, finish};
 use std::alloc::{AllocError, Global};
 use std::io::{BufWriter, Write};
 use std::sync::Wait;
@@ -37,37 +36,37 @@ fn opened<'a, R: Wait>(
 type Ended = (Vec<Reader>, Committed);
 
 // Starts the readers, and commits while they ask.
-fn commit_while_asked<'a, 's, E, R: Threads + Wait + Sync, W: Write>(
+fn commit_while_asked<'a, 's, E, R: Threads + Wait + Sync, W: Write, P: Progress>(
     rt: &R,
     alloc: Global,
     scope: &Scope<'s, E>,
     committer: &mut Committer,
     handles: Vec<QueryHandle>,
     blocks: Vec<Bytes>,
-    keys: &KeyBook,
-    hashes: bool,
+    wanted: Wanted<'_>,
     out: &mut W,
+    progress: &mut P,
 ) -> Result<Ended, Fault<'a>>
     requires { All (λ handle. handle.book ≡ committer.old.book) handles.items }
-    ensures handed { IfOk result (λ ended. AreHandedIn (accepts keys.now) committer.old blocks.items ended.1.last committer.new) }
+    ensures handed { IfOk result (λ ended. AreHandedIn (accepts wanted.entry.keys.now) wanted.entry.hashes committer.old (W.contents out.old) blocks.items ended.1.last committer.new (W.contents out.new)) }
     ensures readers { IfOk result (λ ended. All (λ reader. reader.promise.0.value.book ≡ committer.old.book) ended.0.items) }
     ensures last { IfOk result (λ ended. IfSome ended.1.last (λ receipt. receipt.front.book ≡ committer.old.book)) }
 {
     let readers = start(alloc, scope, committer, handles)?;
-    let committed = commit_each(rt, alloc, committer, blocks, keys, hashes, out)?;
+    let committed = commit_each(rt, alloc, committer, blocks, wanted, out, progress)?;
     Ok((readers, committed))
 }
 
 // The same, and waits until the readers' threads have ended.
-fn commit_beside_readers<'a, R: Threads + Wait + Sync, W: Write>(
+fn commit_beside_readers<'a, R: Threads + Wait + Sync, W: Write, P: Progress>(
     rt: &R,
     alloc: Global,
     committer: &mut Committer,
     handles: Vec<QueryHandle>,
     blocks: Vec<Bytes>,
-    keys: &KeyBook,
-    hashes: bool,
+    wanted: Wanted<'_>,
     out: &mut W,
+    progress: &mut P,
 ) -> Result<Ended, Fault<'a>>
     requires { All (λ handle. handle.book ≡ committer.old.book) handles.items }
     ensures readers { IfOk result (λ ended. All (λ reader. reader.promise.0.value.book ≡ committer.old.book) ended.0.items) }
@@ -82,48 +81,48 @@ fn commit_beside_readers<'a, R: Threads + Wait + Sync, W: Write>(
             ensures last { IfOk result (λ ended. IfSome ended.1.last (λ receipt. receipt.front.book ≡ committer.entry.now.book)) }
         {
             commit_while_asked(
-                rt, alloc, scope, committer, handles, blocks, keys, hashes, out,
+                rt, alloc, scope, committer, handles, blocks, wanted, out, progress,
             )
         },
     )
 }
 
 // All lines, those of the readers behind those of the blocks.
-fn write_lines<'a, R: Threads + Wait + Sync, W: Write>(
+fn write_lines<'a, R: Threads + Wait + Sync, W: Write, P: Progress>(
     rt: &R,
     alloc: Global,
     committer: &mut Committer,
     handles: Vec<QueryHandle>,
     blocks: Vec<Bytes>,
-    keys: &KeyBook,
-    hashes: bool,
+    wanted: Wanted<'_>,
     out: &mut W,
+    progress: &mut P,
 ) -> Result<u8, Fault<'a>>
     requires { All (λ handle. handle.book ≡ committer.old.book) handles.items }
 {
     let (readers, committed) = commit_beside_readers(
-        rt, alloc, committer, handles, blocks, keys, hashes, out,
+        rt, alloc, committer, handles, blocks, wanted, out, progress,
     )?;
     write_heights(rt, readers, &committed.last, out)?;
     Ok(committed.status)
 }
 
 // The same through a buffer.
-fn write_through_buffer<'a, R: Threads + Wait + Sync, W: Write>(
+fn write_through_buffer<'a, R: Threads + Wait + Sync, W: Write, P: Progress>(
     rt: &R,
     alloc: Global,
     committer: &mut Committer,
     handles: Vec<QueryHandle>,
     blocks: Vec<Bytes>,
-    keys: &KeyBook,
-    hashes: bool,
+    wanted: Wanted<'_>,
     out: &mut W,
+    progress: &mut P,
 ) -> Result<u8, Fault<'a>>
     requires { All (λ handle. handle.book ≡ committer.old.book) handles.items }
 {
     let mut lines = BufWriter::new(alloc, out)?;
     let ended = write_lines(
-        rt, alloc, committer, handles, blocks, keys, hashes, &mut lines,
+        rt, alloc, committer, handles, blocks, wanted, &mut lines, progress,
     );
     finish(lines, ended)
 }
@@ -131,12 +130,13 @@ fn write_through_buffer<'a, R: Threads + Wait + Sync, W: Write>(
 /// Reads the files, hands the blocks in to a new committer, and writes a line for each, and then one for
 /// each reader. The memory is the files' bytes, of which those of 16 blocks are let go when these are done, what the
 /// committer keeps, what two blocks take, a buffer of a fixed size, and what threads take.
-pub(crate) fn run_blocks<'a, R: AllocGlobal + Threads + Wait + Sync, F: Files, W: Write>(
-    rt: &R,
-    files: &F,
-    words: &Run<'a>,
-    out: &mut W,
-) -> Result<u8, Fault<'a>> {
+pub(crate) fn run_blocks<
+    'a,
+    R: AllocGlobal + Threads + Wait + Sync,
+    F: Files,
+    W: Write,
+    P: Progress,
+>(rt: &R, files: &F, words: &Run<'a>, out: &mut W, progress: &mut P) -> Result<u8, Fault<'a>> {
     let alloc = rt.alloc();
     let Inputs {
         configuration,
@@ -144,15 +144,19 @@ pub(crate) fn run_blocks<'a, R: AllocGlobal + Threads + Wait + Sync, F: Files, W
     } = Inputs::read(alloc, files, &words.paths)?;
     let Configuration { channel, keys } = configuration;
     let (mut committer, handles) = opened(rt, alloc, channel, &words.parallelism)?;
+    let wanted = Wanted {
+        keys: &keys,
+        hashes: words.hashes,
+    };
     let ended = write_through_buffer(
         rt,
         alloc,
         &mut committer,
         handles,
         blocks,
-        &keys,
-        words.hashes,
+        wanted,
         out,
+        progress,
     );
     committer.close(rt);
     ended

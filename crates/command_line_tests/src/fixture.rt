@@ -1,7 +1,7 @@
 //! Runs of the program, and what they end with.
 
 use crate::files::{File, MemoryFiles};
-use command_line::{Files, program};
+use command_line::{Files, Silent, program};
 use std::alloc::{AllocError, Global};
 use std::sync::Wait;
 use std::thread::Threads;
@@ -36,7 +36,7 @@ pub(crate) fn ended<R: AllocGlobal + Threads + Wait + Sync, F: Files>(
     words: &[&str],
 ) -> End {
     let (mut out, mut err) = (Vec::new(rt.alloc()), Vec::new(rt.alloc()));
-    let status = program(rt, words, files, &mut out, &mut err);
+    let status = program(rt, words, files, &mut out, &mut err, &mut Silent);
     End { status, out, err }
 }
 

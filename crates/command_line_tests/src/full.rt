@@ -1,6 +1,6 @@
 //! A writer that fails, and runs into it.
 
-use command_line::{Files, program};
+use command_line::{Files, Silent, program};
 use std::alloc::Global;
 use std::io;
 use std::io::{ErrorKind, Write};
@@ -69,6 +69,6 @@ pub(crate) fn ends_into<F: Files>(
     err: &str,
 ) -> bool {
     let mut faults = Vec::new(rt.alloc());
-    let got = program(rt, words, files, out, &mut faults);
+    let got = program(rt, words, files, out, &mut faults, &mut Silent);
     got == status && faults.as_slice() == err.as_bytes()
 }

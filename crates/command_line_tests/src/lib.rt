@@ -32,6 +32,8 @@ mod memory;
 #[cfg(test)]
 mod outputs;
 #[cfg(test)]
+mod progress;
+#[cfg(test)]
 mod signatures;
 #[cfg(test)]
 mod texts;

@@ -4,7 +4,7 @@ use crate::files::{File, MemoryFiles};
 use crate::fixture::{CHANNEL, FIRST_BLOCK, KEYS};
 use crate::full::{FAULT, Full, ends_into};
 use crate::large::block_of_empty;
-use command_line::program;
+use command_line::{Silent, program};
 use std::alloc::{AllocError, Global};
 use std::io::ErrorKind;
 use std::sync::Wait;
@@ -233,7 +233,7 @@ fn status_without_error<R: AllocGlobal + Threads + Wait + Sync>(
     out: &mut Full,
 ) -> u8 {
     let mut err = Full::after(rt.alloc(), 3);
-    program(rt, words, &MemoryFiles(&[]), out, &mut err)
+    program(rt, words, &MemoryFiles(&[]), out, &mut err, &mut Silent)
 }
 
 #[test]

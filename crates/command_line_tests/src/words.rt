@@ -21,16 +21,16 @@ const DRAFT: &str =
     "Usage: fabcommit draft [OPTIONS] --channel <FILE> --keys <FILE> <SCRIPT> <OUT>\n";
 
 const GET: &str =
-    "Usage: fabcommit get --channel <FILE> --keys <FILE> --ns <NAME> --key <WORD> [BLOCK]...\n";
+    "Usage: fabcommit get [OPTIONS] --channel <FILE> --keys <FILE> --ns <NAME> --key <WORD> [BLOCK]...\n";
 
 const SCAN: &str =
     "Usage: fabcommit scan [OPTIONS] --channel <FILE> --keys <FILE> --ns <NAME> [BLOCK]...\n";
 
 const HISTORY: &str =
-    "Usage: fabcommit history --channel <FILE> --keys <FILE> --ns <NAME> --key <WORD> [BLOCK]...\n";
+    "Usage: fabcommit history [OPTIONS] --channel <FILE> --keys <FILE> --ns <NAME> --key <WORD> [BLOCK]...\n";
 
 const DEFINITION: &str =
-    "Usage: fabcommit definition --channel <FILE> --keys <FILE> --ns <NAME> [BLOCK]...\n";
+    "Usage: fabcommit definition [OPTIONS] --channel <FILE> --keys <FILE> --ns <NAME> [BLOCK]...\n";
 
 const EXPLAIN: &str =
     "Usage: fabcommit explain [OPTIONS] --channel <FILE> --keys <FILE> <BLOCK>...\n";
@@ -223,7 +223,17 @@ fn helped() -> &'static [Row] {
     &HELP
 }
 
-static HELP: [Row; 12] = [
+static HELP: [Row; 14] = [
+    (
+        &["--version"],
+        "fabcommit 0.2.0, for blocks of versions 1 and 2\n",
+        "",
+    ),
+    (
+        &["help"],
+        "\n  explain     Learn why each transaction",
+        COMMAND,
+    ),
     (&["--help"], "\nCommands:\n  draft ", COMMAND),
     (&["help"], "\nExample, from a script to what", COMMAND),
     (&["draft", "-h"], "\nExample:\n  fabcommit draft ", DRAFT),
@@ -307,6 +317,39 @@ fn is_help(rt: &(impl AllocGlobal + Threads + Wait + Sync), row: &Row) -> Result
 fn help(rt: HostRuntime) -> Result<(), AllocError> {
     for row in helped() {
         assert!(rt; is_help(&rt, row)?, "{:?}", row.0);
+    }
+    Ok(())
+}
+
+// Help of each subcommand fits a terminal of so many columns, but for the line that clap makes of all that is required.
+const COLUMNS: usize = 80;
+
+fn subcommands() -> &'static [&'static str] {
+    &[
+        "draft",
+        "run",
+        "get",
+        "scan",
+        "history",
+        "definition",
+        "explain",
+        "help",
+    ]
+}
+
+fn fits(
+    rt: &(impl AllocGlobal + Threads + Wait + Sync),
+    name: &'static str,
+) -> Result<bool, AllocError> {
+    let ended = ended_of(rt, &["help", name])?;
+    let mut lines = ended.out.as_slice().split(|byte| *byte == b'\n');
+    Ok(ended.status == 0 && lines.all(|line| line.len() <= COLUMNS || line.starts_with(b"Usage: ")))
+}
+
+#[test]
+fn help_fits_a_terminal(rt: HostRuntime) -> Result<(), AllocError> {
+    for name in subcommands() {
+        assert!(rt; fits(&rt, name)?, "{name}");
     }
     Ok(())
 }

@@ -13,13 +13,18 @@ use std::convert::AsStr;
 
 const NAME: &str = "fabcommit";
 
+// The program's own version, and the versions of blocks that it reads.
+const VERSION: &str = "0.2.0, for blocks of versions 1 and 2";
+
 const EXAMPLE: &str = "\
 Example, from a script to what its block leaves behind:
   fabcommit draft --channel channel.txt --keys keys.txt script.txt block0.blk
   fabcommit run --channel channel.txt --keys keys.txt block0.blk
-  fabcommit get --channel channel.txt --keys keys.txt --ns cc --key car1 block0.blk
+  fabcommit get --channel channel.txt --keys keys.txt --ns cc --key car1 \\
+    block0.blk
 
-The ledger lives in memory: each call hands its blocks in anew, from block 0 on.
+The ledger lives in memory: each call hands its blocks in anew, from block 0
+on. `fabcommit help COMMAND` says what a command prints.
 
 Exit status:
   0  all went well
@@ -52,7 +57,8 @@ fn with_subcommands<'a>(alloc: Global, command: Command<'a>) -> Result<Command<'
 fn command<'a>(alloc: Global) -> Result<Command<'a>, AllocError> {
     let command = Command::new(alloc, NAME)
         .bin_name(NAME)?
-        .about("A committing peer of one Hyperledger Fabric channel")
+        .version(VERSION)
+        .about("Commit blocks of a Hyperledger Fabric channel, and ask what they leave")
         .after_help(EXAMPLE)
         .subcommand_required(true);
     with_subcommands(alloc, command)
@@ -65,6 +71,18 @@ pub fn not_text(alloc: Global) -> Result<Error, AllocError> {
 }
 
 impl<'a> Asked<'a> {
+    /// Whether nothing is to be shown while blocks are handed in.
+    pub fn is_quiet(&self) -> bool {
+        match self {
+            Asked::Draft(_) => true,
+            Asked::Run(words) => words.paths.quiet,
+            Asked::Get(words) | Asked::History(words) => words.paths.quiet,
+            Asked::Scan(words) => words.paths.quiet,
+            Asked::Definition(words) => words.paths.quiet,
+            Asked::Explain(words) => words.paths.quiet,
+        }
+    }
+
     /// What the words ask for, of which the first is the program's name; else why they are no
     /// command, or the help that they ask for. The memory is linear in the words.
     pub fn from_words<S: AsStr>(alloc: Global, words: &'a [S]) -> Result<Asked<'a>, Error> {

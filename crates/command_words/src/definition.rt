@@ -1,6 +1,6 @@
 //! The words of `definition`.
 use crate::arguments::NAMESPACE;
-use crate::paths::{ANY_BLOCKS, CHANNEL, KEYS, LedgerPaths};
+use crate::paths::{ANY_BLOCKS, CHANNEL, KEYS, LedgerPaths, QUIET};
 use crate::subcommand::Subcommand;
 use crate::word_fault::WordFault;
 use crate::words::name_of;
@@ -10,15 +10,16 @@ use values::Name;
 
 pub(crate) static DEFINITION: Subcommand = Subcommand {
     name: "definition",
-    about: "Hands blocks in and prints the policy of a chaincode",
+    about: "See the endorsement policy of a chaincode",
     example: "\
 Example:
   fabcommit definition --channel channel.txt --keys keys.txt --ns cc block0.blk
 
-  height H         how many blocks were accepted
-  definition TEXT  whose endorsement the chaincode's transactions need; no spaces, single quotes
-  absent           the channel has no such chaincode",
-    arguments: &[CHANNEL, KEYS, NAMESPACE, ANY_BLOCKS],
+  height H               how many blocks were accepted
+  definition TEXT        whose endorsement the chaincode's transactions need; no
+                         spaces, single quotes
+  absent                 the channel has no such chaincode",
+    arguments: &[CHANNEL, KEYS, NAMESPACE, QUIET, ANY_BLOCKS],
 };
 
 /// Blocks in, and the policy of a chaincode out.

@@ -7,20 +7,25 @@ use transaction::BlockVersion;
 
 pub(crate) static DRAFT: Subcommand = Subcommand {
     name: "draft",
-    about: "Makes a block of the transactions and updates that a script says, with ids, signatures and hashes",
+    about: "Make a block from a script, with ids, signatures and hashes",
     example: "\
 Example:
-  fabcommit draft --channel channel.txt --keys keys.txt --after block0.blk script.txt block1.blk
+  fabcommit draft --channel channel.txt --keys keys.txt \\
+    --after block0.blk script.txt block1.blk
 
-  with these lines in script.txt, a transaction that writes one key and is endorsed by one peer:
+  with these lines in script.txt, a transaction that writes one key and is
+  endorsed by one peer:
     tx Org1:client:c0 nonce1 cc
     ns cc
     write car1 red
     endorse Org1:peer:p0
 
-  With --format 2 a script may also update the policy of a chaincode, in a block of its own:
+  With --format 2 a script may also update the policy of a chaincode, in a block
+  of its own:
     update Org1:admin:a0 nonce2 cc OR('Org1.peer','Org2.peer')
     endorse Org1:admin:a0
+
+  Behind a block of version 2 none of version 1 is accepted.
 
   Prints nothing. Where the script has a fault, OUT stays as it was.",
     arguments: &[CHANNEL, KEYS, AFTER, FORMAT, SCRIPT, OUT],
@@ -29,14 +34,14 @@ Example:
 const AFTER: Argument = Argument {
     name: "after",
     value_name: "FILE",
-    help: "The block that the new one follows; without it block 0 is made",
+    help: "The block before it; without one block 0 is made",
     form: Form::Optional,
 };
 
 const FORMAT: Argument = Argument {
     name: "format",
     value_name: "N",
-    help: "The version of the block, 1 or 2; behind a block of version 2 none of version 1 is accepted",
+    help: "The block's version: 1, or 2 for updates",
     form: Form::Count {
         default: "1",
         least: 1,

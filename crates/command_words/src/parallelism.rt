@@ -11,7 +11,7 @@ const MOST_READERS: u16 = 32;
 pub(crate) const WORKERS: Argument = Argument {
     name: "workers",
     value_name: "N",
-    help: "The threads that check a block's transactions, from 1 to 64",
+    help: "Threads that check a block, from 1 to 64",
     form: Form::Count {
         default: "1",
         least: 1,
@@ -22,7 +22,7 @@ pub(crate) const WORKERS: Argument = Argument {
 pub(crate) const READERS: Argument = Argument {
     name: "readers",
     value_name: "N",
-    help: "The threads that query while blocks are handed in, from 0 to 32",
+    help: "Threads that query meanwhile, from 0 to 32",
     form: Form::Count {
         default: "0",
         least: 0,

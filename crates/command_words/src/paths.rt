@@ -10,11 +10,12 @@ pub struct ConfigurationPaths<'a> {
     pub keys: &'a str,
 }
 
-/// The paths of what a ledger is made of, the blocks' in their order.
+/// The paths of what a ledger is made of, the blocks' in their order, and whether it is made in silence.
 #[derive(Drop)]
 pub struct LedgerPaths<'a> {
     pub configuration: ConfigurationPaths<'a>,
     pub blocks: Vec<&'a str>,
+    pub quiet: bool,
 }
 
 pub(crate) const CHANNEL: Argument = Argument {
@@ -29,6 +30,13 @@ pub(crate) const KEYS: Argument = Argument {
     value_name: "FILE",
     help: "The keys that signatures are made and checked with",
     form: Form::Required,
+};
+
+pub(crate) const QUIET: Argument = Argument {
+    name: "quiet",
+    value_name: "",
+    help: "Doesn't show on a terminal how many blocks are in",
+    form: Form::Flag,
 };
 
 const BLOCKS: &str = "Block files, in the order in which they are handed in";
@@ -70,6 +78,7 @@ impl<'a> LedgerPaths<'a> {
         Ok(Some(LedgerPaths {
             configuration,
             blocks: Vec::from_slice(alloc, blocks)?,
+            quiet: matches.get_flag("quiet"),
         }))
     }
 }

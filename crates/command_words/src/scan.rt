@@ -1,42 +1,47 @@
 //! The words of `scan`.
 use crate::arguments::{Argument, Form, NAMESPACE, number_of};
-use crate::paths::{ANY_BLOCKS, CHANNEL, KEYS, LedgerPaths};
+use crate::paths::{ANY_BLOCKS, CHANNEL, KEYS, LedgerPaths, QUIET};
 use crate::subcommand::Subcommand;
 use clap::ArgMatches;
 use std::alloc::{AllocError, Global};
 
 pub(crate) static SCAN: Subcommand = Subcommand {
     name: "scan",
-    about: "Hands blocks in and prints the rows of a namespace, in the order of their keys",
+    about: "List the keys of a namespace, in their order, and what they hold",
     example: "\
 Example:
-  fabcommit scan --channel channel.txt --keys keys.txt --ns cc --start car --limit 10 block0.blk
+  fabcommit scan --channel channel.txt --keys keys.txt --ns cc --start car \\
+    --limit 10 block0.blk
 
-  height H                       how many blocks were accepted
-  row KEY BLOCK TX VALUE POLICY  the block and transaction that wrote it last; - is no own policy
-  more                           behind the rows, where the limit cut them: go on with --start KEY%00,
-                                 KEY being that of the last row",
-    arguments: &[CHANNEL, KEYS, NAMESPACE, START, END, LIMIT, ANY_BLOCKS],
+  height H               how many blocks were accepted
+  row KEY BLOCK TX VALUE POLICY
+                         the block and transaction that wrote it last; - is no
+                         own policy
+  more                   behind the rows, where the limit cut them: go on with
+                         --start KEY%00, KEY being that of the last row",
+    arguments: &[
+        CHANNEL, KEYS, NAMESPACE, START, END, LIMIT, QUIET, ANY_BLOCKS,
+    ],
 };
 
 const START: Argument = Argument {
     name: "start",
     value_name: "WORD",
-    help: "The key to begin with, as a word; % is before all keys",
+    help: "The word to begin at; % is before all",
     form: Form::Default("%"),
 };
 
 const END: Argument = Argument {
     name: "end",
     value_name: "WORD",
-    help: "The key to end before, as a word; % is behind all keys",
+    help: "The word that all are below; % is no end",
     form: Form::Default("%"),
 };
 
 const LIMIT: Argument = Argument {
     name: "limit",
     value_name: "N",
-    help: "The most rows that are printed, from 1 to 65535",
+    help: "The most rows, from 1 to 65535",
     form: Form::Count {
         default: "100",
         least: 1,

@@ -1,7 +1,8 @@
 //! `fabcommit`: the program of `command_line` over this process's words, files and standard streams.
 #![tactic(auto)]
 
-use command_line::{DiskFiles, program, without_words};
+use command_line::{DiskFiles, ProgressLine, program, without_words};
+use std::io::IsTerminal;
 use std::process::ExitCode;
 use std::{env, io};
 
@@ -14,7 +15,16 @@ fn main(rt: HostRuntime) -> ExitCode {
     ExitCode::from(match words(&rt) {
         Ok(words) => {
             let files = DiskFiles::new(&rt);
-            program(&rt, words.as_slice(), &files, &mut out, &mut err)
+            let is_watched = err.is_terminal();
+            let mut progress = ProgressLine::new(&rt, rt.stderr(), is_watched);
+            program(
+                &rt,
+                words.as_slice(),
+                &files,
+                &mut out,
+                &mut err,
+                &mut progress,
+            )
         }
         Err(error) => without_words(&rt, &error, &mut out, &mut err),
     })

@@ -1,5 +1,6 @@
 use crate::fault::Fault;
 use crate::files::Files;
+use crate::progress::Progress;
 use crate::question::{Question, answer};
 use answer_lines::write_definition;
 use command_words::DefinitionQuery;
@@ -25,12 +26,13 @@ impl Question for DefinitionOf {
 
 /// Reads the name and the files, hands the blocks in, and writes the chaincode's policy. Beside what the blocks take, the
 /// memory is the name, the policy's text and a buffer of a fixed size.
-pub fn print_definition<'a, F: Files, W: Write>(
+pub fn print_definition<'a, F: Files, W: Write, P: Progress>(
     alloc: Global,
     files: &F,
     words: &DefinitionQuery<'a>,
     out: &mut W,
+    progress: &mut P,
 ) -> Result<u8, Fault<'a>> {
     let question = DefinitionOf(words.chaincode(alloc)?);
-    answer(alloc, files, &words.paths, &question, out)
+    answer(alloc, files, &words.paths, &question, out, progress)
 }

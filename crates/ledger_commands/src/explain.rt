@@ -2,9 +2,10 @@ use crate::buffered::finish;
 use crate::fault::Fault;
 use crate::files::Files;
 use crate::inputs::{Configuration, Inputs};
+use crate::progress::Progress;
 use crate::question::hand_in;
 use crate::status::REFUSED;
-use answer_lines::{Refusal, write_block, write_reason};
+use answer_lines::{Refusal, write_block, write_reason, write_refused};
 use block::{Header, decode_block};
 use command_words::Explain;
 use header_hash::header_hash;
@@ -38,13 +39,12 @@ fn write_reasons<'a, W: Write>(
     Ok(())
 }
 
-fn write_refused<'a, W: Write>(
+fn write_no_reasons<'a, W: Write>(
     out: &mut W,
     place: usize,
     refused: Refused,
 ) -> Result<u8, Fault<'a>> {
-    let refusal = Refusal::of(refused)?;
-    writeln!(out, "refused {place} {refusal}")?;
+    write_refused(out, place, Refusal::of(refused)?)?;
     Ok(REFUSED)
 }
 
@@ -61,23 +61,24 @@ fn write_lines<'a, W: Write>(
 ) -> Result<u8, Fault<'a>> {
     let block = match decode_block(alloc, bytes) {
         Ok(block) => block,
-        Err(fault) => return write_refused(out, place, Refused::Malformed(fault)),
+        Err(fault) => return write_no_reasons(out, place, Refused::Malformed(fault)),
     };
     match ledger.explain(bytes, keys) {
         Ok(reasons) => {
             write_reasons(alloc, out, &block.header, reasons.as_slice(), tx)?;
             Ok(status)
         }
-        Err(refused) => write_refused(out, place, refused),
+        Err(refused) => write_no_reasons(out, place, refused),
     }
 }
 
 // All blocks but the last handed in, and the last one's lines.
-fn explain_last<'a, W: Write>(
+fn explain_last<'a, W: Write, P: Progress>(
     alloc: Global,
     inputs: Inputs,
     tx: Option<u16>,
     out: &mut W,
+    progress: &mut P,
 ) -> Result<u8, Fault<'a>> {
     let Inputs {
         configuration,
@@ -90,7 +91,7 @@ fn explain_last<'a, W: Write>(
         return Err(Fault::Word);
     };
     let mut ledger = Ledger::open(alloc, channel);
-    let status = hand_in(&mut ledger, blocks, &keys)?;
+    let status = hand_in(&mut ledger, blocks, &keys, progress)?;
     write_lines(
         alloc,
         out,
@@ -105,14 +106,15 @@ fn explain_last<'a, W: Write>(
 
 /// Reads the files, hands all blocks but the last in, and writes the last one's lines. The memory is that of `run`,
 /// with the reasons, and a buffer of a fixed size.
-pub fn print_reasons<'a, F: Files, W: Write>(
+pub fn print_reasons<'a, F: Files, W: Write, P: Progress>(
     alloc: Global,
     files: &F,
     words: &Explain<'a>,
     out: &mut W,
+    progress: &mut P,
 ) -> Result<u8, Fault<'a>> {
     let inputs = Inputs::read(alloc, files, &words.paths)?;
     let mut lines = BufWriter::new(alloc, out)?;
-    let ended = explain_last(alloc, inputs, words.tx, &mut lines);
+    let ended = explain_last(alloc, inputs, words.tx, &mut lines, progress);
     finish(lines, ended)
 }

@@ -1,5 +1,6 @@
 use crate::fault::Fault;
 use crate::files::Files;
+use crate::progress::Progress;
 use crate::question::{Question, answer};
 use answer_lines::write_row;
 use command_words::{KeyedQuery, Place};
@@ -28,12 +29,13 @@ impl Question for RowOf {
 
 /// Reads the key and the files, hands the blocks in, and writes the row. Beside what the blocks
 /// take, the memory is the key, its policy's text and a buffer of a fixed size.
-pub fn print_row<'a, F: Files, W: Write>(
+pub fn print_row<'a, F: Files, W: Write, P: Progress>(
     alloc: Global,
     files: &F,
     words: &KeyedQuery<'a>,
     out: &mut W,
+    progress: &mut P,
 ) -> Result<u8, Fault<'a>> {
     let question = RowOf(words.place(alloc)?);
-    answer(alloc, files, &words.paths, &question, out)
+    answer(alloc, files, &words.paths, &question, out, progress)
 }

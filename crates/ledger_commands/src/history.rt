@@ -1,5 +1,6 @@
 use crate::fault::Fault;
 use crate::files::Files;
+use crate::progress::Progress;
 use crate::question::{Question, answer};
 use answer_lines::write_entry;
 use command_words::{KeyedQuery, Place};
@@ -27,12 +28,13 @@ impl Question for HistoryOf {
 
 /// Reads the key and the files, hands the blocks in, and writes the entries as they are met.
 /// Beside what the blocks take, the memory is the key and a buffer of a fixed size.
-pub fn print_history<'a, F: Files, W: Write>(
+pub fn print_history<'a, F: Files, W: Write, P: Progress>(
     alloc: Global,
     files: &F,
     words: &KeyedQuery<'a>,
     out: &mut W,
+    progress: &mut P,
 ) -> Result<u8, Fault<'a>> {
     let question = HistoryOf(words.place(alloc)?);
-    answer(alloc, files, &words.paths, &question, out)
+    answer(alloc, files, &words.paths, &question, out, progress)
 }

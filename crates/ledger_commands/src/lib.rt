@@ -1,5 +1,5 @@
 //! The subcommands that one thread does: they draft a block, or ask the ledger behind some blocks. And what all
-//! subcommands have: files, faults, and what the process ends with.
+//! subcommands have: files, faults, what a person is told who waits, and what the process ends with.
 #![tactic(auto)]
 
 mod buffered;
@@ -11,6 +11,7 @@ mod files;
 mod get;
 mod history;
 mod inputs;
+mod progress;
 mod question;
 mod scan;
 mod status;
@@ -24,5 +25,6 @@ pub use files::{DiskFiles, FileFault, Files};
 pub use get::print_row;
 pub use history::print_history;
 pub use inputs::{Configuration, Inputs};
+pub use progress::{Progress, ProgressLine, Silent};
 pub use scan::print_rows;
 pub use status::{ACCEPTED, REFUSED, USAGE};

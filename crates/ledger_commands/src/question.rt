@@ -2,6 +2,7 @@ use crate::buffered::finish;
 use crate::fault::Fault;
 use crate::files::Files;
 use crate::inputs::{Configuration, Inputs};
+use crate::progress::Progress;
 use crate::status::{ACCEPTED, REFUSED};
 use answer_lines::{Refusal, write_height};
 use command_words::LedgerPaths;
@@ -23,20 +24,34 @@ pub(crate) trait Question {
     ) -> Result<(), Fault<'a>>;
 }
 
-/// Hands blocks in, each let go when it is done. Returns what the process ends with, where nothing else befalls it.
-pub(crate) fn hand_in<'a>(
+fn hand_in_each<'a, P: Progress>(
     ledger: &mut Ledger,
     blocks: Vec<Bytes>,
     keys: &KeyBook,
+    progress: &mut P,
 ) -> Result<u8, Fault<'a>> {
     let mut status = ACCEPTED;
-    for bytes in blocks {
+    let all = blocks.len();
+    for (place, bytes) in blocks.into_iter().enumerate() {
+        progress.blocks_in(place, all);
         if let Err(refused) = ledger.submit_one(bytes.as_slice(), keys) {
             Refusal::of(refused)?;
             status = REFUSED;
         }
     }
     Ok(status)
+}
+
+/// Hands blocks in, each let go when it is done. Returns what the process ends with, where nothing else befalls it.
+pub(crate) fn hand_in<'a, P: Progress>(
+    ledger: &mut Ledger,
+    blocks: Vec<Bytes>,
+    keys: &KeyBook,
+    progress: &mut P,
+) -> Result<u8, Fault<'a>> {
+    let ended = hand_in_each(ledger, blocks, keys, progress);
+    progress.clear();
+    ended
 }
 
 fn write_lines<'a, Q: Question, W: Write>(
@@ -69,10 +84,11 @@ struct Committed {
 }
 
 impl Committed {
-    fn read<'a, F: Files>(
+    fn read<'a, F: Files, P: Progress>(
         alloc: Global,
         files: &F,
         paths: &LedgerPaths<'a>,
+        progress: &mut P,
     ) -> Result<Committed, Fault<'a>> {
         let Inputs {
             configuration,
@@ -80,7 +96,7 @@ impl Committed {
         } = Inputs::read(alloc, files, paths)?;
         let Configuration { channel, keys } = configuration;
         let mut ledger = Ledger::open(alloc, channel);
-        let status = hand_in(&mut ledger, blocks, &keys)?;
+        let status = hand_in(&mut ledger, blocks, &keys, progress)?;
         Ok(Committed { ledger, status })
     }
 
@@ -97,13 +113,14 @@ impl Committed {
 
 /// Reads the files, hands the blocks in, one by one, and writes what the ledger behind them answers.
 /// Returns what the process ends with. The memory is that of `run`.
-pub(crate) fn answer<'a, F: Files, Q: Question, W: Write>(
+pub(crate) fn answer<'a, F: Files, Q: Question, W: Write, P: Progress>(
     alloc: Global,
     files: &F,
     paths: &LedgerPaths<'a>,
     question: &Q,
     out: &mut W,
+    progress: &mut P,
 ) -> Result<u8, Fault<'a>> {
-    let committed = Committed::read(alloc, files, paths)?;
+    let committed = Committed::read(alloc, files, paths, progress)?;
     committed.write_answer(alloc, question, out)
 }

@@ -1,5 +1,6 @@
 use crate::fault::Fault;
 use crate::files::Files;
+use crate::progress::Progress;
 use crate::question::{Question, answer};
 use answer_lines::write_row;
 use command_words::{Scan, bytes_of, name_of};
@@ -84,12 +85,13 @@ fn rows_of<'a>(alloc: Global, words: &Scan<'a>) -> Result<RowsOf, Fault<'a>> {
 
 /// Reads the bounds and the files, hands the blocks in, and writes the rows as they are met. Beside
 /// what the blocks take, the memory is the bounds, a policy's text and a buffer of a fixed size.
-pub fn print_rows<'a, F: Files, W: Write>(
+pub fn print_rows<'a, F: Files, W: Write, P: Progress>(
     alloc: Global,
     files: &F,
     words: &Scan<'a>,
     out: &mut W,
+    progress: &mut P,
 ) -> Result<u8, Fault<'a>> {
     let question = rows_of(alloc, words)?;
-    answer(alloc, files, &words.paths, &question, out)
+    answer(alloc, files, &words.paths, &question, out, progress)
 }

@@ -5,7 +5,7 @@ use Rattle.command_line.proofs.Handing.{AreHandedBefore}
 use Rattle.command_line.proofs.committing.commit_each.Given as goal
 
 abbrev pub invariant-loop-alloc : goal.invariant-loop-alloc
-invariant-loop-alloc g l = AreHandedBefore (accepts l.keys) l.fn.committer l.fn.blocks.items (into_iter_items l.blocks) l.last l.committer
+invariant-loop-alloc g l = AreHandedBefore (accepts l.wanted.keys.now) l.wanted.hashes l.fn.committer (g.W.Write.contents l.fn.out) l.fn.blocks.items (into_iter_items l.blocks) l.before l.last l.committer (g.W.Write.contents l.out)
 
 abbrev pub decreases-loop-alloc : goal.decreases-loop-alloc
 decreases-loop-alloc g l = length (into_iter_items l.blocks)

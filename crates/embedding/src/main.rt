@@ -1,0 +1,177 @@
+//! A program of one's own over the committer: hands blocks in while two threads ask, asks what they left, and says why the last
+//! block's transactions have their flags. `docs/library.md` walks through it.
+#![tactic(auto)]
+
+ghost use Rattle.std.specs.Prelude.{◌≡◌, ◌==◌, length, All, IfOk};
+
+mod failed;
+
+use crate::failed::Failed;
+use answer_lines::{write_accepted, write_reason, write_row};
+use commit::{Channel, Committer, Ledger, QueryFault, QueryHandle};
+use gates::Open;
+use policy_eval::Verify;
+use std::alloc::Global;
+use std::fs::File;
+use std::io::{Read, Write};
+use std::process::ExitCode;
+use std::sync::Wait;
+use std::thread;
+use std::thread::Threads;
+use transaction::Identity;
+use values::{Bytes, KeyRef, NameRef};
+
+const CHANNEL: &str = "channel ch\nchaincode cc OR('Org1.peer','Org2.peer')\nadmin 'Org1.admin'\n";
+
+const BLOCKS: [&str; 4] = ["block0.blk", "block1.blk", "block2.blk", "block3.blk"];
+
+/// Takes every signature of 32 bytes. A real one looks up the identity's certificate, and checks ECDSA by its key.
+#[derive(Clone, Copy)]
+struct ByLength;
+
+impl Verify for ByLength {
+    ghost accepts = { λ _ _ _ signature. length signature == 32 };
+
+    fn verify(&self, _identity: &Identity<'_>, _message: &[u8], signature: &[u8]) -> bool {
+        signature.len() == 32
+    }
+}
+
+fn read_blocks<R: std::rt::Files>(rt: &R, alloc: Global) -> Result<Vec<Bytes>, Failed> {
+    let mut blocks = Vec::new(alloc);
+    for path in BLOCKS {
+        let mut bytes = Vec::new(alloc);
+        File::open(rt, path)?.read_to_end(&mut bytes)?;
+        blocks
+            .push(Bytes::from_vec(bytes))
+            .map_err(|_| Failed::Memory)?;
+    }
+    Ok(blocks)
+}
+
+/// What a thread does that only asks: each answer is of one height, none below the one before.
+fn ask(mut handle: QueryHandle) -> Result<u64, QueryFault> {
+    let mut height = 0;
+    for _ in 0..1_000 {
+        height = handle.height()?.answer;
+    }
+    Ok(height)
+}
+
+/// Hands the blocks in, and has the handle learn each receipt, so that it never answers from before.
+fn commit_each<R: Threads + Wait + Sync, W: Write>(
+    rt: &R,
+    committer: &mut Committer,
+    own: &mut QueryHandle,
+    blocks: &[Bytes],
+    out: &mut W,
+) -> Result<(), Failed>
+    requires { own.old.book ≡ committer.old.book }
+{
+    for block in blocks {
+        let receipt = committer.submit(rt, block.as_slice(), &ByLength, &Open)?;
+        own.learn(&receipt);
+        write_accepted(
+            out,
+            receipt.number,
+            &receipt.header_hash,
+            receipt.flags.as_slice(),
+        )?;
+    }
+    Ok(())
+}
+
+/// The same while each of the other handles is asked by a thread of its own.
+fn commit_while_asked<R: Threads + Wait + Sync, W: Write>(
+    rt: &R,
+    committer: &mut Committer,
+    own: &mut QueryHandle,
+    others: Vec<QueryHandle>,
+    blocks: &[Bytes],
+    out: &mut W,
+) -> Result<(), Failed>
+    requires { own.old.book ≡ committer.old.book }
+{
+    thread::scope(
+        thread::scope_env(),
+        rt,
+        |scope|
+            requires { own.now.book ≡ committer.now.book }
+        {
+            for handle in others {
+                scope
+                    .spawn(move || ask(handle))
+                    .map_err(|_| Failed::Memory)?;
+            }
+            commit_each(rt, committer, own, blocks, out)
+        },
+    )
+}
+
+fn write_car<W: Write>(alloc: Global, own: &mut QueryHandle, out: &mut W) -> Result<(), Failed> {
+    let key = KeyRef::new(b"car2");
+    if let Some(row) = own.get(&NameRef::new(b"cc"), &key)?.answer {
+        write_row(alloc, out, key.as_slice(), &row)?;
+    }
+    Ok(())
+}
+
+/// Why each transaction of the last block has its flag, by a ledger behind the blocks before it.
+fn explain_last<W: Write>(alloc: Global, blocks: &[Bytes], out: &mut W) -> Result<(), Failed> {
+    let mut ledger = Ledger::open(alloc, Channel::read(alloc, CHANNEL)?);
+    let Some((last, before)) = blocks.split_last() else {
+        return Ok(());
+    };
+    for block in before {
+        ledger.submit_one(block.as_slice(), &ByLength)?;
+    }
+    let reasons = ledger.explain(last.as_slice(), &ByLength)?;
+    for (place, reason) in reasons.as_slice().iter().enumerate() {
+        write_reason(alloc, out, before.len() as u64, place, reason)?;
+    }
+    Ok(())
+}
+
+/// The last handle stays with this thread, and each other one gets a thread.
+fn serve<R: Threads + Wait + Sync, W: Write>(
+    rt: &R,
+    alloc: Global,
+    committer: &mut Committer,
+    handles: Vec<QueryHandle>,
+    blocks: &[Bytes],
+    out: &mut W,
+) -> Result<(), Failed>
+    requires { All (λ handle. handle.book ≡ committer.old.book) handles.items }
+{
+    let mut others = handles;
+    let Some(mut own) = others.pop() else {
+        return Ok(());
+    };
+    commit_while_asked(rt, committer, &mut own, others, blocks, out)?;
+    write_car(alloc, &mut own, out)
+}
+
+fn embedded<R, W: Write>(rt: &R, out: &mut W) -> Result<(), Failed>
+where
+    R: AllocGlobal + Threads + Wait + Sync + std::rt::Files,
+{
+    let alloc = rt.alloc();
+    let blocks = read_blocks(rt, alloc)?;
+    let channel = Channel::read(alloc, CHANNEL)?;
+    let (mut committer, handles) = Committer::open(alloc, rt, channel, 2, 3)?;
+    let ended = serve(rt, alloc, &mut committer, handles, blocks.as_slice(), out);
+    committer.close(rt);
+    ended?;
+    explain_last(alloc, blocks.as_slice(), out)
+}
+
+fn main(rt: HostRuntime) -> ExitCode {
+    let (mut out, mut err) = (rt.stdout(), rt.stderr());
+    match embedded(&rt, &mut out) {
+        Ok(()) => ExitCode::SUCCESS,
+        Err(failed) => {
+            let _ = writeln!(err, "{failed}");
+            ExitCode::FAILURE
+        }
+    }
+}
