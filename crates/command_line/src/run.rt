@@ -159,5 +159,7 @@ pub(crate) fn run_blocks<
         progress,
     );
     committer.close(rt);
+    // Where want of memory ended it, the line is still there.
+    progress.clear();
     ended
 }

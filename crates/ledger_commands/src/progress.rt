@@ -60,11 +60,12 @@ impl<'a, C: Clock, W: Write> ProgressLine<'a, C, W> {
         }
     }
 
+    // Where no line is wanted the clock isn't looked at.
     fn is_due(&self) -> bool {
-        match (self.due, self.clock.monotonic()) {
-            (Some(due), Ok(now)) => due <= now,
-            _ => false,
-        }
+        let Some(due) = self.due else {
+            return false;
+        };
+        self.clock.monotonic().is_ok_and(|now| due <= now)
     }
 }
 

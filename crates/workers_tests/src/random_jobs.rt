@@ -6,7 +6,7 @@ use failing::Failed;
 use key_chains::Job;
 use random_numbers::Random;
 use rules::Flag;
-use std::alloc::{AllocError, Global};
+use std::alloc::{AllocError, AllocGlobal, Global};
 use std::sync::Wait;
 use std::thread::Threads;
 use trials::{Yielding, script};
@@ -27,7 +27,8 @@ const ROWS: [RowCase<'static>; 3] = [
     },
 ];
 
-const JOBS: u32 = 2_000;
+// Of each seed. A test for each keeps each well below the time that a test may take.
+const JOBS: u32 = 500;
 
 static WORKERS: [usize; 5] = [1, 2, 3, 8, 64];
 
@@ -69,7 +70,7 @@ impl Times {
     }
 
     fn are_all_often(&self) -> bool {
-        self.valid >= 200 && self.refused >= 200 && self.stale >= 200 && self.phantom >= 200
+        self.valid >= 50 && self.refused >= 50 && self.stale >= 50 && self.phantom >= 50
     }
 }
 
@@ -166,17 +167,40 @@ fn jobs_checked_through<R: Threads + Wait + Sync>(
 fn jobs_checked<R: Threads + Wait + Sync>(
     rt: &R,
     alloc: Global,
+    seed: u64,
     times: &mut Times,
 ) -> Result<u32, Failed> {
-    let mut random = Random::new(15);
-    let gate = Yielding::new(15);
+    let mut random = Random::new(seed);
+    let gate = Yielding::new(seed);
     jobs_checked_through(rt, alloc, &mut random, &gate, times)
 }
 
-#[test]
-fn any_number_of_workers(rt: HostRuntime) -> Result<(), Failed> {
+fn are_checked<R: AllocGlobal + Threads + Wait + Sync>(rt: &R, seed: u64) -> Result<bool, Failed> {
     let mut times = NONE;
-    assert!(rt; jobs_checked(&rt, rt.alloc(), &mut times)? == JOBS);
-    assert!(rt; times.are_all_often());
+    let checked = jobs_checked(rt, rt.alloc(), seed, &mut times)?;
+    Ok(checked == JOBS && times.are_all_often())
+}
+
+#[test]
+fn any_number_of_workers_by_seed_15(rt: HostRuntime) -> Result<(), Failed> {
+    assert!(rt; are_checked(&rt, 15)?);
+    Ok(())
+}
+
+#[test]
+fn any_number_of_workers_by_seed_16(rt: HostRuntime) -> Result<(), Failed> {
+    assert!(rt; are_checked(&rt, 16)?);
+    Ok(())
+}
+
+#[test]
+fn any_number_of_workers_by_seed_17(rt: HostRuntime) -> Result<(), Failed> {
+    assert!(rt; are_checked(&rt, 17)?);
+    Ok(())
+}
+
+#[test]
+fn any_number_of_workers_by_seed_18(rt: HostRuntime) -> Result<(), Failed> {
+    assert!(rt; are_checked(&rt, 18)?);
     Ok(())
 }

@@ -110,6 +110,11 @@ pub policy_differs : differing first_row (with_row empty (codes "k1") (row (code
 unfolding differing with_changes
 policy_differs = simp compared refl
 
+-- so does a value alone
+pub value_differs : differing first_row (with_row empty (codes "k1") (row (codes "v2") 0 (Some both_peers))) ≡ ((chaincode, codes "k1"), Some (row (codes "v2") 0 (Some both_peers))) ∷ []
+unfolding differing with_changes
+value_differs = simp compared refl
+
 -- so does a version: a valid write of the value that is there, and the removal of a policy that isn't there
 abbrev written_again : Job
 written_again = block_over (k ∷ []) (one (writing (put k ∷ [])) ∷ [])
