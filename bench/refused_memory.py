@@ -49,6 +49,7 @@ SUBJECTS = {
     "scan": ("command_line_tests", "memory.rt", "outcome_of_answer(&rt, SCAN)"),
     "history": ("command_line_tests", "memory.rt", "outcome_of_answer(&rt, HISTORY)"),
     "definition": ("command_line_tests", "memory.rt", "outcome_of_answer(&rt, DEFINITION)"),
+    "show": ("command_line_tests", "memory.rt", "outcome_of_answer(&rt, SHOW)"),
     "explain": ("command_line_tests", "memory.rt", "outcome_of_explain(&rt)"),
 }
 

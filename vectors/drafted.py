@@ -7,6 +7,7 @@ from committer import World
 from rust import rust_file, rust_string
 from sample import channel_of
 from scripts import accepts, drafted, keys_of
+from showing import shown
 
 CHANNEL = b"channel ch\nchaincode cc OR('Org1.peer','Org2.peer')\nadmin 'Org1.admin'\n"
 NAMES = ("first", "second", "third")
@@ -74,6 +75,15 @@ def of_both_versions(world):
     yield "explain c0 b1", 1, "refused 2 C8\n"
 
 
+def shows(keys):
+    """The scripts of these blocks, of one behind a block that it doesn't belong to, and of a file that has none."""
+    blocks = [octets for _, octets in worlds(keys)]
+    files = {"b0": blocks[0], "b1": blocks[1], "b2": blocks[2], "k": b"Org1"}
+    for names in (["b0"], ["b0", "b1", "b2"], ["b0", "b2"], ["b0", "k", "b1"]):
+        text, status = shown((b"ch", keys), [files[name] for name in names])
+        yield f"show {' '.join(names)}", status, text
+
+
 def rows(keys):
     """Words behind `--channel` and `--keys`, the status, and what goes to standard output."""
     name, definitions, _ = channel_of(CHANNEL)
@@ -108,6 +118,7 @@ def rows(keys):
         bounds = [bound.replace("%00", "\0").strip("%").encode() for bound in (start, end)]
         yield words, 0, answers.scan(world, b"cc", *bounds, limit)
     yield "definition --ns cc b0 b1", 0, answers.definition(world, b"cc")
+    yield from shows(keys)
     world, _ = next(states)
     yield "run b0 b1 b2", 0, "".join(answers.accepted(world, number) for number in range(3))
     yield "definition --ns cc b0 b1 b2", 0, answers.definition(world, b"cc")

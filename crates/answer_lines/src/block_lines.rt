@@ -2,6 +2,7 @@
 ghost use Rattle.std.specs.Prelude.{OnOk};
 ghost use Rattle.std.specs.List.{flat_map};
 ghost use Rattle.std.specs.Io.KnownBytes.{Appends};
+ghost use Rattle.hex.specs.Hex.{encode_lower};
 ghost use Rattle.answer_lines.specs.BlockLines as spec;
 
 use crate::refusal::Refusal;
@@ -11,15 +12,22 @@ use std::io;
 use std::io::Write;
 use values::Hash;
 
-// `NUMBER HASH`, HASH in lower case hexadecimal.
-fn write_number_and_hash<W: Write>(out: &mut W, number: u64, hash: &Hash) -> io::Result<()>
-    ensures { OnOk result (Appends (W.contents out.old) (W.contents out.new) (spec.number_and_hash number hash.now)) }
+/// Writes the hash in lower case hexadecimal. Takes no memory.
+pub fn write_hash<W: Write>(out: &mut W, hash: &Hash) -> io::Result<()>
+    ensures { OnOk result (Appends (W.contents out.old) (W.contents out.new) (encode_lower hash.now)) }
 {
     let mut digits = [0; 64];
     // Two digits a byte fill it, so there is no other answer.
     encode_to_slice(*hash, &mut digits).unwrap();
-    write!(out, "{number} ")?;
     out.write_all(&digits)
+}
+
+// `NUMBER HASH`, HASH in lower case hexadecimal.
+fn write_number_and_hash<W: Write>(out: &mut W, number: u64, hash: &Hash) -> io::Result<()>
+    ensures { OnOk result (Appends (W.contents out.old) (W.contents out.new) (spec.number_and_hash number hash.now)) }
+{
+    write!(out, "{number} ")?;
+    write_hash(out, hash)
 }
 
 fn write_flags<W: Write>(out: &mut W, flags: &[Flag]) -> io::Result<()>

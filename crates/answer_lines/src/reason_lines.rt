@@ -9,7 +9,7 @@ use std::alloc::{AllocError, Global};
 use std::io;
 use std::io::Write;
 use text_lines::Word;
-use transaction::{OwnedIdentity, Role, Version};
+use transaction::{Identity, OwnedIdentity, Role, Version};
 
 /// The name of a flag in `peer.TxValidationCode`.
 fn name_of(flag: Flag) -> &'static str {
@@ -86,11 +86,19 @@ fn write_range<W: Write>(out: &mut W, range: &QueriedRange, key: &[u8]) -> io::R
     write!(out, " {namespace} {start} {end} key {key}")
 }
 
+/// Writes `ORG:ROLE:LABEL`, LABEL as a word, as key books and scripts have it. Takes no memory.
+pub fn write_identity<W: Write>(out: &mut W, identity: &Identity<'_>) -> io::Result<()> {
+    let (org, label) = (
+        Word(identity.org.as_slice()),
+        Word(identity.label.as_slice()),
+    );
+    let role = role_name(identity.role);
+    write!(out, "{org}:{role}:{label}")
+}
+
 fn write_signer<W: Write>(out: &mut W, signer: &OwnedIdentity) -> io::Result<()> {
-    let signer = signer.lend();
-    let (org, label) = (Word(signer.org.as_slice()), Word(signer.label.as_slice()));
-    let role = role_name(signer.role);
-    write!(out, " {org}:{role}:{label}")
+    write!(out, " ")?;
+    write_identity(out, &signer.lend())
 }
 
 fn write_signers<W: Write>(out: &mut W, signers: &[OwnedIdentity]) -> io::Result<()> {

@@ -2,7 +2,7 @@ use crate::run::run_blocks;
 use command_words::Asked;
 use ledger_commands::{
     Fault, Files, Progress, draft_block, print_definition, print_history, print_reasons, print_row,
-    print_rows,
+    print_rows, print_scripts,
 };
 use std::io::Write;
 use std::sync::Wait;
@@ -28,6 +28,7 @@ pub(crate) fn perform<'a, R: AllocGlobal + Threads + Wait + Sync, F: Files, W: W
         Asked::Scan(words) => print_rows(alloc, files, words, out, progress),
         Asked::History(words) => print_history(alloc, files, words, out, progress),
         Asked::Definition(words) => print_definition(alloc, files, words, out, progress),
+        Asked::Show(words) => print_scripts(alloc, files, words, out, progress),
         Asked::Explain(words) => print_reasons(alloc, files, words, out, progress),
     }
 }

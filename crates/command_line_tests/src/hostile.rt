@@ -2,7 +2,7 @@
 
 use crate::files::{File, MemoryFiles};
 use crate::fixture::{
-    CHANNEL, FIRST_BLOCK, KEYS, Scene, is_answered, long_text, unlike_of, words_of,
+    CHANNEL, FIRST_BLOCK, KEYS, Scene, ended, is_answered, is_said, long_text, unlike_of, words_of,
 };
 use crate::full::{FAULT, Full, ends_into};
 use std::alloc::AllocError;
@@ -11,6 +11,14 @@ use std::thread::Threads;
 
 // What is said of the empty block 0, as it is explained.
 const BLOCK_0: &str = "block 0 9cae6f5c10756febc407bba95fc23853774c1f65f10354895bfdab6443d66ed3\n";
+
+// What it is shown as.
+const SHOWN_0: &str = "\
+# block 0 of version 1, transactions: 0
+# header hash 9cae6f5c10756febc407bba95fc23853774c1f65f10354895bfdab6443d66ed3
+# previous hash none
+# data hash e3b0c44298fc1c149afbf4c8996fb92427ae41e4649b934ca495991b7852b855, that of its transactions
+";
 
 // The empty block of the greatest number.
 const LAST_BLOCK: &[u8] = b"FBK1\xff\xff\xff\xff\xff\xff\xff\xff\0\
@@ -57,6 +65,8 @@ static SCENES: [Scene; 1] = [(
         ("explain no", 3, "", "cannot read no\n"),
         ("explain b0 no s", 3, "", "cannot read no\n"),
         ("explain --tx 9 b0 no", 3, "", "cannot read no\n"),
+        ("show no", 3, "", "cannot read no\n"),
+        ("show b0 no s", 3, "", "cannot read no\n"),
         ("draft no out", 3, "", "cannot read no\n"),
         ("draft --after no no2 out", 3, "", "cannot read no\n"),
         ("draft --after s no out", 3, "", "s not a block\n"),
@@ -80,6 +90,8 @@ static SCENES: [Scene; 1] = [(
         ("explain --tx 0 b0 s", 1, "refused 2 C1 B1\n", ""),
         ("explain --tx 0 b0", 2, "", "no transaction 0\n"),
         ("explain --tx 4095 s b0", 2, "", "no transaction 4095\n"),
+        ("show b0", 0, SHOWN_0, ""),
+        ("show s", 1, "# refused 1 C1 B1 at byte 0\n", ""),
         ("history --ns cc --key k", 0, "height 0\n", ""),
         (
             "definition --ns cc",
@@ -319,10 +331,11 @@ fn is_cut_off(
     Ok(are_cut(rt, &words, lines))
 }
 
-static CUT_OFF: [(&str, &str); 4] = [
+static CUT_OFF: [(&str, &str); 5] = [
     ("get --ns cc --key k b0", "height 1\nabsent\n"),
     ("scan --ns cc b0", "height 1\n"),
     ("explain b0", BLOCK_0),
+    ("show b0", SHOWN_0),
     ("history --ns cc --key k b0", "height 1\n"),
 ];
 
@@ -332,4 +345,20 @@ fn standard_output_that_fails(rt: HostRuntime) -> Result<(), AllocError> {
         assert!(rt; is_cut_off(&rt, words, lines)?, "{words:?}");
     }
     Ok(())
+}
+
+#[test]
+fn blocks_without_a_channel_and_keys(rt: HostRuntime) {
+    for words in [
+        ["--quiet", "b0"],
+        ["--channel=no", "b0"],
+        ["--keys=no", "b0"],
+    ] {
+        let ended = ended(
+            &rt,
+            &MemoryFiles(&FILES),
+            &["fabcommit", "show", words[0], words[1]],
+        );
+        assert!(rt; is_said(&ended, &("", 0, SHOWN_0, "")));
+    }
 }

@@ -98,7 +98,9 @@ const HISTORY: &str = "history --ns cc --key a%20%25 b0 b1";
 
 const DEFINITION: &str = "definition --ns cc b0 b1 b2";
 
-static ASKED: [&str; 5] = [RUN, GET, SCAN, HISTORY, DEFINITION];
+const SHOW: &str = "show b0 b1 b2";
+
+static ASKED: [&str; 6] = [RUN, GET, SCAN, HISTORY, DEFINITION, SHOW];
 
 pub(crate) fn outcome_of_explain(
     rt: &(impl AllocGlobal + Threads + Wait + Sync),

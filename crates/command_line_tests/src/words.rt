@@ -35,6 +35,10 @@ const DEFINITION: &str =
 const EXPLAIN: &str =
     "Usage: fabcommit explain [OPTIONS] --channel <FILE> --keys <FILE> <BLOCK>...\n";
 
+const SHOW: &str = "Usage: fabcommit show [OPTIONS] <BLOCK>...\n";
+
+const LEAST_SHOW: &str = "Usage: fabcommit show <BLOCK>...\n";
+
 // Words behind the program's name, and two texts that what is said of them has.
 type Row = (&'static [&'static str], &'static str, &'static str);
 
@@ -42,13 +46,14 @@ fn mistaken() -> &'static [Row] {
     &MISTAKES
 }
 
-static MISTAKES: [Row; 28] = [
+static MISTAKES: [Row; 29] = [
     (
         &[],
         "'fabcommit' requires a subcommand but one was not provided",
         COMMAND,
     ),
     (&["walk"], "unrecognized subcommand 'walk'", COMMAND),
+    (&["show"], "\n  <BLOCK>...\n", LEAST_SHOW),
     (
         &["run"],
         "the following required arguments were not provided:",
@@ -223,7 +228,7 @@ fn helped() -> &'static [Row] {
     &HELP
 }
 
-static HELP: [Row; 14] = [
+static HELP: [Row; 15] = [
     (
         &["--version"],
         "fabcommit 0.2.0, for blocks of versions 1 and 2\n",
@@ -250,6 +255,11 @@ static HELP: [Row; 14] = [
         DEFINITION,
     ),
     (&["help", "draft"], "update ", DRAFT),
+    (
+        &["help", "show"],
+        "\nExample, to change a block:\n  fabcommit show ",
+        SHOW,
+    ),
     (
         &["explain", "-h"],
         "\nExample:\n  fabcommit explain ",
@@ -333,6 +343,7 @@ fn subcommands() -> &'static [&'static str] {
         "history",
         "definition",
         "explain",
+        "show",
         "help",
     ]
 }

@@ -6,6 +6,7 @@ use crate::history::HISTORY;
 use crate::keyed::KeyedQuery;
 use crate::run::{RUN, Run};
 use crate::scan::{SCAN, Scan};
+use crate::show::{SHOW, Show};
 use clap::error::ErrorKind;
 use clap::{ArgMatches, Command, Error};
 use std::alloc::{AllocError, Global};
@@ -43,12 +44,22 @@ pub enum Asked<'a> {
     History(KeyedQuery<'a>),
     Definition(DefinitionQuery<'a>),
     Explain(Explain<'a>),
+    Show(Show<'a>),
 }
 
 // A function of its own, so that few exits own a command.
 fn with_subcommands<'a>(alloc: Global, command: Command<'a>) -> Result<Command<'a>, AllocError> {
     let mut command = command;
-    for subcommand in [&DRAFT, &RUN, &GET, &SCAN, &HISTORY, &DEFINITION, &EXPLAIN] {
+    for subcommand in [
+        &DRAFT,
+        &SHOW,
+        &RUN,
+        &GET,
+        &SCAN,
+        &HISTORY,
+        &DEFINITION,
+        &EXPLAIN,
+    ] {
         command = command.subcommand(subcommand.command(alloc)?)?;
     }
     Ok(command)
@@ -75,6 +86,7 @@ impl<'a> Asked<'a> {
     pub fn is_quiet(&self) -> bool {
         match self {
             Asked::Draft(_) => true,
+            Asked::Show(words) => words.quiet,
             Asked::Run(words) => words.paths.quiet,
             Asked::Get(words) | Asked::History(words) => words.paths.quiet,
             Asked::Scan(words) => words.paths.quiet,
@@ -129,6 +141,7 @@ impl<'a> Asked<'a> {
             "history" => KeyedQuery::from_matches(alloc, matches)?.map(Asked::History),
             "definition" => DefinitionQuery::from_matches(alloc, matches)?.map(Asked::Definition),
             "explain" => Explain::from_matches(alloc, matches)?.map(Asked::Explain),
+            "show" => Some(Asked::Show(Show::from_matches(alloc, matches)?)),
             _ => None,
         })
     }

@@ -15,4 +15,6 @@ mod memory;
 #[cfg(test)]
 mod reading;
 #[cfg(test)]
+mod shown;
+#[cfg(test)]
 mod updates;

@@ -23,9 +23,13 @@ MakesAll version keys channel [] (tx ∷ txs) = ⊥
 MakesAll version keys channel (item ∷ items) [] = ⊥
 MakesAll version keys channel (item ∷ items) (tx ∷ txs) = Makes version keys channel item tx × MakesAll version keys channel items txs
 
-pub record IsDrafted (keys : List Entry) (channel : List ℕ) (version : BlockVersion) (previous : Option Header) (text bytes : List ℕ) : Type 0 where
+-- what a whole script puts in the places of its block
+pub record AreMade (version : BlockVersion) (keys : List Entry) (channel text : List ℕ) (txs : List (List ℕ)) : Type 0 where
   -- no line is faulty
   pub whole : (script_of version keys text).fault ≡ None
-  pub txs : List (List ℕ)
   pub makes : MakesAll version keys channel (script_of version keys text).items txs
+
+pub record IsDrafted (keys : List Entry) (channel : List ℕ) (version : BlockVersion) (previous : Option Header) (text bytes : List ℕ) : Type 0 where
+  pub txs : List (List ℕ)
+  pub drafted : AreMade version keys channel text txs
   pub spelled : Spells bytes (block_after version previous txs)

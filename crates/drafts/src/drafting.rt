@@ -1,14 +1,16 @@
 //! From a script's text to the bytes of its block.
-ghost use Rattle.std.specs.Prelude.{◌≡◌, ◌+◌, ◌<◌, ◌^◌, ◌⊎◌, Ok, Err, IfOk, IfErr, IfSome};
+ghost use Rattle.std.specs.Prelude.{◌≡◌, ◌+◌, ◌<◌, ◌≤◌, ◌^◌, ◌⊎◌, length, Ok, Err, IfOk, IfErr, IfSome};
 ghost use Rattle.std.specs.List.{AllByRecursion};
 ghost use Rattle.values.specs.Memory.{GivesUnless};
 ghost use Rattle.transaction.specs.Items.{SpellsItem};
+ghost use Rattle.block.specs.Grammar.{IsTx};
+ghost use Rattle.block.specs.Limits.{max_txs};
 ghost use Rattle.transaction.specs.declared.block_version.BlockVersion.TheVariants.{V2};
 ghost use Rattle.scripts.specs.Within.{IsDraft, IsItem};
 ghost use Rattle.drafts.specs.declared.fault.DraftFault.TheVariants.{Memory};
 ghost use Rattle.drafts.specs.DraftBlock as spec;
 ghost use Rattle.drafts.specs.DraftItem.{drafted_item};
-ghost use Rattle.drafts.specs.Drafted.{Makes, MakesAll, IsDrafted};
+ghost use Rattle.drafts.specs.Drafted.{Makes, MakesAll, AreMade, IsDrafted};
 
 use crate::block_bytes::block_bytes;
 use crate::fault::DraftFault;
@@ -18,7 +20,7 @@ use key_book::KeyBook;
 use scripts::{Draft, Item, read};
 use std::alloc::Global;
 use transaction::EncodeFault;
-use values::{Bytes, Name};
+use values::{Bytes, Items, Name};
 
 fn draft_bytes(
     alloc: Global,
@@ -71,9 +73,9 @@ fn items_bytes(
     Ok(txs)
 }
 
-/// The bytes of the block of this version that a script drafts on a channel: behind the header of the block before, or block 0 where
-/// there is none. A drafted transaction or update gets its id, and the signatures of its endorsers and its creator by the
-/// book's keys; a raw one is taken as it is. [`scripts::read`] says how a script is read.
+/// What a script for a block of this version puts in its places on a channel, in order. A drafted transaction or update gets
+/// its id, and the signatures of its endorsers and its creator by the book's keys; a raw one is taken as it is.
+/// [`scripts::read`] says how a script is read, and [`draft`] makes the block.
 ///
 /// The fault is `Line` with the first faulty line, unless memory runs out before. A transaction that is too long, whole
 /// or in a part, is a fault of its `tx` line, and known once it has ended: a faulty line further on comes after it, one
@@ -81,6 +83,33 @@ fn items_bytes(
 ///
 /// Linear in the text and the block, and for each endorser in the body that it signs; the memory is linear in the text
 /// and the block.
+pub fn draft_txs(
+    alloc: Global,
+    channel: &Name,
+    keys: &KeyBook,
+    version: BlockVersion,
+    text: &str,
+) -> Result<Items<Bytes>, DraftFault>
+    // Exactly these, or the first faulty line.
+    ensures txs { GivesUnless Memory result (spec.txs_of version keys.now channel.now text.now) }
+    // One for each transaction and update that the script says, which its bytes spell.
+    ensures made { IfOk result (λ txs. AreMade version keys.now channel.now text.now txs) }
+    // As many as a block may have, each as long as it may be.
+    ensures count { IfOk result (λ txs. length txs ≤ max_txs) }
+    ensures each { IfOk result (λ txs. AllByRecursion IsTx txs) }
+{
+    let script = read(alloc, version, text, keys)?;
+    let txs = items_bytes(alloc, channel, keys, script.items.as_slice())?;
+    match script.fault {
+        Some(line) => Err(DraftFault::Line(line)),
+        None => Ok(Items::from_vec(txs)),
+    }
+}
+
+/// The block of this version that a script drafts on a channel, in bytes: behind the header of the block before, or block 0
+/// where there is none. [`draft_txs`] says what stands in it, and what the fault is.
+///
+/// As dear as that, and linear in the block.
 pub fn draft(
     alloc: Global,
     channel: &Name,
@@ -95,10 +124,6 @@ pub fn draft(
     // They spell the block that has the script's transactions and updates and stands behind the header.
     ensures block { IfOk result (λ bytes. IsDrafted keys.now channel.now version previous text.now bytes) }
 {
-    let script = read(alloc, version, text, keys)?;
-    let txs = items_bytes(alloc, channel, keys, script.items.as_slice())?;
-    match script.fault {
-        Some(line) => Err(DraftFault::Line(line)),
-        None => Ok(block_bytes(alloc, version, previous, txs.as_slice())?),
-    }
+    let txs = draft_txs(alloc, channel, keys, version, text)?;
+    Ok(block_bytes(alloc, version, previous, txs.as_slice())?)
 }

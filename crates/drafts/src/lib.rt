@@ -9,6 +9,6 @@ mod item_encoding;
 mod laws;
 mod signing;
 
-pub use drafting::draft;
+pub use drafting::{draft, draft_txs};
 pub use fault::DraftFault;
 pub use laws::drafts_are_authentic;

@@ -69,8 +69,8 @@ impl Configuration {
     }
 }
 
-// What the files of these paths hold, in their order.
-fn read_files<'a, F: Files>(
+/// What the files of these paths hold, in their order.
+pub(crate) fn read_files<'a, F: Files>(
     alloc: Global,
     files: &F,
     paths: &Vec<&'a str>,

@@ -14,6 +14,7 @@ mod inputs;
 mod progress;
 mod question;
 mod scan;
+mod show;
 mod status;
 
 pub use buffered::finish;
@@ -27,4 +28,5 @@ pub use history::print_history;
 pub use inputs::{Configuration, Inputs};
 pub use progress::{Progress, ProgressLine, Silent};
 pub use scan::print_rows;
+pub use show::print_scripts;
 pub use status::{ACCEPTED, REFUSED, USAGE};

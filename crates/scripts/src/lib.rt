@@ -15,7 +15,7 @@ mod so_far;
 
 pub use draft::{Content, Draft};
 pub use keyed::{OwnedKeyVersion, OwnedPolicyWrite, OwnedRead, OwnedWrite};
-pub use laws::limits_are_the_definitions;
+pub use laws::{limits_are_the_definitions, raw_lines_are_read};
 pub use namespace::{OwnedNsSet, OwnedRange};
 pub use namespaces::Namespaces;
 pub use script::{Item, Script, read};

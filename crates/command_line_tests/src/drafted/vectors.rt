@@ -75,7 +75,7 @@ pub(crate) fn answers() -> &'static [Row<'static>] {
     &ANSWERS
 }
 
-static ANSWERS: [Row<'static>; 39] = [
+static ANSWERS: [Row<'static>; 43] = [
     (
         "run b0",
         0,
@@ -256,6 +256,30 @@ static ANSWERS: [Row<'static>; 39] = [
         "definition --ns cc b0 b1",
         0,
         "height 2\ndefinition OR('Org1.peer','Org2.peer')\n",
+        "",
+    ),
+    (
+        "show b0",
+        0,
+        "# block 0 of version 1, transactions: 1\n# header hash 3cb144bec4df02fe7692bec3a61fd9854ab76719525cb5a05c503649c91e4ae3\n# previous hash none\n# data hash 16d2dd63536110a5d9f0a936fb6722e55ed673ff461f130c6551eccf1dd824f7, that of its transactions\n\n# 0 transaction, id 459475528dc038f899a89dddf066c78d533138cdcf2fd4efe1a99d8c9cadfaed\ntx Org1:client:c0 n0 cc\nns cc\nwrite k1 v1\npolicy k1 AND('Org1.peer','Org2.peer')\nendorse Org1:peer:p0\n",
+        "",
+    ),
+    (
+        "show b0 b1 b2",
+        0,
+        "# block 0 of version 1, transactions: 1\n# header hash 3cb144bec4df02fe7692bec3a61fd9854ab76719525cb5a05c503649c91e4ae3\n# previous hash none\n# data hash 16d2dd63536110a5d9f0a936fb6722e55ed673ff461f130c6551eccf1dd824f7, that of its transactions\n\n# 0 transaction, id 459475528dc038f899a89dddf066c78d533138cdcf2fd4efe1a99d8c9cadfaed\ntx Org1:client:c0 n0 cc\nns cc\nwrite k1 v1\npolicy k1 AND('Org1.peer','Org2.peer')\nendorse Org1:peer:p0\n\n# block 1 of version 1, transactions: 2\n# header hash 16bb8de34d5b806b6eaebe03554760ff5042823dc0a388688fe81a72e16addbc\n# previous hash 3cb144bec4df02fe7692bec3a61fd9854ab76719525cb5a05c503649c91e4ae3, that of the block before\n# data hash abcd93d3eaed6fc10568c9c58c34cc876a2c128c1e2bb2d1cadae8c74dbed296, that of its transactions\n\n# 0 transaction, id 4d941d69b676a61aff49cd6e78f11d3727d68eebad17b933dd85233f09067498\ntx Org1:client:c0 n1 cc\nns cc\nwrite a%20%25 deleted\nwrite b %\nwrite k3 del%FF\nendorse Org2:peer:p0\n\n# 1 transaction, id b76915c274f990013592df05fee17b746f061366372c51ee83dc9d555cca5389\ntx Org1:client:c0 n2 cc\nns cc\ndelete a%20%25\nnopolicy b\nendorse Org2:peer:p0\n\n# block 2 of version 2, transactions: 1\n# header hash e1cd3e60e400f3e75313f0f525939bd55253cf7b0048a236745f9dc785269d1f\n# previous hash 16bb8de34d5b806b6eaebe03554760ff5042823dc0a388688fe81a72e16addbc, that of the block before\n# data hash d05048d13aca1b38ffa69f3cc48069de9e5e7e709247220f0671f4f46d5acf1c, that of its transactions\n\n# 0 update, id df9ae39a69c858c1a7bd54294d1c59f242892a6ba276255f2d18b918f5f6da6f\nupdate Org1:client:c0 n3 cc AND('Org1.peer', 'Org1.admin')\nendorse Org1:admin:a0\n",
+        "",
+    ),
+    (
+        "show b0 b2",
+        0,
+        "# block 0 of version 1, transactions: 1\n# header hash 3cb144bec4df02fe7692bec3a61fd9854ab76719525cb5a05c503649c91e4ae3\n# previous hash none\n# data hash 16d2dd63536110a5d9f0a936fb6722e55ed673ff461f130c6551eccf1dd824f7, that of its transactions\n\n# 0 transaction, id 459475528dc038f899a89dddf066c78d533138cdcf2fd4efe1a99d8c9cadfaed\ntx Org1:client:c0 n0 cc\nns cc\nwrite k1 v1\npolicy k1 AND('Org1.peer','Org2.peer')\nendorse Org1:peer:p0\n\n# block 2 of version 2, transactions: 1\n# header hash e1cd3e60e400f3e75313f0f525939bd55253cf7b0048a236745f9dc785269d1f\n# previous hash 16bb8de34d5b806b6eaebe03554760ff5042823dc0a388688fe81a72e16addbc, but the block before has 3cb144bec4df02fe7692bec3a61fd9854ab76719525cb5a05c503649c91e4ae3\n# data hash d05048d13aca1b38ffa69f3cc48069de9e5e7e709247220f0671f4f46d5acf1c, that of its transactions\n\n# 0 update, id df9ae39a69c858c1a7bd54294d1c59f242892a6ba276255f2d18b918f5f6da6f\nupdate Org1:client:c0 n3 cc AND('Org1.peer', 'Org1.admin')\nendorse Org1:admin:a0\n",
+        "",
+    ),
+    (
+        "show b0 k b1",
+        1,
+        "# block 0 of version 1, transactions: 1\n# header hash 3cb144bec4df02fe7692bec3a61fd9854ab76719525cb5a05c503649c91e4ae3\n# previous hash none\n# data hash 16d2dd63536110a5d9f0a936fb6722e55ed673ff461f130c6551eccf1dd824f7, that of its transactions\n\n# 0 transaction, id 459475528dc038f899a89dddf066c78d533138cdcf2fd4efe1a99d8c9cadfaed\ntx Org1:client:c0 n0 cc\nns cc\nwrite k1 v1\npolicy k1 AND('Org1.peer','Org2.peer')\nendorse Org1:peer:p0\n\n# refused 2 C1 B1 at byte 0\n\n# block 1 of version 1, transactions: 2\n# header hash 16bb8de34d5b806b6eaebe03554760ff5042823dc0a388688fe81a72e16addbc\n# previous hash 3cb144bec4df02fe7692bec3a61fd9854ab76719525cb5a05c503649c91e4ae3\n# data hash abcd93d3eaed6fc10568c9c58c34cc876a2c128c1e2bb2d1cadae8c74dbed296, that of its transactions\n\n# 0 transaction, id 4d941d69b676a61aff49cd6e78f11d3727d68eebad17b933dd85233f09067498\ntx Org1:client:c0 n1 cc\nns cc\nwrite a%20%25 deleted\nwrite b %\nwrite k3 del%FF\nendorse Org2:peer:p0\n\n# 1 transaction, id b76915c274f990013592df05fee17b746f061366372c51ee83dc9d555cca5389\ntx Org1:client:c0 n2 cc\nns cc\ndelete a%20%25\nnopolicy b\nendorse Org2:peer:p0\n",
         "",
     ),
     (

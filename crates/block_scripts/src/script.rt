@@ -1,0 +1,113 @@
+//! The script of a whole block.
+ghost use Rattle.std.specs.Prelude.{◌≡◌, ◌≤◌, ℕ, List, [], length, true, Ok, IfOk};
+ghost use Rattle.std.specs.List.{AllByRecursion};
+ghost use Rattle.block.specs.Grammar.{IsTx};
+ghost use Rattle.block.specs.Limits.{max_txs};
+ghost use Rattle.key_book.specs.Entry.{Entry};
+ghost use Rattle.drafts.specs.DraftBlock.{txs_of};
+ghost use Rattle.block_scripts.specs.Shown.{Shows};
+
+use crate::block_comments::write_block_comments;
+use crate::place::write_place;
+use crate::raw_lines::raw_lines;
+use crate::saying::says;
+use crate::signing::Signing;
+use answer_lines::LineFault;
+use block::{Block, Header};
+use key_book::KeyBook;
+use std::alloc::{AllocError, Global};
+use values::{Bytes, Name};
+
+// What is written into memory lacks nothing but memory.
+fn memory(_fault: LineFault) -> AllocError {
+    AllocError
+}
+
+// Lines for each place, with comments.
+fn lines_of(
+    alloc: Global,
+    signing: Option<&Signing<'_>>,
+    before: Option<&Header>,
+    block: &Block<'_>,
+) -> Result<Bytes, LineFault> {
+    let mut lines = Vec::new(alloc);
+    write_block_comments(&mut lines, before, block)?;
+    for (place, tx) in block.txs.as_slice().iter().enumerate() {
+        let bytes = tx.as_slice();
+        write_place(alloc, &mut lines, signing, block.version, place, bytes)?;
+    }
+    Ok(Bytes::from_vec(lines))
+}
+
+/// The script that a block is shown as: drafted again on this channel by these keys, it gives the block's transactions to the
+/// byte. `before` is the header of the block before it, where that is known, and is spoken of in comments alone.
+///
+/// A transaction or an update is said by lines where drafting these gives its bytes. Else a `raw` line has its bytes, and comments
+/// above it tell what can be read of it, and what keeps lines from saying it: another channel, an id that isn't its own, signatures
+/// that the book doesn't give, a policy's text that isn't of printable ASCII alone. Above each stands its place and id, and above
+/// all the block's number, version and hashes, and whether these are right. All is printable ASCII.
+///
+/// That the text says the block is looked at before it is answered, by drafting it; if it didn't, `raw` lines without comments would
+/// take its place, so that there is always an answer.
+///
+/// Each transaction is drafted twice, once alone and once with the others: linear in the block, and for each endorser in the body
+/// that it signs. The memory is linear in the block.
+pub fn block_script(
+    alloc: Global,
+    channel: &Name,
+    keys: &KeyBook,
+    before: Option<&Header>,
+    block: &Block<'_>,
+) -> Result<Bytes, AllocError>
+    // As of each block that is spelled.
+    requires count { length block.now.txs ≤ max_txs }
+    requires each { AllByRecursion IsTx block.now.txs }
+    ensures { IfOk result (λ text. Shows keys.now channel.now block.now.version block.now.txs text) }
+{
+    let signing = Signing { channel, keys };
+    let lines = lines_of(alloc, Some(&signing), before, block).map_err(memory)?;
+    let txs = block.txs.as_slice();
+    if says(alloc, &signing, block.version, lines.as_slice(), txs)? {
+        return Ok(lines);
+    }
+    Ok(raw_lines(alloc, txs)?)
+}
+
+// An empty text has no faulty line.
+fn no_keys(alloc: Global) -> Result<KeyBook, AllocError>
+    ensures { IfOk result (λ keys. keys ≡ []) }
+{
+    KeyBook::read(alloc, "").map_err(|_| AllocError)
+}
+
+// Whether lines in which nothing is signed say the block: then they do so on each channel and by all keys.
+fn is_said_by_any(alloc: Global, block: &Block<'_>, lines: &Bytes) -> Result<bool, AllocError>
+    ensures { IfOk result (λ said. said ≡ true → (keys : List Entry) (channel : List ℕ) → txs_of block.now.version keys channel lines.now ≡ Ok block.now.txs) }
+{
+    let channel = Name::from_slice(alloc, b"-")?;
+    let keys = no_keys(alloc)?;
+    let signing = Signing {
+        channel: &channel,
+        keys: &keys,
+    };
+    let txs = block.txs.as_slice();
+    Ok(says(alloc, &signing, block.version, lines.as_slice(), txs)?)
+}
+
+/// The same where no channel and no keys are known: each transaction by a `raw` line, with comments of what can be read of it.
+/// Drafted again on any channel by any keys, it gives the block's transactions to the byte.
+pub fn raw_script(
+    alloc: Global,
+    before: Option<&Header>,
+    block: &Block<'_>,
+) -> Result<Bytes, AllocError>
+    requires count { length block.now.txs ≤ max_txs }
+    requires each { AllByRecursion IsTx block.now.txs }
+    ensures { IfOk result (λ text. (keys : List Entry) (channel : List ℕ) → Shows keys channel block.now.version block.now.txs text) }
+{
+    let lines = lines_of(alloc, None, before, block).map_err(memory)?;
+    if is_said_by_any(alloc, block, &lines)? {
+        return Ok(lines);
+    }
+    Ok(raw_lines(alloc, block.txs.as_slice())?)
+}
