@@ -36,8 +36,9 @@ fn first_free(principal: &Principal, signers: &[Identity<'_>], used: &[bool]) ->
         .position(|(signer, used)| !*used && satisfies(principal, signer))
 }
 
-/// Marks the first free signer that satisfies the principal, and gives its place.
-pub(crate) fn take_signer(
+/// Marks the first signer that satisfies the principal of those without a mark, and gives its place; none where there is none. The
+/// marks stand at the signers' places. At most one comparison for each signer.
+pub fn take_signer(
     principal: &Principal,
     signers: &[Identity<'_>],
     used: &mut [bool],

@@ -12,7 +12,7 @@ mod signing;
 mod verify;
 
 pub use assigning::assignment;
-pub use evaluation::satisfied;
+pub use evaluation::{satisfied, take_signer};
 pub use laws::{
     each_signer_once, each_update_signer_once, flat_gates_are_monotone, one_evaluation,
 };
