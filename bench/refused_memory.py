@@ -51,6 +51,7 @@ SUBJECTS = {
     "definition": ("command_line_tests", "memory.rt", "outcome_of_answer(&rt, DEFINITION)"),
     "show": ("command_line_tests", "memory.rt", "outcome_of_answer(&rt, SHOW)"),
     "explain": ("command_line_tests", "memory.rt", "outcome_of_explain(&rt)"),
+    "explain by id": ("command_line_tests", "memory.rt", "outcome_of_id(&rt)"),
 }
 
 # The allocation of a process that is refused. No subject makes so many.

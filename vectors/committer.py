@@ -118,12 +118,6 @@ def signers_of(tx, accepts):
     return signers
 
 
-def lacking_admin(update, world):
-    """What the signers of an update don't satisfy, with them."""
-    signers = signers_of(update, world.accepts)
-    return None if satisfied(world.admin, signers) else (canonical(world.admin), [known_as(signer) for signer in signers])
-
-
 def fault_of_update(update, is_alone, world):
     """The first of what keeps an update with an id of its own from being valid, by kind and with what belongs to it."""
     if not is_alone:
@@ -134,8 +128,7 @@ def fault_of_update(update, is_alone, world):
         return "undefined", word(update.namespace)
     if not is_policy(update.policy):
         return "policy", policy_fault(update.policy)
-    lacking = lacking_admin(update, world)
-    return lacking and ("admin", lacking[0], *lacking[1])
+    return None if satisfied(world.admin, signers_of(update, world.accepts)) else ("admin",)
 
 
 class BlockRun:

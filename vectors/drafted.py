@@ -4,7 +4,7 @@ from functools import partial
 
 import answers
 from committer import World
-from rust import rust_file, rust_string
+from rust import rust_file, rust_string, rust_tuples
 from sample import channel_of
 from scripts import accepts, drafted, keys_of
 from showing import shown
@@ -138,12 +138,7 @@ def rust_drafted(keys_text):
     yield "/// Words behind those of the channel and the keys."
     yield "pub(crate) fn answers() -> &'static [Row<'static>] {\n    &ANSWERS\n}\n"
     yield f"static ANSWERS: [Row<'static>; {len(table)}] = ["
-    for words, status, out in table:
-        parts = [f'"{words}"', str(status), '"{}"'.format(out.replace("\n", "\\n")), '""']
-        if len(", ".join(parts)) <= 60:
-            yield f"    ({', '.join(parts)}),"
-        else:
-            yield "    (\n" + "".join(f"        {part},\n" for part in parts) + "    ),"
+    yield from rust_tuples([f'"{words}"', str(status), '"{}"'.format(out.replace("\n", "\\n")), '""'] for words, status, out in table)
     yield "];"
 
 

@@ -19,6 +19,8 @@ write a v
 write c v
 write k v
 policy k AND('Org1.peer','Org2.peer')
+write m v
+policy m AND('Org1.member',OR('Org2.admin','Org1.peer'))
 endorse Org1:peer:p0
 """
 EACH_KIND = """\
@@ -44,6 +46,7 @@ tx Org1:client:c0 n5 cc
 ns cc
 write k v
 endorse Org1:peer:p0
+raw {lacking}
 tx Org1:client:c0 n6 cc
 ns cc
 write c v
@@ -81,8 +84,8 @@ tx Org1:client:c0 n15 zz
 """
 # Flags, with the first words of reasons of that flag.
 KINDS = """\
-2, 4, 8 wanted, 14 channel, 0, 9 used, 9 used, 0, 10 touched, 10 key, 10 chaincode, 10 named, 11 read, 12 range, \
-22 repeated, 22 repeated, 22 fallen, 22 outside, 22 policy, 25 undefined"""
+2, 4 creator, 8 wanted, 14 channel, 0, 9 used, 9 used, 0, 10 touched, 10 key, 10 key, 10 chaincode, 10 named, 11 read, \
+12 range, 22 repeated, 22 repeated, 22 fallen, 22 outside, 22 policy, 25 undefined"""
 
 
 def each_kind():
@@ -92,10 +95,12 @@ def each_kind():
     world = World(b"ch", definitions, partial(accepts, keys))
     first = drafted(b"ch", keys, None, FIRST.encode())
     world.submit(first)
-    second = drafted(b"ch", keys, first, EACH_KIND.format(**sample.raws(signing)).encode())
-    lines = [line.split() for line in list(explained(world, second))[1:]]
+    lacking = sample.raw(signing, b"n26", key=b"m", endorsers=("Org1:peer:p0", "Org2:peer:p0!", "Org1:client:c0"))
+    second = drafted(b"ch", keys, first, EACH_KIND.format(**sample.raws(signing), lacking=lacking).encode())
+    lines = [line.split() for line in explained(world, second)[1:]]
     kinds = [" ".join([words[1], *words[3:4]]) for words in lines]
     assert kinds == KINDS.split(", "), kinds
+    assert {"refused", "missing", "order"} <= {*lines[10]}, lines[10]
     return first, second, [int(words[1]) for words in lines]
 
 

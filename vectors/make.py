@@ -12,6 +12,7 @@ sys.dont_write_bytecode = True
 
 import chain
 import drafted
+import each_word
 import explained
 import headers
 import sample
@@ -22,6 +23,7 @@ import told
 CRATES = pathlib.Path(__file__).resolve().parent.parent / "crates"
 CHAIN = CRATES / "chain_vectors/src"
 DRAFTED = CRATES / "command_line_tests/src/drafted"
+EACH_WORD = CRATES / "command_line_tests/src/explained/each_word"
 EXPLAINED = CRATES / "command_line_tests/src/explained"
 EXPLAINED_MEMORY = CRATES / "ledger_tests/src/explained_memory"
 HEADERS = CRATES / "bytes_tests/src/header_hashes"
@@ -37,6 +39,7 @@ def files():
     for folder, made in (
         (CHAIN, chain.files()),
         (DRAFTED, drafted.files(keys.encode())),
+        (EACH_WORD, each_word.files()),
         (EXPLAINED, explained.program_files(SAMPLE / "data")),
         (EXPLAINED_MEMORY, explained.ledger_files()),
         (HEADERS, headers.files()),

@@ -147,3 +147,26 @@ def evaluate(policy, signers, used):
 
 def satisfied(policy, signers):
     return evaluate(policy, signers, frozenset())[0]
+
+
+def missing(policy, signers, used=frozenset()):
+    """The first principal that these signers, but those that are used, leave without one: they don't satisfy the policy."""
+    if policy[0] == "principal":
+        return policy
+    for member in policy[2]:
+        holds, after = evaluate(member, signers, used)
+        if not holds:
+            return missing(member, signers, used)
+        used = after
+
+
+def is_of_any_role(policy):
+    return policy[0] == "principal" and policy[2] == "member"
+
+
+def any_role_last(policy):
+    """The policy in which each gate has its principals of any role behind its other members."""
+    if policy[0] == "principal":
+        return policy
+    _, threshold, members = policy
+    return ("gate", threshold, sorted(map(any_role_last, members), key=is_of_any_role))

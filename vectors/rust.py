@@ -56,5 +56,14 @@ def rust_table(name, item, rows):
     yield "];"
 
 
+def rust_tuples(rows):
+    """Rows of a table whose parts are spelled."""
+    for parts in rows:
+        if len(", ".join(parts)) <= 60:
+            yield f"    ({', '.join(parts)}),"
+        else:
+            yield "    (\n" + "".join(f"        {part},\n" for part in parts) + "    ),"
+
+
 def rust_file(lines):
     return "\n".join(lines).rstrip() + "\n"

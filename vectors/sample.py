@@ -103,13 +103,13 @@ LINES = """\
 block 6 {hash}
 0 0 VALID
 1 2 BAD_PAYLOAD
-2 4 BAD_CREATOR_SIGNATURE
+2 4 BAD_CREATOR_SIGNATURE creator Org1:client:c0
 3 6 INVALID_CONFIG_TRANSACTION not-alone
 4 8 BAD_PROPOSAL_TXID wanted {id}
-5 9 DUPLICATE_TXID used 0 0
-6 10 ENDORSEMENT_POLICY_FAILURE key cc car2 AND('Org1.peer','Org2.peer') Org1:peer:p0
+5 9 DUPLICATE_TXID used 0 0 0 VALID
+6 10 ENDORSEMENT_POLICY_FAILURE key cc car2 AND('Org1.peer','Org2.peer') Org1:peer:p0 missing Org2.peer
 7 11 MVCC_READ_CONFLICT read cc car5 was absent is 6 0 by 0
-8 12 PHANTOM_READ_CONFLICT range cc car1 car9 key car5 was absent is 6 0
+8 12 PHANTOM_READ_CONFLICT range cc car1 car9 key car5 was absent is 6 0 all by 0
 9 14 TARGET_CHAIN_NOT_FOUND channel other
 10 22 BAD_RWSET repeated cc reads car2
 11 25 INVALID_CHAINCODE undefined parts
@@ -131,12 +131,13 @@ def channel_of(text):
     return name, definitions, admin
 
 
-def raw(keys, nonce, channel=b"ch", id_of=None, signer=CLIENT):
-    """The bytes of a transaction, in hexadecimal digits."""
+def raw(keys, nonce, channel=b"ch", id=None, signer=CLIENT, key=b"car6", endorsers=(PEER,)):
+    """The bytes of a transaction, in hexadecimal digits. The signature of an endorser with `!` behind it is bad."""
     creator = identity(CLIENT)
-    sets = [Namespace(b"cc", writes=[(b"car6", b"grey")])]
-    tx = Tx(channel, tx_id(id_of or nonce, creator), creator, nonce, b"cc", sets, [])
-    keys.endorse(tx, [PEER])
+    sets = [Namespace(b"cc", writes=[(key, b"grey")])]
+    tx = Tx(channel, id or tx_id(nonce, creator), creator, nonce, b"cc", sets, [])
+    keys.endorse(tx, [who.rstrip("!") for who in endorsers])
+    tx.endorsements = [(who, b"" if name.endswith("!") else signed) for name, (who, signed) in zip(endorsers, tx.endorsements)]
     keys.sign_whole(tx, signer)
     return spelled_tx(tx).hex()
 
@@ -145,7 +146,7 @@ def raws(keys):
     """One whose signature is bad, one with another id, and one for another channel."""
     return {
         "signature": raw(keys, b"n18", signer=ADMIN),
-        "id": raw(keys, b"n20", id_of=b"n21"),
+        "id": raw(keys, b"n20", id=tx_id(b"n21", identity(CLIENT))),
         "channel": raw(keys, b"n25", channel=b"other"),
     }
 

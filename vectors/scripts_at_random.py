@@ -4,14 +4,16 @@
 `python3 vectors/scripts_at_random.py [PROGRAM [COUNT [SEED]]]` makes at least COUNT scripts (1000) from SEED (1), in
 chains of up to five blocks. Each is drafted by PROGRAM (`./fabcommit`): a good one has to give the block that
 `scripts.py` gives, a faulty one the line that it names, with OUT left as it was. Each block is explained, in the lines of
-`explaining.py`, and each chain then handed to `run`, `get`, `history`, `scan` and `definition`, whose lines have to be those of
-`committer.py`. Blocks are of both versions, those of version 2 with updates that are valid, or aren't for each of the causes;
-half of the channels have an admin policy. For every chain there are lists too in which old, cut and otherwise spoiled
-blocks stand between the good ones, and these are run by 1, 2 and 5 workers and asked by `get`. It ends with figures: how many
-scripts, calls, flags, refusals, outcomes of updates, and faults of each kind there were. It goes on until each of them came, and
-fails where anything differs.
+`explaining.py`, at times with ids, or by an id that it has, that a block before has used, or that none has. Each chain is then handed
+to `run`, `get`, `history`, `scan` and `definition`, whose lines have to be those of `committer.py`. Blocks are of both versions, those
+of version 2 with updates that are valid, or aren't for each of the causes; half of the channels have an admin policy. Some blocks are
+drafted of raw lines alone, in which signatures, ids and channels are changed. For every chain there are lists too in which old, cut
+and otherwise spoiled blocks stand between the good ones, and these are run by 1, 2 and 5 workers and asked by `get`. It ends with
+figures: how many scripts, calls, flags, refusals, outcomes of updates, words of reasons, answers to ids, and faults of each kind there
+were. It goes on until each of them came, and fails where anything differs.
 """
 
+import hmac
 import pathlib
 import random
 import subprocess
@@ -24,8 +26,8 @@ sys.dont_write_bytecode = True
 
 import answers
 from committer import World, is_inside
-from encoding import Refused, data_hash, read_block, spelled_block
-from explaining import explained
+from encoding import Refused, data_hash, read_block, spelled_block, spelled_signed, spelled_tx, version_of_block
+from explaining import explained, explained_of, item_of
 from policies import read_policy
 from scripts import LONGEST, Faulty, accepts, drafted, keys_of, txs_of, word_bytes
 from words import word
@@ -37,8 +39,9 @@ CHANNEL = {
     "both": "AND('Org1.peer','Org2.peer')",
     "any": "OR('Org1.member','Org2.member')",
     "two.of-3_": "OutOf(2,'Org1.peer','Org2.peer','Org1.admin')",
+    "first-any": "OutOf(2,'Org1.member',AND('Org2.member','Org2.peer'),'Org1.admin')",
 }
-ADMIN = "OR('Org1.admin',AND('Org1.peer','Org2.admin'))"
+ADMIN = "OR('Org1.admin',AND('Org2.member','Org2.admin'))"
 SIGNERS = [f"{org}:{role}:{label}" for org in ORGS for role, label in (("peer", "p0"), ("peer", "p%251"), ("client", "c"), ("admin", "%"))]
 STRANGER = "Org3:peer:p0"
 # Words and the same bytes spelled otherwise; the last is the longest key.
@@ -74,6 +77,9 @@ def range_lines(pick, world, name):
         pick.shuffle(rows)
     if rows and pick.random() < 0.4:
         rows.pop(pick.randrange(len(rows)))
+    if pick.random() < 0.2:
+        rows += [(word_bytes(pick.choice(KEYS)), pick.choice(versions(world))) for _ in range(pick.randrange(1, 4))]
+        rows = pick.choice([rows, sorted(rows)])
     for key, version in rows:
         yield "result {} {} {}".format(word(key), *version)
 
@@ -81,7 +87,7 @@ def range_lines(pick, world, name):
 def entry_lines(pick, world, name):
     roll = pick.random()
     key = pick.choice(KEYS)
-    if roll < 0.3:
+    if roll < 0.25:
         yield read_line(pick, world, name)
     elif roll < 0.4:
         yield from range_lines(pick, world, name)
@@ -95,16 +101,15 @@ def entry_lines(pick, world, name):
         yield f"nopolicy {key}"
 
 
-def next_nonce(pick, nonces):
-    """One of its own, or at times one that came before."""
-    nonces.append(pick.choice(nonces) if nonces and pick.random() < 0.08 else f"n{len(nonces)}%00")
-    return nonces[-1]
+def creator_and_nonce(pick, before):
+    """A nonce of its own, or at times both as they came before."""
+    before.append(pick.choice(before) if before and pick.random() < 0.04 else f"{pick.choice(SIGNERS)} n{len(before)}%00")
+    return before[-1]
 
 
 def tx_lines(pick, world, nonces):
-    nonce = next_nonce(pick, nonces)
     named = pick.choice(["cc"] * 5 + [*CHANNEL, "undefined"])
-    yield f"tx {pick.choice(SIGNERS)} {nonce} {named}"
+    yield f"tx {creator_and_nonce(pick, nonces)} {named}"
     spaces = pick.sample([*CHANNEL, "undefined"], pick.choice([0, 1, 1, 2])) if pick.random() < 0.5 else [named]
     if pick.random() < 0.05:
         spaces = spaces * 2
@@ -116,9 +121,20 @@ def tx_lines(pick, world, nonces):
         yield f"endorse {signer}"
 
 
+def asking_lines(pick, world, nonces):
+    """One that all endorse and that reads all of a namespace, where another of the block may write."""
+    yield f"tx {creator_and_nonce(pick, nonces)} cc"
+    yield "ns cc"
+    yield f"range % % {pick.choice(['all', 'part'])}"
+    for key, row in sorted(world.state.items()):
+        if key[0] == b"cc":
+            yield "result {} {} {}".format(word(key[1]), *row[1])
+    yield from (f"endorse {signer}" for signer in SIGNERS)
+
+
 def update_lines(pick, nonces):
     name = pick.choice([*CHANNEL] * 3 + ["undefined"])
-    yield f"update {pick.choice(SIGNERS)} {next_nonce(pick, nonces)} {name}  {pick.choice(POLICIES)}"
+    yield f"update {creator_and_nonce(pick, nonces)} {name}  {pick.choice(POLICIES)}"
     admins = [signer for signer in SIGNERS if signer.startswith("Org1:admin")]
     for signer in admins if pick.random() < 0.6 else pick.sample(SIGNERS, pick.randrange(4)):
         yield f"endorse {signer}"
@@ -140,9 +156,37 @@ def good_lines(pick, world, nonces):
     for _ in range(pick.randrange(7)):
         if pick.random() < 0.06:
             yield f"raw {pick.randbytes(pick.randrange(40)).hex()}".strip()
-        yield from tx_lines(pick, world, nonces)
+        yield from pick.choice([*[tx_lines] * 9, asking_lines])(pick, world, nonces)
         if pick.random() < 0.3:
             yield pick.choice(["", "# a comment", "   # an indented one", "    "])
+
+
+def ids_of(octets):
+    """Those of a block."""
+    items = [item_of(version_of_block(octets), tx) for tx in read_block(octets)[3]]
+    return [item.id for item in items if item]
+
+
+def changed(pick, keys, version, octets):
+    """The bytes with another channel, id or signature, or with some endorsers' signatures bad, or bad and good."""
+    item, what = item_of(version, octets), pick.choice(["channel", "id", "signature", *["endorsements"] * 5])
+    if item is None:
+        return octets
+    if what == "channel":
+        item.channel = b"other"
+    elif what == "id":
+        item.id = pick.randbytes(64)
+    elif what == "endorsements":
+        given = [(who, pick.choice([[signed], [b""], [b"", signed]])) for who, signed in item.endorsements]
+        item.endorsements = [(who, signature) for who, signatures in given for signature in signatures]
+    item.signature = b"" if what == "signature" else hmac.digest(keys[item.creator], spelled_signed(item), "sha256")
+    return spelled_tx(item)
+
+
+def raw_lines(pick, keys, version, script):
+    """The script's transactions and updates by their bytes, half of them changed."""
+    for octets in txs_of(b"ch", keys, script, version):
+        yield f"raw {pick.choice([octets, changed(pick, keys, version, octets)]).hex()}".strip()
 
 
 OPEN, SPACE, UPDATE = "tx Org1:peer:p0 n cc", "ns cc", "update Org1:peer:p0 n cc x"
@@ -211,7 +255,16 @@ FAULTS = {
 }
 # Those of scripts of version 2; the others are of version 1.
 SECOND = {kind for kind in FAULTS if "update" in kind} - {"update in version 1"}
-FLAGS = {0, 2, 6, 9, 10, 11, 12, 22, 25}
+FLAGS = {0, 2, 4, 6, 8, 9, 10, 11, 12, 14, 22, 25}
+# Words of reasons, with the flag that they stand behind, and how many transactions an id asks for, or whether one before.
+WORDS = {
+    6: ["admin", "refused", "missing"],
+    10: ["refused", "missing", "order"],
+    11: ["by"],
+    12: ["all", "part", "by"],
+    22: ["fallen", "outside"],
+}
+ASKED = {"one", "several", "earlier", "none"}
 UPDATES = {"valid", "not-alone", "no-admin-policy", "undefined", "policy", "admin"}
 # The `tx` line of a transaction that is too long is at fault, once it ends.
 TOO_LONG = {
@@ -273,6 +326,27 @@ def mixed_list(pick, blocks):
             yield pick.choice(blocks[: place + 1])
 
 
+def text_of(lines):
+    return "".join(line + "\n" for line in lines)
+
+
+def words_said(lines):
+    for line in lines:
+        _, flag, *words = line.split()
+        yield from (f"{flag} {said}" for said in WORDS.get(int(flag), []) if said in words)
+
+
+def kind_of(lines):
+    """What an id has led to."""
+    if len(lines) == 2:
+        return "earlier" if lines[1].startswith("earlier") else "one"
+    return "several" if lines else "none"
+
+
+def spelled_otherwise(octets):
+    return "".join(f"%{octet:02x}" for octet in octets)
+
+
 def outcomes_of_updates(world):
     """Of the last block: `valid`, or what flag 6 is for."""
     octets, _, flags = world.blocks[-1]
@@ -288,6 +362,7 @@ class Trial:
         self.program, self.folder, self.pick = program, folder, pick
         self.calls, self.scripts, self.lists = 0, 0, 0
         self.faults, self.flags, self.refusals, self.updates = Counter(), Counter(), Counter(), Counter()
+        self.words, self.asked = Counter(), Counter()
         book = "".join(f"{who} {pick.randbytes(pick.choice([1, 32, 64])).hex()}\n" for who in SIGNERS)
         self.keys = keys_of(book.encode())
         self.definitions = {name.encode(): read_policy(policy.encode()) for name, policy in CHANNEL.items()}
@@ -346,6 +421,26 @@ class Trial:
         assert self.draft(number, blocks, self.text(lines), 2 if kind in SECOND else 1) is None, kind
         self.faults[kind] += 1
 
+    def explain(self, world, octets, files):
+        """The last of the files, which stands behind the world."""
+        lines = explained(world, octets)
+        self.want(0, text_of(lines), "", "explain", *files)
+        self.words.update(words_said(lines[1:]))
+        if self.pick.random() < 0.3:
+            self.want(0, text_of(explained(world, octets, ids=True)), "", "explain", "--ids", *files)
+        if self.pick.random() < 0.6:
+            self.explain_id(world, octets, files)
+
+    def explain_id(self, world, octets, files):
+        """The same by an id of the block, of one before, or any other."""
+        pick, sources = self.pick, (ids_of(octets), [*world.first_uses], [self.pick.randbytes(64)])
+        id, ids = pick.choice(pick.choice([source for source in sources if source])), pick.random() < 0.5
+        spelled = pick.choice([word(id), word(id), spelled_otherwise(id)])
+        lines = explained_of(world, octets, id, ids)
+        said = 0 if lines else 2, text_of(lines), "" if lines else f"no transaction {spelled}\n"
+        self.want(*said, "explain", *["--ids"] * ids, *files, f"--id={spelled}")
+        self.asked[kind_of(lines)] += 1
+
     def ask(self, world, files):
         """One key and one range, asked of the chain."""
         pick = self.pick
@@ -370,10 +465,12 @@ class Trial:
                 self.fault(kind, number, blocks, faulty_lines(pick, kind))
             version = max(world.version(), pick.choice([1, 1, 1, 2]))
             lines = good_lines if version == 1 else second_lines
-            block = self.draft(number, blocks, self.text(list(lines(pick, world, nonces))), version)
+            script = self.text(list(lines(pick, world, nonces)))
+            if pick.random() < 0.3:
+                script = self.text(list(raw_lines(pick, self.keys, version, script)))
+            block = self.draft(number, blocks, script, version)
             blocks.append(block)
-            lines = "".join(line + "\n" for line in explained(world, block))
-            self.want(0, lines, "", "explain", *[f"block{number}" for number in range(len(blocks))])
+            self.explain(world, block, [f"block{number}" for number in range(len(blocks))])
             world.submit(block)
             self.flags.update(world.blocks[-1][2])
             self.updates.update(outcomes_of_updates(world))
@@ -409,8 +506,10 @@ class Trial:
         self.want(status, answers.get(world, name.encode(), word_bytes(key)), "", "get", "--ns", name, "--key", key, *files)
 
     def lacks(self):
-        """The faults, flags and outcomes of updates that haven't come yet."""
-        return (set(FAULTS) - set(self.faults)) | (FLAGS - set(self.flags)) | (UPDATES - set(self.updates))
+        """Whether there are faults, flags, outcomes of updates, words and answers to ids that haven't come yet."""
+        words = [f"{flag} {said}" for flag, all_said in WORDS.items() for said in all_said]
+        wanted = (FAULTS, self.faults), (FLAGS, self.flags), (UPDATES, self.updates), (words, self.words), (ASKED, self.asked)
+        return any(set(all_of) - set(came) for all_of, came in wanted)
 
     def limits(self):
         """The longest transaction, and those that are one byte too long."""
@@ -432,6 +531,8 @@ def main():
     print(f"{trial.scripts} scripts, of which {trial.faults.total()} faulty of {len(trial.faults)} kinds, {trial.calls} calls")
     print("flags:", ", ".join(f"{flag} {times} times" for flag, times in sorted(trial.flags.items())))
     print("updates:", ", ".join(f"{name} {times} times" for name, times in sorted(trial.updates.items())))
+    print("words:", ", ".join(f"{name} {times} times" for name, times in sorted(trial.words.items())))
+    print("ids:", ", ".join(f"{name} {times} times" for name, times in sorted(trial.asked.items())))
     print(f"{trial.lists} lists, refusals:", ", ".join(f"{name} {times} times" for name, times in sorted(trial.refusals.items())))
 
 

@@ -3,8 +3,8 @@
 
 `python3 vectors/updates_at_random.py [PROGRAM [COUNT [SEED]]]` makes COUNT chains (1000) of six to eight blocks from SEED (1).
 PROGRAM (`./fabcommit`) runs each chain with 1, 2 and 5 workers; at every height it tells the definition of each name, and of the
-whole chain all rows, histories and first uses. Its lines have to be those of `committer.py`. It ends with figures: the
-outcomes of updates, and how many valid ones changed a later flag, which is told by a world that doesn't take the update. It
+whole chain all rows, histories and first uses, at times by an id. Its lines have to be those of `committer.py`. It ends with figures:
+the outcomes of updates, and how many valid ones changed a later flag, which is told by a world that doesn't take the update. It
 fails where anything differs, or where something came too seldom in 1,000 chains.
 """
 
@@ -18,9 +18,8 @@ sys.dont_write_bytecode = True
 
 import answers
 from encoding import data_hash, header_hash, read_block, spelled_block
-from explaining import explained
 from scripts import drafted
-from scripts_at_random import CHANNEL, SIGNERS, UPDATES, Trial, next_nonce, outcomes_of_updates, update_lines
+from scripts_at_random import CHANNEL, SIGNERS, UPDATES, Trial, creator_and_nonce, outcomes_of_updates, update_lines
 
 NAMES = [*CHANNEL, "undefined"]
 # Of all signers this one alone meets it, so that an update is valid as often as it isn't.
@@ -32,7 +31,7 @@ def write_lines(pick, nonces):
     """Transactions whose flags stand or fall with the policies of chaincodes."""
     for _ in range(pick.randrange(1, 5)):
         name = pick.choice([*CHANNEL])
-        yield f"tx {pick.choice(SIGNERS)} {next_nonce(pick, nonces)} {name}"
+        yield f"tx {creator_and_nonce(pick, nonces)} {name}"
         yield f"ns {name}"
         yield f"write {pick.choice(KEYS)} {pick.randrange(100)}"
         for signer in pick.sample(SIGNERS, pick.randrange(1, 4)):
@@ -107,8 +106,7 @@ class UpdateTrial(Trial):
         self.write("again", behind(blocks, [tx for octets in blocks for tx in read_block(octets)[3]]))
         files.append("again")
         octets = (self.folder / "again").read_bytes()
-        lines = "".join(line + "\n" for line in explained(world, octets))
-        self.want(0, lines, "", "explain", *files)
+        self.explain(world, octets, files)
         world.submit(octets)
         lines = "".join(answers.accepted(world, number) + answers.committed(world, number) for number in range(len(files)))
         for workers in (1, 2, 5):

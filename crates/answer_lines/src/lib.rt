@@ -13,6 +13,6 @@ mod value_word;
 pub use block_lines::{write_accepted, write_block, write_commit, write_hash, write_refused};
 pub use laws::printed_values_are_read_back;
 pub use line_fault::LineFault;
-pub use reason_lines::{write_identity, write_reason};
+pub use reason_lines::{write_earlier, write_identity, write_reason};
 pub use refusal::Refusal;
 pub use row_lines::{write_definition, write_entry, write_height, write_row};

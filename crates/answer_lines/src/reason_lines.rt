@@ -1,15 +1,16 @@
 //! The words of reasons.
 use crate::line_fault::LineFault;
+use policy::{PolicyRole, Principal};
 use reasons::{
     EndorsementFault, FormFault, IdUse, KeyList, PhantomKey, PolicyOwner, PolicyTextFault,
-    QueriedRange, Reason, StaleRead, UpdateFault,
+    QueriedRange, RangeResult, Reason, Shortfall, StaleRead, UpdateFault,
 };
-use rules::Flag;
+use rules::{FirstUse, Flag};
 use std::alloc::{AllocError, Global};
 use std::io;
 use std::io::Write;
 use text_lines::Word;
-use transaction::{Identity, OwnedIdentity, Role, Version};
+use transaction::{Identity, OwnedIdentity, Role, TxId, Version};
 
 /// The name of a flag in `peer.TxValidationCode`.
 fn name_of(flag: Flag) -> &'static str {
@@ -53,6 +54,16 @@ fn role_name(role: Role) -> &'static str {
         Role::Peer => "peer",
         Role::Admin => "admin",
         Role::Orderer => "orderer",
+    }
+}
+
+fn policy_role_name(role: PolicyRole) -> &'static str {
+    match role {
+        PolicyRole::Member => "member",
+        PolicyRole::Admin => "admin",
+        PolicyRole::Client => "client",
+        PolicyRole::Peer => "peer",
+        PolicyRole::Orderer => "orderer",
     }
 }
 
@@ -108,20 +119,63 @@ fn write_signers<W: Write>(out: &mut W, signers: &[OwnedIdentity]) -> io::Result
     Ok(())
 }
 
-fn write_read<W: Write>(out: &mut W, read: &StaleRead) -> io::Result<()> {
-    let (namespace, key) = (Word(read.namespace.as_slice()), Word(read.key.as_slice()));
-    write!(out, " read {namespace} {key}")?;
-    write_versions(out, &read.read, &read.there)?;
-    match read.writer {
+// ` missing ORG.ROLE`
+fn write_missing<W: Write>(out: &mut W, missing: &Option<Principal>) -> io::Result<()> {
+    match missing {
+        Some(principal) => {
+            let org = Word(principal.org.as_slice());
+            let role = policy_role_name(principal.role);
+            write!(out, " missing {org}.{role}")
+        }
+        None => Ok(()),
+    }
+}
+
+// ` POLICY SIGNER .. [refused ENDORSER ..] [missing ORG.ROLE] [order]`
+fn write_shortfall<W: Write>(out: &mut W, policy: &str, shortfall: &Shortfall) -> io::Result<()> {
+    write!(out, " {policy}")?;
+    write_signers(out, shortfall.signers.as_slice())?;
+    let refused = shortfall.refused.as_slice();
+    if !refused.is_empty() {
+        write!(out, " refused")?;
+        write_signers(out, refused)?;
+    }
+    write_missing(out, &shortfall.missing)?;
+    if shortfall.another_order {
+        write!(out, " order")?;
+    }
+    Ok(())
+}
+
+// ` by TX`, where there is one
+fn write_writer<W: Write>(out: &mut W, writer: Option<u32>) -> io::Result<()> {
+    match writer {
         Some(writer) => write!(out, " by {writer}"),
         None => Ok(()),
     }
 }
 
+fn write_read<W: Write>(out: &mut W, read: &StaleRead) -> io::Result<()> {
+    let (namespace, key) = (Word(read.namespace.as_slice()), Word(read.key.as_slice()));
+    write!(out, " read {namespace} {key}")?;
+    write_versions(out, &read.read, &read.there)?;
+    write_writer(out, read.writer)
+}
+
 fn write_phantom<W: Write>(out: &mut W, phantom: &PhantomKey) -> io::Result<()> {
     write!(out, " range")?;
     write_range(out, &phantom.range, phantom.key.as_slice())?;
-    write_versions(out, &phantom.read, &phantom.there)
+    write_versions(out, &phantom.read, &phantom.there)?;
+    let extent = if phantom.exhausted { "all" } else { "part" };
+    write!(out, " {extent}")?;
+    write_writer(out, phantom.writer)
+}
+
+// ` NAMESPACE START END key KEY range N result M`
+fn write_result<W: Write>(out: &mut W, found: &RangeResult) -> io::Result<()> {
+    write_range(out, &found.range, found.key.as_slice())?;
+    let (range_place, place) = (found.range_place, found.place);
+    write!(out, " range {range_place} result {place}")
 }
 
 fn write_form<W: Write>(out: &mut W, fault: &FormFault) -> io::Result<()> {
@@ -139,13 +193,13 @@ fn write_form<W: Write>(out: &mut W, fault: &FormFault) -> io::Result<()> {
             let list = list_name(*list);
             write!(out, " repeated {namespace} {list} {key}")
         }
-        FormFault::ResultFalls { range, key } => {
+        FormFault::ResultFalls(found) => {
             write!(out, " fallen")?;
-            write_range(out, range, key.as_slice())
+            write_result(out, found)
         }
-        FormFault::ResultLeaves { range, key } => {
+        FormFault::ResultLeaves(found) => {
             write!(out, " outside")?;
-            write_range(out, range, key.as_slice())
+            write_result(out, found)
         }
         FormFault::UnreadablePolicy {
             namespace,
@@ -159,10 +213,17 @@ fn write_form<W: Write>(out: &mut W, fault: &FormFault) -> io::Result<()> {
     }
 }
 
+// ` BLOCK TX FLAG NAME`
+fn write_placed<W: Write>(out: &mut W, block: u64, place: u32, flag: Flag) -> io::Result<()> {
+    let (code, name) = (flag.number(), name_of(flag));
+    write!(out, " {block} {place} {code} {name}")
+}
+
 fn write_use<W: Write>(out: &mut W, number: u64, first: &IdUse) -> io::Result<()> {
+    write!(out, " used")?;
     match first {
-        IdUse::Earlier { block, place } => write!(out, " used {block} {place}"),
-        IdUse::Here { place } => write!(out, " used {number} {place}"),
+        IdUse::Earlier { block, place, flag } => write_placed(out, *block, *place, *flag),
+        IdUse::Here { place, flag } => write_placed(out, number, *place, *flag),
     }
 }
 
@@ -176,22 +237,22 @@ fn write_touched<W: Write>(
     write!(out, " touched {namespace} {key} {place}")
 }
 
-// ` key NAMESPACE KEY POLICY SIGNER ..`, or `chaincode` in the place of `key`
+// ` key NAMESPACE KEY` and what is lacking, or `chaincode` in the place of `key`
 fn write_unsatisfied<W: Write>(
     out: &mut W,
     owner: PolicyOwner,
     namespace: &[u8],
     key: &[u8],
     policy: &str,
-    signers: &[OwnedIdentity],
+    shortfall: &Shortfall,
 ) -> io::Result<()> {
     let (namespace, key) = (Word(namespace), Word(key));
     let whose = match owner {
         PolicyOwner::OfKey => "key",
         PolicyOwner::OfChaincode => "chaincode",
     };
-    write!(out, " {whose} {namespace} {key} {policy}")?;
-    write_signers(out, signers)
+    write!(out, " {whose} {namespace} {key}")?;
+    write_shortfall(out, policy, shortfall)
 }
 
 fn write_endorsement<W: Write>(
@@ -209,24 +270,22 @@ fn write_endorsement<W: Write>(
             namespace,
             key,
             owner,
-            policy: _,
-            signers,
+            shortfall,
         } => write_unsatisfied(
             out,
             *owner,
             namespace.as_slice(),
             key.as_slice(),
             policy,
-            signers.as_slice(),
+            shortfall,
         ),
         EndorsementFault::ChaincodeUnsatisfied {
             chaincode,
-            policy: _,
-            signers,
+            shortfall,
         } => {
             let chaincode = Word(chaincode.as_slice());
-            write!(out, " named {chaincode} {policy}")?;
-            write_signers(out, signers.as_slice())
+            write!(out, " named {chaincode}")?;
+            write_shortfall(out, policy, shortfall)
         }
     }
 }
@@ -245,9 +304,9 @@ fn write_update<W: Write>(out: &mut W, fault: &UpdateFault, policy: &str) -> io:
             let fault = text_fault_name(*fault);
             write!(out, " policy {fault}")
         }
-        UpdateFault::AdminUnsatisfied { policy: _, signers } => {
-            write!(out, " admin {policy}")?;
-            write_signers(out, signers.as_slice())
+        UpdateFault::AdminUnsatisfied(shortfall) => {
+            write!(out, " admin")?;
+            write_shortfall(out, policy, shortfall)
         }
     }
 }
@@ -260,7 +319,11 @@ fn write_words<W: Write>(
     policy: &str,
 ) -> io::Result<()> {
     match reason {
-        Reason::NoFault | Reason::NoTransaction | Reason::BadSignature => Ok(()),
+        Reason::NoFault | Reason::NoTransaction => Ok(()),
+        Reason::BadSignature { creator } => {
+            write!(out, " creator")?;
+            write_signer(out, creator)
+        }
         Reason::InvalidUpdate(fault) => write_update(out, fault, policy),
         Reason::OtherId { wanted } => {
             let wanted = Word(wanted);
@@ -282,26 +345,40 @@ fn write_words<W: Write>(
 // The canonical text of the policy that the reason names, empty where it names none.
 fn policy_of(alloc: Global, reason: &Reason) -> Result<String, AllocError> {
     match reason {
-        Reason::NotEndorsed(EndorsementFault::Unsatisfied { policy, .. })
-        | Reason::NotEndorsed(EndorsementFault::ChaincodeUnsatisfied { policy, .. })
-        | Reason::InvalidUpdate(UpdateFault::AdminUnsatisfied { policy, .. }) => policy.text(alloc),
+        Reason::NotEndorsed(EndorsementFault::Unsatisfied { shortfall, .. })
+        | Reason::NotEndorsed(EndorsementFault::ChaincodeUnsatisfied { shortfall, .. })
+        | Reason::InvalidUpdate(UpdateFault::AdminUnsatisfied(shortfall)) => {
+            shortfall.policy.text(alloc)
+        }
         _ => Ok(String::new(alloc)),
     }
 }
 
-/// Writes `TX FLAG NAME` and the words of the reason, of a place of the block of this number. The memory is the text of
-/// the policy that it names, which is made before any of the line is written.
+/// Writes `TX FLAG NAME` and the words of the reason, of a place of the block of this number, and `id ID` behind them where the id is
+/// wanted. The memory is the text of the policy that it names, which is made before any of the line is written.
 pub fn write_reason<W: Write>(
     alloc: Global,
     out: &mut W,
     number: u64,
     place: usize,
     reason: &Reason,
+    id: Option<&TxId>,
 ) -> Result<(), LineFault> {
     let policy = policy_of(alloc, reason)?;
     let flag = reason.flag();
     let (code, name) = (flag.number(), name_of(flag));
     write!(out, "{place} {code} {name}")?;
     write_words(out, number, reason, policy.as_str())?;
+    if let Some(id) = id {
+        let id = Word(id);
+        write!(out, " id {id}")?;
+    }
     Ok(writeln!(out)?)
+}
+
+/// Writes `earlier BLOCK TX FLAG NAME`: where an id was used first, and the flag that it was given. Takes no memory.
+pub fn write_earlier<W: Write>(out: &mut W, first: &FirstUse) -> io::Result<()> {
+    write!(out, "earlier")?;
+    write_placed(out, first.block, first.place, first.flag)?;
+    writeln!(out)
 }

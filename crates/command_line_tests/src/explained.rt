@@ -15,6 +15,7 @@ use std::sync::Wait;
 use std::thread::Threads;
 use values::Bytes;
 
+mod each_word;
 mod policy_texts;
 pub(crate) mod vectors;
 
@@ -201,15 +202,15 @@ endorse Org2:peer:p0
 ";
 
 const REASONS: &str = "0 2 BAD_PAYLOAD
-1 9 DUPLICATE_TXID used 0 1
+1 9 DUPLICATE_TXID used 0 1 0 VALID
 2 0 VALID
-3 9 DUPLICATE_TXID used 1 2
+3 9 DUPLICATE_TXID used 1 2 0 VALID
 4 11 MVCC_READ_CONFLICT read cc a was 0 1 is 1 2 by 2
-5 12 PHANTOM_READ_CONFLICT range cc a d key a was 0 1 is 1 2
-6 12 PHANTOM_READ_CONFLICT range cc a d key b was absent is 1 2
-7 10 ENDORSEMENT_POLICY_FAILURE key cc k1 AND('Org1.peer','Org2.peer') Org1:peer:p0
-8 10 ENDORSEMENT_POLICY_FAILURE chaincode cc d%20d OR('Org1.peer','Org2.peer')
-9 10 ENDORSEMENT_POLICY_FAILURE named cc OR('Org1.peer','Org2.peer')
+5 12 PHANTOM_READ_CONFLICT range cc a d key a was 0 1 is 1 2 all by 2
+6 12 PHANTOM_READ_CONFLICT range cc a d key b was absent is 1 2 all by 2
+7 10 ENDORSEMENT_POLICY_FAILURE key cc k1 AND('Org1.peer','Org2.peer') Org1:peer:p0 missing Org2.peer
+8 10 ENDORSEMENT_POLICY_FAILURE chaincode cc d%20d OR('Org1.peer','Org2.peer') missing Org1.peer
+9 10 ENDORSEMENT_POLICY_FAILURE named cc OR('Org1.peer','Org2.peer') missing Org1.peer
 10 0 VALID
 11 10 ENDORSEMENT_POLICY_FAILURE touched cc d 10
 12 25 INVALID_CHAINCODE undefined zz
@@ -217,8 +218,8 @@ const REASONS: &str = "0 2 BAD_PAYLOAD
 14 22 BAD_RWSET repeated cc reads a
 15 22 BAD_RWSET repeated cc writes a
 16 22 BAD_RWSET repeated cc policies a
-17 22 BAD_RWSET fallen cc a % key a
-18 22 BAD_RWSET outside cc a d key d
+17 22 BAD_RWSET fallen cc a % key a range 0 result 1
+18 22 BAD_RWSET outside cc a d key d range 0 result 0
 19 22 BAD_RWSET policy cc a syntax
 20 0 VALID
 21 11 MVCC_READ_CONFLICT read cc a was 1 2 is absent by 20
@@ -252,16 +253,20 @@ fn second_block(
     drafted(rt, &files, "draft --after b0 s out")
 }
 
-// All reasons, and that of one transaction.
+// All reasons, that of one transaction, and those of two with one id.
 fn reasons() -> &'static [(&'static str, &'static str)] {
     &REASONS_ASKED
 }
 
-static REASONS_ASKED: [(&str, &str); 2] = [
+static REASONS_ASKED: [(&str, &str); 3] = [
     ("explain b0 b1", REASONS),
     (
         "explain --tx 4 b0 b1",
         "4 11 MVCC_READ_CONFLICT read cc a was 0 1 is 1 2 by 2\n",
+    ),
+    (
+        "explain --id df9ae39a69c858c1a7bd54294d1c59f242892a6ba276255f2d18b918f5f6da6f b0 b1",
+        "2 0 VALID\n3 9 DUPLICATE_TXID used 1 2 0 VALID\n",
     ),
 ];
 
@@ -350,7 +355,7 @@ static FORGING: &[u8] = b"Org1:client:c0 00\nOrg1:peer:p0 01\n";
 #[test]
 fn reasons_of_the_origin(rt: HostRuntime) -> Result<(), Failed> {
     assert!(rt; is_explained_elsewhere(&rt, OTHER_CHANNEL, keys(), "explain b0", OTHERS)?);
-    let forged = "1 4 BAD_CREATOR_SIGNATURE\n";
+    let forged = "1 4 BAD_CREATOR_SIGNATURE creator Org1:client:c0\n";
     assert!(rt; is_explained_elsewhere(&rt, CHANNEL, FORGING, "explain --tx 1 b0", forged)?);
     Ok(())
 }
@@ -394,7 +399,7 @@ static CHANGES: [(&str, &str); 5] = [
     (
         "explain b0 b1 b2 b3",
         "\n0 10 ENDORSEMENT_POLICY_FAILURE chaincode cc car4 \
-        OR('Org1.peer','Org2.peer') Org1:admin:a0\n",
+        OR('Org1.peer','Org2.peer') Org1:admin:a0 missing Org1.peer\n",
     ),
     ("definition --ns cc b0 b1 b2 b3", FIRST_DEFINITION),
     ("definition --ns cc b0 b1 b2 b3 b4", SECOND_DEFINITION),

@@ -57,6 +57,9 @@ static SCENES: [Scene; 1] = [(
         ("scan --ns cc --start a% no", 2, "", "bad word\n"),
         ("scan --ns cc --end= no", 2, "", "bad word\n"),
         ("scan --ns cc --end é no", 2, "", "bad word\n"),
+        ("explain --id % no", 2, "", "bad word\n"),
+        ("explain --id %4 no", 2, "", "bad word\n"),
+        ("explain --id= --ids no", 2, "", "bad word\n"),
         // Then files in their order.
         ("get --ns cc --key k no s", 3, "", "cannot read no\n"),
         ("scan --ns cc b0 no", 3, "", "cannot read no\n"),
@@ -65,6 +68,7 @@ static SCENES: [Scene; 1] = [(
         ("explain no", 3, "", "cannot read no\n"),
         ("explain b0 no s", 3, "", "cannot read no\n"),
         ("explain --tx 9 b0 no", 3, "", "cannot read no\n"),
+        ("explain --ids no", 3, "", "cannot read no\n"),
         ("show no", 3, "", "cannot read no\n"),
         ("show b0 no s", 3, "", "cannot read no\n"),
         ("draft no out", 3, "", "cannot read no\n"),
@@ -84,6 +88,7 @@ static SCENES: [Scene; 1] = [(
         ("definition --ns zz s k", 1, "height 0\nabsent\n", ""),
         ("explain s b0", 1, BLOCK_0, ""),
         ("explain b0", 0, BLOCK_0, ""),
+        ("explain --ids b0", 0, BLOCK_0, ""),
         // But of the last block, at whose place no transaction stands.
         ("explain s", 1, "refused 1 C1 B1\n", ""),
         ("explain b0 b0", 1, "refused 2 C2 want 1 got 0\n", ""),
@@ -125,8 +130,8 @@ fn lengths() -> &'static [Lengths] {
     &LENGTHS
 }
 
-// A name has at most 64 bytes, and a key at most 1,024.
-static LENGTHS: [Lengths; 8] = [
+// A name has at most 64 bytes, a key at most 1,024, and an id 64. Those of an id name a block that can't be read.
+static LENGTHS: [Lengths; 12] = [
     (
         "get --ns nnnnnnnnnnnnnnnnnnnnnnnnnnnnnnnnnnnnnnnnnnnnnnnnnnnnnnnnnnnnnnnn --key ",
         "k",
@@ -177,6 +182,10 @@ static LENGTHS: [Lengths; 8] = [
     ),
     ("scan --ns ", "n", 64, 0, "height 0\n", ""),
     ("scan --ns ", "n", 65, 2, "", "bad word\n"),
+    ("explain no --id ", "f", 63, 2, "", "bad word\n"),
+    ("explain no --id ", "f", 64, 3, "", "cannot read no\n"),
+    ("explain no --id ", "%00", 64, 3, "", "cannot read no\n"),
+    ("explain no --id ", "f", 65, 2, "", "bad word\n"),
 ];
 
 fn is_of_lengths(
@@ -194,7 +203,7 @@ fn is_of_lengths(
 }
 
 #[test]
-fn names_and_keys_that_are_too_long(rt: HostRuntime) -> Result<(), AllocError> {
+fn lengths_of_names_keys_and_ids(rt: HostRuntime) -> Result<(), AllocError> {
     for (number, row) in lengths().iter().enumerate() {
         assert!(rt; is_of_lengths(&rt, row)?, "row {number}");
     }

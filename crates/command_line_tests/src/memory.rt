@@ -109,6 +109,22 @@ pub(crate) fn outcome_of_explain(
     outcome_of_row(rt, &sample(), &row)
 }
 
+// An id whose transaction stands in the first of these blocks.
+const BY_ID: &str = "explain --id 4d941d69b676a61aff49cd6e78f11d3727d68eebad17b933dd85233f09067498 \
+    --ids b0 b1 b2 b3 b4 b5";
+
+const EARLIER: &str = "\
+block 5 0a1eff09c2c419abd3992ce5aa2b039907bc3632a6e268c49b8761fd37f4816e
+earlier 0 0 0 VALID
+";
+
+pub(crate) fn outcome_of_id(
+    rt: &(impl AllocGlobal + Threads + Wait + Sync),
+) -> Result<Outcome, Failed> {
+    let row = (BY_ID, 0, EARLIER, "");
+    outcome_of_row(rt, &sample(), &row)
+}
+
 // Whether the block is written once, or where memory ran out not at all and then when it is drafted again.
 pub(crate) fn outcome_of_draft(
     rt: &(impl AllocGlobal + Threads + Wait + Sync),
@@ -145,6 +161,7 @@ fn each_subcommand(rt: HostRuntime) -> Result<(), Failed> {
         );
     }
     assert!(rt; outcome_of_explain(&rt)? == Outcome::Done);
+    assert!(rt; outcome_of_id(&rt)? == Outcome::Done);
     assert!(rt; outcome_of_draft(&rt)? == Outcome::Done);
     Ok(())
 }

@@ -46,7 +46,7 @@ fn mistaken() -> &'static [Row] {
     &MISTAKES
 }
 
-static MISTAKES: [Row; 29] = [
+static MISTAKES: [Row; 31] = [
     (
         &[],
         "'fabcommit' requires a subcommand but one was not provided",
@@ -189,6 +189,27 @@ static MISTAKES: [Row; 29] = [
         COMMAND,
     ),
     (
+        &[
+            "explain",
+            "--channel",
+            "c",
+            "--keys",
+            "k",
+            "--tx",
+            "2",
+            "--id",
+            "x",
+            "b",
+        ],
+        "--tx and --id don't go together",
+        COMMAND,
+    ),
+    (
+        &["explain", "--id", "x", "--id", "x"],
+        "'--id <ID>' cannot be used multiple times",
+        EXPLAIN,
+    ),
+    (
         &["run", "--workers", "0"],
         "invalid value '0' for '--workers <N>': 0 is not in 1..=64",
         "--help",
@@ -228,7 +249,7 @@ fn helped() -> &'static [Row] {
     &HELP
 }
 
-static HELP: [Row; 15] = [
+static HELP: [Row; 16] = [
     (
         &["--version"],
         "fabcommit 0.2.0, for blocks of versions 1 and 2\n",
@@ -265,6 +286,7 @@ static HELP: [Row; 15] = [
         "\nExample:\n  fabcommit explain ",
         EXPLAIN,
     ),
+    (&["help", "explain"], "\n      --ids ", EXPLAIN),
     (
         &["run", "--help"],
         "\nOptions:\n      --channel <FILE>",

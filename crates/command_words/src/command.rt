@@ -1,6 +1,6 @@
 use crate::definition::{DEFINITION, DefinitionQuery};
 use crate::draft::{DRAFT, Draft};
-use crate::explain::{EXPLAIN, Explain};
+use crate::explain::{EXPLAIN, Explain, asks_both_ways};
 use crate::get::GET;
 use crate::history::HISTORY;
 use crate::keyed::KeyedQuery;
@@ -81,6 +81,14 @@ pub fn not_text(alloc: Global) -> Result<Error, AllocError> {
     command(alloc)?.error(ErrorKind::ValueValidation, text)
 }
 
+// What is wrong with words that ask for nothing, though clap takes them.
+fn fault_of(matches: &ArgMatches<'_>) -> &'static str {
+    match matches.subcommand() {
+        Some(("explain", matches)) if asks_both_ways(matches) => "--tx and --id don't go together",
+        _ => "a number is written with digits alone",
+    }
+}
+
 impl<'a> Asked<'a> {
     /// Whether nothing is to be shown while blocks are handed in.
     pub fn is_quiet(&self) -> bool {
@@ -118,11 +126,8 @@ impl<'a> Asked<'a> {
     ) -> Result<Asked<'a>, Error> {
         match Asked::from_matches(alloc, matches)? {
             Some(asked) => Ok(asked),
-            // All else is required, or looked at by clap.
-            None => {
-                let text = "a number is written with digits alone";
-                Err(command.error(ErrorKind::ValueValidation, text)?)
-            }
+            // all else is required, or looked at by clap
+            None => Err(command.error(ErrorKind::ValueValidation, fault_of(matches))?),
         }
     }
 

@@ -14,49 +14,62 @@ Example:
 
   block NUMBER HASH      the last block, with its header's hash
   TX FLAG NAME REASON .. a transaction, its flag and the flag's name, and the
-                         words of the reason
+                         words of the reason; with --ids, id ID behind them
+  earlier BLOCK TX FLAG NAME
+                         in place of these, where the transaction that --id
+                         asks for isn't in the last block, but in this one
   refused PLACE FAULT    in place of all these, where the last block is refused
 
 A version is BLOCK TX, or absent; keys and bounds are words, % being an empty
-bound; FAULT is too-large, syntax, role, threshold or too-deep. The reasons:
+bound; FAULT is too-large, syntax, role, threshold or too-deep. LACK is
 
-  0 VALID, 2 BAD_PAYLOAD, 4 BAD_CREATOR_SIGNATURE: no more than that
+    POLICY SIGNER .. [refused ENDORSER ..] [missing ORG.ROLE] [order]
+                         the policy and who signed; whose signature isn't
+                         accepted; the first principal left without a signer;
+                         order, where these signers would do if each gate
+                         asked for members of any role last
+
+The reasons:
+
+  0 VALID, 2 BAD_PAYLOAD: no more than that
+  4 BAD_CREATOR_SIGNATURE
+    creator CREATOR      whose signature isn't accepted
   6 INVALID_CONFIG_TRANSACTION, of an update the first of
     not-alone            its block has more than it
     no-admin-policy      the channel has none
     undefined NAME       the chaincode whose policy it gives
     policy FAULT         the fault of its text
-    admin POLICY SIGNER ..
-                         the channel's admin policy
+    admin LACK           the channel's admin policy
   8 BAD_PROPOSAL_TXID
     wanted ID            what its nonce and creator give
   9 DUPLICATE_TXID
-    used BLOCK TX        where first
+    used BLOCK TX FLAG NAME
+                         where first, and with which flag
   10 ENDORSEMENT_POLICY_FAILURE
     touched NAMESPACE KEY TX
                          by the transaction that touched the key first
-    key NAMESPACE KEY POLICY SIGNER ..
+    key NAMESPACE KEY LACK
                          the key's own policy
-    chaincode NAMESPACE KEY POLICY SIGNER ..
+    chaincode NAMESPACE KEY LACK
                          that of its chaincode
-    named NAME POLICY SIGNER ..
-                         that of the chaincode named, where it writes no key
+    named NAME LACK      that of the chaincode named, where it writes no key
   11 MVCC_READ_CONFLICT
     read NAMESPACE KEY was VERSION is VERSION [by TX]
                          TX being the last writer, where it is in the block
   12 PHANTOM_READ_CONFLICT
-    range NAMESPACE START END key KEY was VERSION is VERSION
+    range NAMESPACE START END key KEY was VERSION is VERSION all|part [by TX]
+                         all where the query was read to its end
   14 TARGET_CHAIN_NOT_FOUND
     channel NAME
   22 BAD_RWSET
     repeated NAMESPACE
     repeated NAMESPACE reads|writes|policies KEY
-    fallen|outside NAMESPACE START END key KEY
-                         a result of the range
+    fallen|outside NAMESPACE START END key KEY range N result N
+                         a result of the range, and both places, from 0
     policy NAMESPACE KEY FAULT
   25 INVALID_CHAINCODE
     undefined NAME",
-    arguments: &[CHANNEL, KEYS, TX, QUIET, SOME_BLOCKS],
+    arguments: &[CHANNEL, KEYS, TX, ID, IDS, QUIET, SOME_BLOCKS],
 };
 
 const TX: Argument = Argument {
@@ -69,19 +82,51 @@ const TX: Argument = Argument {
     },
 };
 
+const ID: Argument = Argument {
+    name: "id",
+    value_name: "ID",
+    help: "The transaction to explain, by its id, as a word",
+    form: Form::Optional,
+};
+
+const IDS: Argument = Argument {
+    name: "ids",
+    value_name: "",
+    help: "Each line ends with the transaction's id",
+    form: Form::Flag,
+};
+
+/// Which transactions of the block are explained.
+#[derive(Clone, Copy, Debug, PartialEq, Eq)]
+pub enum Explained<'a> {
+    All,
+    /// The one at this place.
+    Place(u16),
+    /// Those whose id this word spells.
+    Id(&'a str),
+}
+
 /// Blocks in, and the reasons of the last one out.
 #[derive(Drop)]
 pub struct Explain<'a> {
     pub paths: LedgerPaths<'a>,
-    /// The one place that is asked for, else all of them.
-    pub tx: Option<u16>,
+    pub explained: Explained<'a>,
+    /// Whether each line ends with the id.
+    pub ids: bool,
 }
 
-// Which transaction is asked for, none where it is all of them; and none of that where it is no number.
-fn tx_of(matches: &ArgMatches<'_>) -> Option<Option<u16>> {
-    match matches.get_str("tx") {
-        None => Some(None),
-        Some(_) => Some(Some(number_of(matches, "tx")?)),
+/// Whether a transaction is asked for by its place and by its id.
+pub(crate) fn asks_both_ways(matches: &ArgMatches<'_>) -> bool {
+    matches.get_str("tx").is_some() && matches.get_str("id").is_some()
+}
+
+// Which transactions are asked for; none where a place isn't a number, or it is asked both ways.
+fn explained_of<'a>(matches: &ArgMatches<'a>) -> Option<Explained<'a>> {
+    match (matches.get_str("tx"), matches.get_str("id")) {
+        (None, None) => Some(Explained::All),
+        (Some(_), None) => Some(Explained::Place(number_of(matches, "tx")?)),
+        (None, Some(id)) => Some(Explained::Id(id)),
+        (Some(_), Some(_)) => None,
     }
 }
 
@@ -90,9 +135,14 @@ impl<'a> Explain<'a> {
         alloc: Global,
         matches: &ArgMatches<'a>,
     ) -> Result<Option<Explain<'a>>, AllocError> {
-        let Some(tx) = tx_of(matches) else {
+        let Some(explained) = explained_of(matches) else {
             return Ok(None);
         };
-        Ok(LedgerPaths::from_matches(alloc, matches)?.map(|paths| Explain { paths, tx }))
+        let ids = matches.get_flag("ids");
+        Ok(LedgerPaths::from_matches(alloc, matches)?.map(|paths| Explain {
+            paths,
+            explained,
+            ids,
+        }))
     }
 }

@@ -1,5 +1,6 @@
 //! What options say by words and names, which is looked at before any file.
-ghost use Rattle.std.specs.Prelude.{◌≡◌, ℕ, List, Some, None, Err, false, IfOk};
+ghost use Rattle.std.specs.Prelude.{◌≡◌, ◌==◌, ℕ, List, length, Some, None, Err, false, IfOk};
+ghost use Rattle.transaction.specs.Limits.{id_bytes};
 ghost use Rattle.values.specs.Key.{is_key};
 ghost use Rattle.values.specs.Name.{is_name};
 ghost use Rattle.text_lines.specs.Words.{word_bytes};
@@ -8,6 +9,7 @@ ghost use Rattle.command_words.specs.declared.word_fault.WordFault.TheVariants.{
 use crate::word_fault::WordFault;
 use std::alloc::Global;
 use text_lines::read_word;
+use transaction::{ID_BYTES, TxId};
 use values::{Bytes, Key, Name, is_key, is_name};
 
 /// The bytes that a word spells. Linear in it, and takes its length in memory at most.
@@ -31,6 +33,21 @@ pub fn key_of(alloc: Global, word: &str) -> Result<Key, WordFault>
         return Err(WordFault::NotAWord);
     }
     Ok(Key::from_slice(alloc, bytes.as_slice())?)
+}
+
+/// The transaction id that a word spells. As dear as `bytes_of`.
+pub fn id_of(alloc: Global, word: &str) -> Result<TxId, WordFault>
+    ensures ok { IfOk result (λ id. word_bytes word.now ≡ Some id) }
+    ensures err { result ≡ Err NotAWord → (bytes : List ℕ) → word_bytes word.now ≡ Some bytes → (length bytes == id_bytes) ≡ false }
+{
+    let bytes = bytes_of(alloc, word)?;
+    let bytes = bytes.as_slice();
+    if bytes.len() != ID_BYTES {
+        return Err(WordFault::NotAWord);
+    }
+    let mut id = [0; ID_BYTES];
+    id.copy_from_slice(bytes);
+    Ok(id)
 }
 
 /// The name that an option gives. Linear in it, in time and memory.

@@ -2,11 +2,8 @@
 //! block's transactions have their flags. `docs/library.md` walks through it.
 #![tactic(auto)]
 
-ghost use Rattle.std.specs.Prelude.{◌≡◌, ◌==◌, length, All, IfOk};
+ghost use Rattle.std.specs.Prelude.{◌≡◌, ◌==◌, length, All};
 
-mod failed;
-
-use crate::failed::Failed;
 use answer_lines::{write_accepted, write_reason, write_row};
 use commit::{Channel, Committer, Ledger, QueryFault, QueryHandle};
 use gates::Open;
@@ -14,7 +11,6 @@ use policy_eval::Verify;
 use std::alloc::Global;
 use std::fs::File;
 use std::io::{Read, Write};
-use std::process::ExitCode;
 use std::sync::Wait;
 use std::thread;
 use std::thread::Threads;
@@ -37,14 +33,12 @@ impl Verify for ByLength {
     }
 }
 
-fn read_blocks<R: std::rt::Files>(rt: &R, alloc: Global) -> Result<Vec<Bytes>, Failed> {
+fn read_blocks<R: std::rt::Files>(rt: &R, alloc: Global) -> anyhow::Result<Vec<Bytes>> {
     let mut blocks = Vec::new(alloc);
     for path in BLOCKS {
         let mut bytes = Vec::new(alloc);
         File::open(rt, path)?.read_to_end(&mut bytes)?;
-        blocks
-            .push(Bytes::from_vec(bytes))
-            .map_err(|_| Failed::Memory)?;
+        blocks.push(Bytes::from_vec(bytes))?;
     }
     Ok(blocks)
 }
@@ -65,18 +59,14 @@ fn commit_each<R: Threads + Wait + Sync, W: Write>(
     own: &mut QueryHandle,
     blocks: &[Bytes],
     out: &mut W,
-) -> Result<(), Failed>
+) -> anyhow::Result<()>
     requires { own.old.book ≡ committer.old.book }
 {
     for block in blocks {
         let receipt = committer.submit(rt, block.as_slice(), &ByLength, &Open)?;
         own.learn(&receipt);
-        write_accepted(
-            out,
-            receipt.number,
-            &receipt.header_hash,
-            receipt.flags.as_slice(),
-        )?;
+        let flags = receipt.flags.as_slice();
+        write_accepted(out, receipt.number, &receipt.header_hash, flags)?;
     }
     Ok(())
 }
@@ -89,7 +79,7 @@ fn commit_while_asked<R: Threads + Wait + Sync, W: Write>(
     others: Vec<QueryHandle>,
     blocks: &[Bytes],
     out: &mut W,
-) -> Result<(), Failed>
+) -> anyhow::Result<()>
     requires { own.old.book ≡ committer.old.book }
 {
     thread::scope(
@@ -99,16 +89,29 @@ fn commit_while_asked<R: Threads + Wait + Sync, W: Write>(
             requires { own.now.book ≡ committer.now.book }
         {
             for handle in others {
-                scope
-                    .spawn(move || ask(handle))
-                    .map_err(|_| Failed::Memory)?;
+                scope.spawn(move || ask(handle))?;
             }
             commit_each(rt, committer, own, blocks, out)
         },
     )
 }
 
-fn write_car<W: Write>(alloc: Global, own: &mut QueryHandle, out: &mut W) -> Result<(), Failed> {
+/// The last handle stays with this thread, and tells what a car is like in the end.
+fn serve<R: Threads + Wait + Sync, W: Write>(
+    rt: &R,
+    alloc: Global,
+    committer: &mut Committer,
+    handles: Vec<QueryHandle>,
+    blocks: &[Bytes],
+    out: &mut W,
+) -> anyhow::Result<()>
+    requires { All (λ handle. handle.book ≡ committer.old.book) handles.items }
+{
+    let mut others = handles;
+    let Some(mut own) = others.pop() else {
+        return Ok(());
+    };
+    commit_while_asked(rt, committer, &mut own, others, blocks, out)?;
     let key = KeyRef::new(b"car2");
     if let Some(row) = own.get(&NameRef::new(b"cc"), &key)?.answer {
         write_row(alloc, out, key.as_slice(), &row)?;
@@ -117,7 +120,7 @@ fn write_car<W: Write>(alloc: Global, own: &mut QueryHandle, out: &mut W) -> Res
 }
 
 /// Why each transaction of the last block has its flag, by a ledger behind the blocks before it.
-fn explain_last<W: Write>(alloc: Global, blocks: &[Bytes], out: &mut W) -> Result<(), Failed> {
+fn explain_last<W: Write>(alloc: Global, blocks: &[Bytes], out: &mut W) -> anyhow::Result<()> {
     let mut ledger = Ledger::open(alloc, Channel::read(alloc, CHANNEL)?);
     let Some((last, before)) = blocks.split_last() else {
         return Ok(());
@@ -127,51 +130,19 @@ fn explain_last<W: Write>(alloc: Global, blocks: &[Bytes], out: &mut W) -> Resul
     }
     let reasons = ledger.explain(last.as_slice(), &ByLength)?;
     for (place, reason) in reasons.as_slice().iter().enumerate() {
-        write_reason(alloc, out, before.len() as u64, place, reason)?;
+        write_reason(alloc, out, before.len() as u64, place, reason, None)?;
     }
     Ok(())
 }
 
-/// The last handle stays with this thread, and each other one gets a thread.
-fn serve<R: Threads + Wait + Sync, W: Write>(
-    rt: &R,
-    alloc: Global,
-    committer: &mut Committer,
-    handles: Vec<QueryHandle>,
-    blocks: &[Bytes],
-    out: &mut W,
-) -> Result<(), Failed>
-    requires { All (λ handle. handle.book ≡ committer.old.book) handles.items }
-{
-    let mut others = handles;
-    let Some(mut own) = others.pop() else {
-        return Ok(());
-    };
-    commit_while_asked(rt, committer, &mut own, others, blocks, out)?;
-    write_car(alloc, &mut own, out)
-}
-
-fn embedded<R, W: Write>(rt: &R, out: &mut W) -> Result<(), Failed>
-where
-    R: AllocGlobal + Threads + Wait + Sync + std::rt::Files,
-{
-    let alloc = rt.alloc();
-    let blocks = read_blocks(rt, alloc)?;
+fn main(rt: HostRuntime) -> anyhow::Result<()> {
+    let (alloc, mut out) = (rt.alloc(), rt.stdout());
+    let blocks = read_blocks(&rt, alloc)?;
     let channel = Channel::read(alloc, CHANNEL)?;
-    let (mut committer, handles) = Committer::open(alloc, rt, channel, 2, 3)?;
-    let ended = serve(rt, alloc, &mut committer, handles, blocks.as_slice(), out);
-    committer.close(rt);
+    let (mut committer, handles) = Committer::open(alloc, &rt, channel, 2, 3)?;
+    let blocks = blocks.as_slice();
+    let ended = serve(&rt, alloc, &mut committer, handles, blocks, &mut out);
+    committer.close(&rt);
     ended?;
-    explain_last(alloc, blocks.as_slice(), out)
-}
-
-fn main(rt: HostRuntime) -> ExitCode {
-    let (mut out, mut err) = (rt.stdout(), rt.stderr());
-    match embedded(&rt, &mut out) {
-        Ok(()) => ExitCode::SUCCESS,
-        Err(failed) => {
-            let _ = writeln!(err, "{failed}");
-            ExitCode::FAILURE
-        }
-    }
+    explain_last(alloc, blocks, &mut out)
 }

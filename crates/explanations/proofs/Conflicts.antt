@@ -70,7 +70,10 @@ module _ (j : Job) (i : ℕ) where
 
 -- ---- ranges
 
-module _ (s : State) where
+module _ (j : Job) (i : ℕ) where
+  abbrev s : State
+  s = (running j i).state
+
   same_keys : (namespace : List ℕ) (r : Range) → has_results_in_form r ≡ true → range_holds s namespace r ≡ true → (key : List ℕ) → version_there s namespace r key ≡ version_read r key
   same_keys namespace r in_form holds = (range_by_keys s namespace r (both_true (is_sorted bytes_cmp (results_of r)) (list_all (λ x. is_within r.start r.end x.key) r.results) in_form).0).0 holds
 
@@ -78,12 +81,12 @@ module _ (s : State) where
   nothing_there x some none = absurd (cc (some, ap (λ (o : Option PhantomKey). is_some o) none))
 
   -- nothing is found in a range that holds
-  in_none : (namespace : List ℕ) (r : Range) (x : Option PhantomKey) → has_results_in_form r ≡ true → range_holds s namespace r ≡ true → IsFoundInRange s namespace r x → x ≡ None
+  in_none : (namespace : List ℕ) (r : Range) (x : Option PhantomKey) → has_results_in_form r ≡ true → range_holds s namespace r ≡ true → IsFoundInRange j i namespace r x → x ≡ None
   in_none namespace r None in_form holds found = refl
   in_none namespace r (Some p) in_form holds found = absurd (found.1.differs (same_keys namespace r in_form holds found.0))
 
   in_no_range : (namespace : List ℕ) (ranges : List Range) (x : Option PhantomKey) → list_all has_results_in_form ranges ≡ true → list_all (range_holds s namespace) ranges ≡ true
-      → IsFoundFirst (IsFoundInRange s namespace) ranges x → x ≡ None
+      → IsFoundFirst (IsFoundInRange j i namespace) ranges x → x ≡ None
   in_no_range namespace [] x in_form hold found = found
   in_no_range namespace (r ∷ rs) x in_form hold (inl found) =
       in_none namespace r x (both_true (has_results_in_form r) (list_all has_results_in_form rs) in_form).0 (both_true (range_holds s namespace r) (list_all (range_holds s namespace) rs) hold).0 found.0
@@ -92,9 +95,9 @@ module _ (s : State) where
 
   -- it is the first difference of this range
   abbrev IsOf : List ℕ → Range → Option PhantomKey → Type 0
-  IsOf namespace r x = (p : PhantomKey) × (key : List ℕ) × (x ≡ Some p) × IsFirstDifference (version_there s namespace r) (version_read r) key × (p ≡ phantom_key s namespace r key)
+  IsOf namespace r x = (p : PhantomKey) × (key : List ℕ) × (x ≡ Some p) × IsFirstDifference (version_there s namespace r) (version_read r) key × (p ≡ phantom_key j i namespace r key)
 
-  in_range : (namespace : List ℕ) (ranges : List Range) (x : Option PhantomKey) → list_all has_results_in_form ranges ≡ true → IsFoundFirst (IsFoundInRange s namespace) ranges x
+  in_range : (namespace : List ℕ) (ranges : List Range) (x : Option PhantomKey) → list_all has_results_in_form ranges ≡ true → IsFoundFirst (IsFoundInRange j i namespace) ranges x
       → (r : Range) → find (λ y. not (range_holds s namespace y)) ranges ≡ Some r → (key : List ℕ) → IsFirstDifference (version_there s namespace r) (version_read r) key → IsOf namespace r x
   in_range namespace [] x in_form found r e key first = absurd cc
   in_range namespace (y ∷ ys) x in_form found r e key first =
@@ -103,13 +106,13 @@ module _ (s : State) where
       own : has_results_in_form y ≡ true
       own = (both_true (has_results_in_form y) (list_all has_results_in_form ys) in_form).0
 
-      here : y ≡ r → (x : Option PhantomKey) → IsFoundInRange s namespace y x → IsSome x → IsOf namespace r x
+      here : y ≡ r → (x : Option PhantomKey) → IsFoundInRange j i namespace y x → IsSome x → IsOf namespace r x
       here same None f some = absurd cc
       here same (Some p) f some = subst (λ (z : Range). IsOf namespace z (Some p)) same (p, f.0, refl, f.1, f.2)
 
       by : (b : Bool) → range_holds s namespace y ≡ b → cond (not b) (Some y) (find (λ z. not (range_holds s namespace z)) ys) ≡ Some r
-          → (IsFoundInRange s namespace y x × IsSome x) ⊎ (IsFoundInRange s namespace y None × IsFoundFirst (IsFoundInRange s namespace) ys x)
-          → (IsFoundFirst (IsFoundInRange s namespace) ys x → find (λ z. not (range_holds s namespace z)) ys ≡ Some r → IsOf namespace r x) → IsOf namespace r x
+          → (IsFoundInRange j i namespace y x × IsSome x) ⊎ (IsFoundInRange j i namespace y None × IsFoundFirst (IsFoundInRange j i namespace) ys x)
+          → (IsFoundFirst (IsFoundInRange j i namespace) ys x → find (λ z. not (range_holds s namespace z)) ys ≡ Some r → IsOf namespace r x) → IsOf namespace r x
       by true holds e (inl f) later = absurd (nothing_there x f.1 (in_none namespace y x own holds f.0))
       by true holds e (inr f) later = later f.1 e
       by false fails e (inl f) later = here (some_is y r e) x f.0 f.1
@@ -120,7 +123,7 @@ module _ (s : State) where
   abbrev ranges_in_form : (n : NsSet) → is_set_in_form n ≡ true → list_all has_results_in_form n.ranges ≡ true
   ranges_in_form n h = (both_true _ _ (both_true _ _ h).0).1
 
-  in_sets : (sets : List NsSet) (x : Option PhantomKey) → list_all is_set_in_form sets ≡ true → IsFoundInSets s sets x
+  in_sets : (sets : List NsSet) (x : Option PhantomKey) → list_all is_set_in_form sets ≡ true → IsFoundInSets j i sets x
       → (n : NsSet) → find (λ m. not (is_good (set_verdict s m))) sets ≡ Some n → (r : Range) → find (λ y. not (range_holds s n.name y)) n.ranges ≡ Some r
       → (key : List ℕ) → IsFirstDifference (version_there s n.name r) (version_read r) key → IsOf n.name r x
   in_sets [] x in_form found n e r f key first = absurd cc
@@ -130,20 +133,20 @@ module _ (s : State) where
       own : list_all has_results_in_form m.ranges ≡ true
       own = ranges_in_form m (both_true (is_set_in_form m) (list_all is_set_in_form ms) in_form).0
 
-      in_own : (x : Option PhantomKey) → m ≡ n → IsFoundInSet s m x → IsOf n.name r x
+      in_own : (x : Option PhantomKey) → m ≡ n → IsFoundInSet j i m x → IsOf n.name r x
       in_own x same g =
-          in_range n.name n.ranges x (subst (λ (z : NsSet). list_all has_results_in_form z.ranges ≡ true) same own) (subst (λ (z : NsSet). IsFoundInSet s z x) same g) r f key first
+          in_range n.name n.ranges x (subst (λ (z : NsSet). list_all has_results_in_form z.ranges ≡ true) same own) (subst (λ (z : NsSet). IsFoundInSet j i z x) same g) r f key first
 
       by : (b : Bool) → is_good (set_verdict s m) ≡ b → cond (not b) (Some m) (find (λ z. not (is_good (set_verdict s z))) ms) ≡ Some n
-          → (IsFoundInSet s m x × IsSome x) ⊎ (IsFoundInSet s m None × IsFoundInSets s ms x)
-          → (IsFoundInSets s ms x → find (λ z. not (is_good (set_verdict s z))) ms ≡ Some n → IsOf n.name r x) → IsOf n.name r x
+          → (IsFoundInSet j i m x × IsSome x) ⊎ (IsFoundInSet j i m None × IsFoundInSets j i ms x)
+          → (IsFoundInSets j i ms x → find (λ z. not (is_good (set_verdict s z))) ms ≡ Some n → IsOf n.name r x) → IsOf n.name r x
       by true good e (inl g) later = absurd (nothing_there x g.1 (in_no_range m.name m.ranges x own (all_hold s m good).1 g.0))
       by true good e (inr g) later = later g.1 e
       by false bad e (inl g) later = in_own x (some_is m n e) g.0
       by false bad e (inr g) later = let it = in_own None (some_is m n e) g.0 in absurd (cc it.2)
 
-pub found_phantom : (j : Job) (i : ℕ) (tx : Tx) (x : Option PhantomKey) (y : PhantomKey) → list_all is_set_in_form tx.namespaces ≡ true → IsFoundInSets (running j i).state tx.namespaces x → IsPhantomKey j i tx y
+pub found_phantom : (j : Job) (i : ℕ) (tx : Tx) (x : Option PhantomKey) (y : PhantomKey) → list_all is_set_in_form tx.namespaces ≡ true → IsFoundInSets j i tx.namespaces x → IsPhantomKey j i tx y
     → (p : PhantomKey) × (x ≡ Some p) × IsPhantomKey j i tx p
 found_phantom j i tx x y in_form found is =
-    let it = in_sets (running j i).state tx.namespaces x in_form found is.0 is.3 is.1 is.4 is.2 is.5 in
+    let it = in_sets j i tx.namespaces x in_form found is.0 is.3 is.1 is.4 is.2 is.5 in
     (it.0, it.2, (is.0, is.1, it.1, is.3, is.4, it.3, it.4))

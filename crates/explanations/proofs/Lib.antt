@@ -1,9 +1,12 @@
 mod Bare
 mod Conflicts
 mod Differing
+mod WhoIsMissing
 mod Places
+mod Refusing
 mod Setting
 mod ShownVersions
 mod StateTelling
 mod UpdateTelling
 mod Touching
+mod WideLast

@@ -12,7 +12,6 @@ use Rattle.rules.specs.declared.flag.Flag.TheVariants.{EndorsementPolicyFailure,
 use Rattle.rules.specs.ReadWriteSets.{is_in_form}
 use Rattle.rules.specs.Candidate.{opened}
 use Rattle.rules.specs.Job.{Job, candidate_at}
-use Rattle.rules.specs.Fold.{running}
 use Rattle.rules.specs.Commit.{job_of}
 use Rattle.rules.specs.World.{World}
 use Rattle.rules.proofs.OpenCandidates.{sets_in_form}
@@ -75,7 +74,7 @@ module _ (channel : Configuration) (accepts : Accepts) (w : World) (items : List
         let stale : IsStaleRead j i tx k.0 = said (λ t. IsStaleRead j i t k.0) (why_of (ReadConflict k.0) k.1) in
         ap (option_map ReadConflict) (is ∙ stale_read_is_first j i tx k.0 stale) ∙ ap (λ (x : Reason). Some x) (sym k.1)
 
-    phantom_told : IsOne → flag_of r ≡ PhantomReadConflict → (o : Option PhantomKey) → IsTrue (is_in_form tx) → IsFoundInSets (running j i).state tx.namespaces o → option_map PhantomConflict o ≡ Some r
+    phantom_told : IsOne → flag_of r ≡ PhantomReadConflict → (o : Option PhantomKey) → IsTrue (is_in_form tx) → IsFoundInSets j i tx.namespaces o → option_map PhantomConflict o ≡ Some r
     phantom_told one f o in_form found =
         let k = of_flag r PhantomReadConflict f in
         let phantom : IsPhantomKey j i tx k.0 = said (λ t. IsPhantomKey j i t k.0) (why_of (PhantomConflict k.0) k.1) in
@@ -98,8 +97,8 @@ module _ (j : Job) (i : ℕ) where
       read_told channel accepts w items i r reason tx signers (subst (λ (k : Job). candidate_at k i ≡ opened tx signers) same opens) f o
       (subst (λ (k : Job). o ≡ first_there (map (stale_in k i) tx.namespaces)) same is)
 
-  pub tells_phantom : IsOne → (tx : Tx) (signers : List Identity) → candidate_at j i ≡ opened tx signers → IsTrue (is_in_form tx) → (o : Option PhantomKey) → IsFoundInSets (running j i).state tx.namespaces o
+  pub tells_phantom : IsOne → (tx : Tx) (signers : List Identity) → candidate_at j i ≡ opened tx signers → IsTrue (is_in_form tx) → (o : Option PhantomKey) → IsFoundInSets j i tx.namespaces o
       → IsTheReason j i PhantomReadConflict (option_map PhantomConflict o)
   tells_phantom one tx signers opens in_form o found channel accepts w items r same f reason =
       phantom_told channel accepts w items i r reason tx signers (subst (λ (k : Job). candidate_at k i ≡ opened tx signers) same opens) one f o in_form
-      (subst (λ (k : Job). IsFoundInSets (running k i).state tx.namespaces o) same found)
+      (subst (λ (k : Job). IsFoundInSets k i tx.namespaces o) same found)

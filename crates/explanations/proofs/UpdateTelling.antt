@@ -13,6 +13,7 @@ use Rattle.rules.specs.Commit.{channel_in}
 use Rattle.rules.proofs.Booleans.{both_true}
 use Rattle.reasons.specs.declared.reason.Reason.TheVariants.{NoFault, InvalidUpdate}
 use Rattle.reasons.specs.declared.update_fault.UpdateFault.TheVariants.{AdminUnsatisfied}
+use Rattle.reasons.specs.Shortfall.{shortfall_of}
 use Rattle.reasons.specs.Update.{unsigned_fault}
 use Rattle.reasons.proofs.Updates.{none_is, none_if_may}
 use Rattle.explanations.specs.Told.{IsTheReason}
@@ -33,12 +34,12 @@ module _ (j : Job) (i : ℕ) (u : Update) (ss : List Identity) (opens : candidat
   pub tells_made : endorsed j i ≡ true → IsTheReason j i (flag j i) (Some NoFault)
   tells_made passes channel accepts w items r same f reason = no_fault r (flag j i) f (ap is_valid (by_endorsement true passes))
 
-  pub tells_refused : IsOne → endorsed j i ≡ false → (policy : Tree) → j.admin ≡ Some policy → IsTheReason j i (flag j i) (Some (InvalidUpdate (AdminUnsatisfied policy ss)))
+  pub tells_refused : IsOne → endorsed j i ≡ false → (policy : Tree) → j.admin ≡ Some policy → IsTheReason j i (flag j i) (Some (InvalidUpdate (AdminUnsatisfied (shortfall_of u.endorsements ss policy))))
   tells_refused one fails policy admin channel accepts w items r same f reason =
       let at = update_at channel accepts w items i u ss (subst (λ (k : Job). candidate_at k i ≡ updates u ss) same opens) in
       let none : unsigned_fault (channel_in channel w) (length items == 1) u ≡ None = none_is (unsigned_fault (channel_in channel w) (length items == 1) u) (none_if_may (channel_in channel w) (length items == 1) u ∙ at.2) in
       let own : channel.admin ≡ Some policy = sym (ap (λ (k : Job). k.admin) same) ∙ admin in
-      same_reason channel accepts w items i r reason one (InvalidUpdate (AdminUnsatisfied policy ss)) (f ∙ by_endorsement false fails) (u, at.0, (none, own, at.1))
+      same_reason channel accepts w items i r reason one (InvalidUpdate (AdminUnsatisfied (shortfall_of u.endorsements ss policy))) (f ∙ by_endorsement false fails) (u, at.0, (none, own, ap (λ (is : List Identity). shortfall_of u.endorsements is policy) at.1))
 
   pub tells_no_admin : j.admin ≡ None → IsTheReason j i (flag j i) None
   tells_no_admin none channel accepts w items r same f reason =

@@ -2,7 +2,6 @@
 use Rattle.std.specs.Prelude.{◌≡◌, ◌⊎◌, ℕ, List, [], ◌∷◌, Option, Some, None, IsSome, find, not, option_map}
 use Rattle.transaction.specs.declared.transaction.Range.{Range}
 use Rattle.transaction.specs.declared.transaction.NsSet.{NsSet}
-use Rattle.rules.specs.State.{State}
 use Rattle.rules.specs.Reads.{read_holds}
 use Rattle.rules.specs.Job.{Job}
 use Rattle.rules.specs.Fold.{running}
@@ -21,13 +20,13 @@ IsFoundFirst Found [] x = x ≡ None
 IsFoundFirst Found (a ∷ rest) x = (Found a x × IsSome x) ⊎ (Found a None × IsFoundFirst Found rest x)
 
 -- a range has its first key that differs, or nothing where none does
-abbrev pub IsFoundInRange : State → List ℕ → Range → Option PhantomKey → Type 0
-IsFoundInRange s namespace r None = (key : List ℕ) → version_there s namespace r key ≡ version_read r key
-IsFoundInRange s namespace r (Some x) =
-    (key : List ℕ) × IsFirstDifference (version_there s namespace r) (version_read r) key × (x ≡ phantom_key s namespace r key)
+abbrev pub IsFoundInRange : Job → ℕ → List ℕ → Range → Option PhantomKey → Type 0
+IsFoundInRange j i namespace r None = (key : List ℕ) → version_there (running j i).state namespace r key ≡ version_read r key
+IsFoundInRange j i namespace r (Some x) =
+    (key : List ℕ) × IsFirstDifference (version_there (running j i).state namespace r) (version_read r) key × (x ≡ phantom_key j i namespace r key)
 
-abbrev pub IsFoundInSet : State → NsSet → Option PhantomKey → Type 0
-IsFoundInSet s n x = IsFoundFirst (IsFoundInRange s n.name) n.ranges x
+abbrev pub IsFoundInSet : Job → ℕ → NsSet → Option PhantomKey → Type 0
+IsFoundInSet j i n x = IsFoundFirst (IsFoundInRange j i n.name) n.ranges x
 
-abbrev pub IsFoundInSets : State → List NsSet → Option PhantomKey → Type 0
-IsFoundInSets s sets x = IsFoundFirst (IsFoundInSet s) sets x
+abbrev pub IsFoundInSets : Job → ℕ → List NsSet → Option PhantomKey → Type 0
+IsFoundInSets j i sets x = IsFoundFirst (IsFoundInSet j i) sets x

@@ -6,10 +6,11 @@ ghost use Rattle.rules.specs.Endorsement as rule;
 ghost use Rattle.reasons.specs.declared.endorsement_fault.EndorsementFault as fault_of;
 ghost use Rattle.reasons.specs.declared.endorsement_fault.EndorsementFault.TheVariants.{Touched, Unsatisfied};
 ghost use Rattle.reasons.specs.First.{first_below};
+ghost use Rattle.reasons.specs.Shortfall.{shortfall_of};
 ghost use Rattle.reasons.specs.Endorsement.{touches, first_barred, IsEndorsementFault};
 ghost use Rattle.key_chains.specs.Shown.{Shows};
 
-use crate::signer_copies::copied;
+use crate::shortfalls::shortfall;
 use crate::touchers::first_toucher;
 use endorsement_check::{governing, meets, own_policy};
 use key_chains::{Job, PlainBoard, StateKey};
@@ -17,7 +18,7 @@ use policy::Policy;
 use policy_eval::Signers;
 use reasons::{EndorsementFault, PolicyOwner, touched_keys_have_a_toucher};
 use std::alloc::{AllocError, Global};
-use transaction::Tx;
+use transaction::{Endorsement, Tx};
 use transaction_reasons::written_keys;
 use values::NameRef;
 
@@ -94,41 +95,46 @@ fn unsatisfied(
     key: &StateKey<'_>,
     owner: PolicyOwner,
     policy: &Policy,
+    endorsements: &[Endorsement<'_>],
     signers: &Signers<'_>,
 ) -> Result<Option<EndorsementFault>, AllocError>
-    ensures { IfOk result (λ fault. fault ≡ Some (Unsatisfied key.now.0 key.now.1 owner policy.now signers.now)) }
+    ensures { IfOk result (λ fault. fault ≡ Some (Unsatisfied key.now.0 key.now.1 owner (shortfall_of endorsements.now signers.now policy.now))) }
 {
     Ok(Some(EndorsementFault::Unsatisfied {
         namespace: key.namespace().copy(alloc)?,
         key: key.key().copy(alloc)?,
         owner,
-        policy: policy.copy(alloc)?,
-        signers: copied(alloc, signers)?,
+        shortfall: shortfall(alloc, policy, endorsements, signers)?,
     }))
 }
 
-/// Why the signers may not write a key, the first that they may not.
+/// Why the signers of these endorsements may not write a key, the first that they may not.
 fn key_fault(
     alloc: Global,
     job: &Job<'_>,
     i: u32,
+    endorsements: &[Endorsement<'_>],
     signers: &Signers<'_>,
     barred: &BarredKey<'_>,
 ) -> Result<Option<EndorsementFault>, AllocError>
     requires { barred.now.toucher ≡ first_below (touches job.now barred.now.key) i }
-    ensures found { IfOk result (λ x. (tx : tx_of.Tx) → first_barred job.now i tx signers.now ≡ Some barred.now.key → IfSome x (λ f. IsEndorsementFault job.now i tx signers.now f)) }
-    ensures none { IfOk result (λ x. x ≡ None → (tx : tx_of.Tx) (f : fault_of.EndorsementFault) → first_barred job.now i tx signers.now ≡ Some barred.now.key → IsEndorsementFault job.now i tx signers.now f → ⊥) }
+    ensures found { IfOk result (λ x. (tx : tx_of.Tx) → tx.endorsements ≡ endorsements.now → first_barred job.now i tx signers.now ≡ Some barred.now.key → IfSome x (λ f. IsEndorsementFault job.now i tx signers.now f)) }
+    ensures none { IfOk result (λ x. x ≡ None → (tx : tx_of.Tx) (f : fault_of.EndorsementFault) → tx.endorsements ≡ endorsements.now → first_barred job.now i tx signers.now ≡ Some barred.now.key → IsEndorsementFault job.now i tx signers.now f → ⊥) }
 {
     let key = &barred.key;
     if let Some(place) = barred.toucher {
         return touched(alloc, key, place);
     }
     if let Some(policy) = own_policy(job, key) {
-        return unsatisfied(alloc, key, PolicyOwner::OfKey, policy, signers);
+        let owner = PolicyOwner::OfKey;
+        return unsatisfied(alloc, key, owner, policy, endorsements, signers);
     }
     match job.definition(&key.namespace()) {
         None => Ok(None),
-        Some(policy) => unsatisfied(alloc, key, PolicyOwner::OfChaincode, policy, signers),
+        Some(policy) => {
+            let owner = PolicyOwner::OfChaincode;
+            unsatisfied(alloc, key, owner, policy, endorsements, signers)
+        }
     }
 }
 
@@ -137,17 +143,17 @@ fn chaincode_fault(
     alloc: Global,
     job: &Job<'_>,
     chaincode: &NameRef<'_>,
+    endorsements: &[Endorsement<'_>],
     signers: &Signers<'_>,
 ) -> Result<Option<EndorsementFault>, AllocError>
-    ensures found { IfOk result (λ x. (i : _) (tx : tx_of.Tx) → tx.chaincode ≡ chaincode.now → first_barred job.now i tx signers.now ≡ None → IfSome x (λ f. IsEndorsementFault job.now i tx signers.now f)) }
-    ensures none { IfOk result (λ x. x ≡ None → (i : _) (tx : tx_of.Tx) (f : fault_of.EndorsementFault) → tx.chaincode ≡ chaincode.now → first_barred job.now i tx signers.now ≡ None → IsEndorsementFault job.now i tx signers.now f → ⊥) }
+    ensures found { IfOk result (λ x. (i : _) (tx : tx_of.Tx) → tx.chaincode ≡ chaincode.now → tx.endorsements ≡ endorsements.now → first_barred job.now i tx signers.now ≡ None → IfSome x (λ f. IsEndorsementFault job.now i tx signers.now f)) }
+    ensures none { IfOk result (λ x. x ≡ None → (i : _) (tx : tx_of.Tx) (f : fault_of.EndorsementFault) → tx.chaincode ≡ chaincode.now → tx.endorsements ≡ endorsements.now → first_barred job.now i tx signers.now ≡ None → IsEndorsementFault job.now i tx signers.now f → ⊥) }
 {
     match job.definition(chaincode) {
         None => Ok(None),
         Some(policy) => Ok(Some(EndorsementFault::ChaincodeUnsatisfied {
             chaincode: chaincode.copy(alloc)?,
-            policy: policy.copy(alloc)?,
-            signers: copied(alloc, signers)?,
+            shortfall: shortfall(alloc, policy, endorsements, signers)?,
         })),
     }
 }
@@ -167,8 +173,9 @@ pub(crate) fn endorsement_fault(
     ensures none { IfOk result (λ x. x ≡ None → (f : fault_of.EndorsementFault) → IsEndorsementFault job.now i tx.now signers.now f → ⊥) }
 {
     let keys = written_keys(alloc, tx)?;
+    let endorsements = tx.endorsements.as_slice();
     match first_barred(job, i, signers, keys.as_slice(), board) {
-        Some(barred) => key_fault(alloc, job, i, signers, &barred),
-        None => chaincode_fault(alloc, job, &tx.chaincode, signers),
+        Some(barred) => key_fault(alloc, job, i, endorsements, signers, &barred),
+        None => chaincode_fault(alloc, job, &tx.chaincode, endorsements, signers),
     }
 }

@@ -2,9 +2,11 @@
 #![tactic(auto)]
 
 mod endorsement;
+mod identity_copies;
+mod missing;
 mod phantoms;
 mod place_reason;
-mod signer_copies;
+mod shortfalls;
 mod stale_reads;
 mod state_reasons;
 mod touchers;

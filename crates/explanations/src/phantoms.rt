@@ -11,6 +11,7 @@ ghost use Rattle.explanations.specs.Differences.{differs_at, is_ahead, least_whe
 ghost use Rattle.explanations.specs.Found.{IsFoundInRange, IsFoundFirst, IsFoundInSet, IsFoundInSets};
 
 use crate::versions::version_at;
+use crate::writers::last_writer;
 use key_chains::{Job, PlainBoard, StateKey};
 use mvcc::{compared_keys, is_compared, version_found};
 use reasons::PhantomKey;
@@ -99,6 +100,34 @@ fn add_results<'a>(keys: &mut Vec<KeyRef<'a>>, results: &[KeyVersion<'a>]) -> Re
     Ok(())
 }
 
+/// A key of a range as it was read and as it is there.
+fn phantom_key(
+    alloc: Global,
+    job: &Job<'_>,
+    i: u32,
+    namespace: &NameRef<'_>,
+    range: &Range<'_>,
+    key: &KeyRef<'_>,
+    board: &mut PlainBoard,
+) -> Result<PhantomKey, AllocError>
+    requires place { i ≤ length job.now.candidates }
+    requires shown { Shows job.now board.old }
+    requires in_form { IsTrue (has_results_in_form range.now) }
+    ensures value { IfOk result (λ x. x ≡ spec.phantom_key job.now i namespace.now range.now key.now) }
+    ensures board { board.new ≡ board.old }
+{
+    let state_key = StateKey::new(namespace, key);
+    let is_there = version_at(job, i, &state_key, board).is_some();
+    Ok(PhantomKey {
+        range: queried_range(alloc, namespace, range)?,
+        exhausted: range.exhausted,
+        key: key.copy(alloc)?,
+        read: version_found(range, key),
+        there: version_there(job, i, namespace, range, key, board),
+        writer: last_writer(job, i, &state_key, is_there, board),
+    })
+}
+
 /// The first key of a range where what is there and what was read differ. Looks at the results, the rows before the
 /// block in the compared part, and the keys in the range's bounds that the block writes.
 fn range_conflict<'a>(
@@ -112,7 +141,7 @@ fn range_conflict<'a>(
     requires place { i ≤ length job.now.candidates }
     requires shown { Shows job.now board.old }
     requires in_form { IsTrue (has_results_in_form range.now) }
-    ensures value { IfOk result (λ x. IsFoundInRange (running job.entry.now i).state namespace.now range.now x) }
+    ensures value { IfOk result (λ x. IsFoundInRange job.entry.now i namespace.now range.now x) }
     ensures board { board.new ≡ board.old }
 {
     let mut keys = compared_keys(alloc, job, namespace, range)?;
@@ -120,12 +149,7 @@ fn range_conflict<'a>(
     let Some(key) = least_difference(job, i, namespace, range, keys.as_slice(), board) else {
         return Ok(None);
     };
-    Ok(Some(PhantomKey {
-        range: queried_range(alloc, namespace, range)?,
-        key: key.copy(alloc)?,
-        read: version_found(range, &key),
-        there: version_there(job, i, namespace, range, &key, board),
-    }))
+    Ok(Some(phantom_key(alloc, job, i, namespace, range, &key, board)?))
 }
 
 fn ranges_conflict<'a>(
@@ -139,7 +163,7 @@ fn ranges_conflict<'a>(
     requires place { i ≤ length job.now.candidates }
     requires shown { Shows job.now board.old }
     requires in_form { IsTrue (list_all has_results_in_form ranges.now) }
-    ensures value { IfOk result (λ x. IsFoundFirst (IsFoundInRange (running job.entry.now i).state namespace.now) ranges.now x) }
+    ensures value { IfOk result (λ x. IsFoundFirst (IsFoundInRange job.entry.now i namespace.now) ranges.now x) }
     ensures board { board.new ≡ board.old }
 {
     for range in ranges {
@@ -161,7 +185,7 @@ pub(crate) fn phantom_conflict<'a>(
     requires place { i ≤ length job.now.candidates }
     requires shown { Shows job.now board.old }
     requires in_form { IsTrue (list_all is_set_in_form sets.now) }
-    ensures value { IfOk result (λ x. IsFoundInSets (running job.entry.now i).state sets.now x) }
+    ensures value { IfOk result (λ x. IsFoundInSets job.entry.now i sets.now x) }
     ensures board { board.new ≡ board.old }
 {
     for set in sets {

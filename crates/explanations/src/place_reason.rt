@@ -6,6 +6,7 @@ ghost use Rattle.transaction.specs.Items.{item_of};
 ghost use Rattle.policy_eval.specs.Accepts.{Accepts};
 ghost use Rattle.rules.specs.Candidate.{used_id};
 ghost use Rattle.rules.specs.Commit.{job_of};
+ghost use Rattle.rules.specs.Fold as fold;
 ghost use Rattle.reasons.specs.declared.reason.Reason as reason_spec;
 ghost use Rattle.reasons.specs.Reason.{item_at, IsReason};
 ghost use Rattle.key_chains.specs.Shown.{Shows};
@@ -16,13 +17,14 @@ use candidates::Candidate;
 use channel::Configuration;
 use key_chains::{Job, PlainBoard};
 use reasons::Reason;
+use rules::Flag;
 use std::alloc::{AllocError, Global};
 use transaction::{BlockVersion, TxId};
 use transaction_reasons::reason_in_bytes;
 use world::World;
 
-/// Why place i of a block has its flag: of its job over this world, the ids that its items use, its version, the bytes of the
-/// place, and all verdicts. Where these are a block's there is a reason, and it is this one; a place that is valid costs
+/// Why place i of a block has its flag: of its job over this world, the ids that its items use, its flags, its version, the bytes of
+/// the place, and all verdicts. Where these are a block's there is a reason, and it is this one; a place that is valid costs
 /// nothing.
 ///
 /// What was flagged before the rules on the state is decoded again. The signers of a transaction are asked again for each key
@@ -35,6 +37,7 @@ pub fn reason_of(
     world: &World,
     job: &Job<'_>,
     ids: &[Option<TxId>],
+    flags: &[Flag],
     i: u32,
     version: BlockVersion,
     bytes: &[u8],
@@ -42,6 +45,7 @@ pub fn reason_of(
 ) -> Result<Option<Reason>, AllocError>
     requires place { i < length job.now.candidates }
     requires ids { length ids.now ≡ length job.now.candidates }
+    requires flags { flags.now ≡ fold.flags job.now }
     requires few { length ids.now ≤ max_txs }
     requires shown { Shows job.now board.old }
     ensures value { IfOk result (λ x. (accepts : Accepts) (items : List (Option Item)) (r : reason_spec.Reason) → job.now ≡ job_of channel.now accepts world.now items
@@ -50,7 +54,7 @@ pub fn reason_of(
 {
     match job.candidate(i) {
         Candidate::Flagged(flag) => {
-            reason_in_bytes(alloc, channel, world, ids, i, *flag, version, bytes)
+            reason_in_bytes(alloc, channel, world, ids, flags, i, *flag, version, bytes)
         }
         Candidate::Opened(open_tx) => state_reason(alloc, job, i, open_tx, board),
         Candidate::Updates(open_update) => update_reason(alloc, job, i, open_update, board),

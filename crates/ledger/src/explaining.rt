@@ -3,6 +3,7 @@ ghost use Rattle.std.specs.Prelude.{◌≡◌, ◌≤◌, length, map, Ok, Some,
 ghost use Rattle.block.specs.Limits.{max_txs};
 ghost use Rattle.transaction.specs.Items.{item_of};
 ghost use Rattle.rules.specs.declared.answer.Refused.TheVariants.{Memory};
+ghost use Rattle.rules.specs.Fold as fold;
 ghost use Rattle.rules.specs.Names.{HasNamesOf};
 ghost use Rattle.rules.specs.Linked.{IsRefused};
 ghost use Rattle.key_chains.specs.Shown.{Shows};
@@ -15,14 +16,14 @@ use explanations::reason_of;
 use key_chains::{Job, PlainBoard};
 use policy_eval::Verify;
 use reasons::{Reason, each_place_has_one_reason};
-use rules::Refused;
+use rules::{Flag, Refused};
 use serial_checks::verdicts;
 use std::alloc::{AllocError, Global};
 use transaction::{BlockVersion, TxId};
 use values::{Items, Slice};
 use world::World;
 
-/// The reason of each place of a block of this version, of its job, its ids and all verdicts; none where one has none, which
+/// The reason of each place of a block of this version, of its job, its ids, its flags and all verdicts; none where one has none, which
 /// doesn't happen.
 fn all_reasons(
     alloc: Global,
@@ -32,10 +33,12 @@ fn all_reasons(
     txs: &[Slice<'_>],
     job: &Job<'_>,
     ids: &[Option<TxId>],
+    flags: &[Flag],
     board: &mut PlainBoard,
 ) -> Result<Option<Items<Reason>>, AllocError>
     requires count { length txs.now ≡ length job.now.candidates }
     requires ids { length ids.now ≡ length job.now.candidates }
+    requires flags { flags.now ≡ fold.flags job.now }
     requires few { length ids.now ≤ max_txs }
     requires shown { Shows job.now board.old }
     ensures { IfOk result (λ reasons. AreFound channel.now world.now (map (item_of version) txs.now) job.now ids.now reasons) }
@@ -50,6 +53,7 @@ fn all_reasons(
             world,
             job,
             ids,
+            flags,
             place,
             version,
             bytes.as_slice(),
@@ -78,8 +82,18 @@ fn found_reasons(
     requires few { length ids.now ≤ max_txs }
     ensures { IfOk result (λ reasons. AreFound channel.now world.now (map (item_of version) txs.now) job.now ids.now reasons) }
 {
-    let (mut board, _flags) = verdicts(alloc, job)?;
-    all_reasons(alloc, channel, world, version, txs, job, ids, &mut board)
+    let (mut board, flags) = verdicts(alloc, job)?;
+    all_reasons(
+        alloc,
+        channel,
+        world,
+        version,
+        txs,
+        job,
+        ids,
+        flags.as_slice(),
+        &mut board,
+    )
 }
 
 /// Reasons of which it is known that they are there.

@@ -5,38 +5,149 @@ use crate::inputs::{Configuration, Inputs};
 use crate::progress::Progress;
 use crate::question::hand_in;
 use crate::status::REFUSED;
-use answer_lines::{Refusal, write_block, write_reason, write_refused};
-use block::{Header, decode_block};
-use command_words::Explain;
+use answer_lines::{Refusal, write_block, write_earlier, write_reason, write_refused};
+use block::{Block, decode_block};
+use block_steps::{decoded_item, origin_of};
+use command_words::{Explain, Explained, WordFault, id_of};
 use header_hash::header_hash;
 use key_book::KeyBook;
 use ledger::Ledger;
 use reasons::Reason;
 use rules::Refused;
-use std::alloc::Global;
+use std::alloc::{AllocError, Global};
 use std::io::{BufWriter, Write};
+use transaction::{BlockVersion, TxId};
+use world::World;
 
-// The lines of a block with these reasons, or of one place of it.
+// What is asked of the last block.
+#[derive(Clone, Copy)]
+struct Wanted<'a> {
+    explained: Explained<'a>,
+    /// What its word spells, where an id is asked for.
+    id: Option<TxId>,
+    /// Whether lines end with the id.
+    ids: bool,
+}
+
+impl<'a> Wanted<'a> {
+    // Looks at the word of the id.
+    fn of(alloc: Global, words: &Explain<'a>) -> Result<Wanted<'a>, WordFault> {
+        let id = match words.explained {
+            Explained::Id(word) => Some(id_of(alloc, word)?),
+            Explained::All | Explained::Place(_) => None,
+        };
+        Ok(Wanted {
+            explained: words.explained,
+            id,
+            ids: words.ids,
+        })
+    }
+
+    // Whether it asks for the transaction at this place, which has this id.
+    fn asks_for(&self, place: usize, id: &Option<TxId>) -> bool {
+        match self.explained {
+            Explained::All => true,
+            Explained::Place(asked) => place == usize::from(asked),
+            Explained::Id(_) => id.is_some() && *id == self.id,
+        }
+    }
+}
+
+// The id at a place, none where its bytes spell no item.
+fn id_in(alloc: Global, version: BlockVersion, bytes: &[u8]) -> Result<Option<TxId>, AllocError> {
+    match decoded_item(alloc, version, bytes)? {
+        Some(item) => Ok(Some(*origin_of(item.item()).id)),
+        None => Ok(None),
+    }
+}
+
+// The ids of all places, or nothing where the wanted asks for none.
+fn ids_of(
+    alloc: Global,
+    block: &Block<'_>,
+    wanted: &Wanted<'_>,
+) -> Result<Vec<Option<TxId>>, AllocError> {
+    let mut ids = Vec::new(alloc);
+    if wanted.ids || wanted.id.is_some() {
+        for bytes in block.txs.as_slice() {
+            ids.push(id_in(alloc, block.version, bytes.as_slice())?)?;
+        }
+    }
+    Ok(ids)
+}
+
+fn id_at(ids: &[Option<TxId>], place: usize) -> Option<TxId> {
+    *ids.get(place)?
+}
+
+// The lines of the places that are asked for.
+fn write_places<'a, W: Write>(
+    alloc: Global,
+    out: &mut W,
+    number: u64,
+    reasons: &[Reason],
+    ids: &[Option<TxId>],
+    wanted: &Wanted<'_>,
+) -> Result<(), Fault<'a>> {
+    for (place, reason) in reasons.iter().enumerate() {
+        let id = id_at(ids, place);
+        if wanted.asks_for(place, &id) {
+            let shown = if wanted.ids { id.as_ref() } else { None };
+            write_reason(alloc, out, number, place, reason, shown)?;
+        }
+    }
+    Ok(())
+}
+
+fn has_place(reasons: &[Reason], ids: &[Option<TxId>], wanted: &Wanted<'_>) -> bool {
+    for place in 0..reasons.len() {
+        if wanted.asks_for(place, &id_at(ids, place)) {
+            return true;
+        }
+    }
+    false
+}
+
+// Where no place is asked for that the block has: the block before it that has the id.
+fn write_other<'a, W: Write>(
+    out: &mut W,
+    world: &World,
+    block: &Block<'_>,
+    wanted: &Wanted<'a>,
+) -> Result<(), Fault<'a>> {
+    let first = match &wanted.id {
+        Some(id) => world.first_use(id),
+        None => None,
+    };
+    match (wanted.explained, first) {
+        (Explained::Place(place), _) => Err(Fault::NoTransaction(place)),
+        (Explained::Id(word), None) => Err(Fault::UnknownId(word)),
+        (_, first) => {
+            write_block(out, block.header.number, &header_hash(&block.header))?;
+            if let Some(first) = first {
+                write_earlier(out, &first)?;
+            }
+            Ok(())
+        }
+    }
+}
+
+// The lines of a block with these reasons.
 fn write_reasons<'a, W: Write>(
     alloc: Global,
     out: &mut W,
-    header: &Header,
+    world: &World,
+    block: &Block<'_>,
     reasons: &[Reason],
-    tx: Option<u16>,
+    wanted: &Wanted<'a>,
 ) -> Result<(), Fault<'a>> {
-    if let Some(tx) = tx {
-        let place = usize::from(tx);
-        if place >= reasons.len() {
-            return Err(Fault::NoTransaction(tx));
-        }
-        write_block(out, header.number, &header_hash(header))?;
-        return Ok(write_reason(alloc, out, header.number, place, &reasons[place])?);
+    let ids = ids_of(alloc, block, wanted)?;
+    if !has_place(reasons, ids.as_slice(), wanted) {
+        return write_other(out, world, block, wanted);
     }
+    let header = &block.header;
     write_block(out, header.number, &header_hash(header))?;
-    for (place, reason) in reasons.iter().enumerate() {
-        write_reason(alloc, out, header.number, place, reason)?;
-    }
-    Ok(())
+    write_places(alloc, out, header.number, reasons, ids.as_slice(), wanted)
 }
 
 fn write_no_reasons<'a, W: Write>(
@@ -56,7 +167,7 @@ fn write_lines<'a, W: Write>(
     keys: &KeyBook,
     bytes: &[u8],
     place: usize,
-    tx: Option<u16>,
+    wanted: &Wanted<'a>,
     status: u8,
 ) -> Result<u8, Fault<'a>> {
     let block = match decode_block(alloc, bytes) {
@@ -65,7 +176,14 @@ fn write_lines<'a, W: Write>(
     };
     match ledger.explain(bytes, keys) {
         Ok(reasons) => {
-            write_reasons(alloc, out, &block.header, reasons.as_slice(), tx)?;
+            write_reasons(
+                alloc,
+                out,
+                ledger.view(),
+                &block,
+                reasons.as_slice(),
+                wanted,
+            )?;
             Ok(status)
         }
         Err(refused) => write_no_reasons(out, place, refused),
@@ -76,7 +194,7 @@ fn write_lines<'a, W: Write>(
 fn explain_last<'a, W: Write, P: Progress>(
     alloc: Global,
     inputs: Inputs,
-    tx: Option<u16>,
+    wanted: &Wanted<'a>,
     out: &mut W,
     progress: &mut P,
 ) -> Result<u8, Fault<'a>> {
@@ -99,7 +217,7 @@ fn explain_last<'a, W: Write, P: Progress>(
         &keys,
         last.as_slice(),
         place,
-        tx,
+        wanted,
         status,
     )
 }
@@ -113,8 +231,9 @@ pub fn print_reasons<'a, F: Files, W: Write, P: Progress>(
     out: &mut W,
     progress: &mut P,
 ) -> Result<u8, Fault<'a>> {
+    let wanted = Wanted::of(alloc, words)?;
     let inputs = Inputs::read(alloc, files, &words.paths)?;
     let mut lines = BufWriter::new(alloc, out)?;
-    let ended = explain_last(alloc, inputs, words.tx, &mut lines, progress);
+    let ended = explain_last(alloc, inputs, &wanted, &mut lines, progress);
     finish(lines, ended)
 }

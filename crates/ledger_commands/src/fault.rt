@@ -43,6 +43,9 @@ pub enum Fault<'a> {
     /// The block that is explained has no transaction at this place.
     #[error("no transaction {0}")]
     NoTransaction(u16),
+    /// Neither the block that is explained nor one before it has a transaction whose id this word spells.
+    #[error("no transaction {0}")]
+    UnknownId(&'a str),
     #[error("cannot write standard output")]
     Output,
     #[error("out of memory")]
@@ -53,7 +56,7 @@ impl<'a> Fault<'a> {
     /// What the process ends with.
     pub fn status(&self) -> u8 {
         match self {
-            Fault::Word | Fault::NoTransaction(_) => USAGE,
+            Fault::Word | Fault::NoTransaction(_) | Fault::UnknownId(_) => USAGE,
             Fault::Memory => MEMORY,
             _ => FILE_FAULT,
         }

@@ -9,7 +9,7 @@ use Rattle.rules.specs.declared.read_verdict.ReadVerdict.TheVariants.{Good, Stal
 use Rattle.std.specs.FinMap.{get}
 use Rattle.transaction.specs.declared.transaction.Version.{Version}
 use Rattle.rules.specs.State.{StateKey, State, version_in}
-use Rattle.rules.specs.Ranges.{versions_now, results_of, range_holds}
+use Rattle.rules.specs.Ranges.{is_compared, versions_now, results_of, range_holds}
 use Rattle.rules.specs.ReadWriteSets.{are_distinct, has_results_in_form, has_policy_in_form, is_set_in_form, is_in_form}
 use Rattle.rules.specs.Reads.{read_holds, set_verdict, or_next, first_fault, read_verdict}
 use Rattle.rules.specs.Job.{Job, version_of}
@@ -70,7 +70,7 @@ module _ (j : Job) (i : ℕ) (tx : Tx) where
 
   phantom_key_of : (n : NsSet) (r : Range) (key : List ℕ) → first_faulty (running j i).state tx ≡ Some n → find (λ y. not (range_holds (running j i).state n.name y)) n.ranges ≡ Some r
       → IsFirstDifference (version_there (running j i).state n.name r) (version_read r) key → (x : PhantomKey) × IsPhantomKey j i tx x
-  phantom_key_of n r key faulty fails first = (phantom_key (running j i).state n.name r key, (n, r, key, faulty, fails, first, refl))
+  phantom_key_of n r key faulty fails first = (phantom_key j i n.name r key, (n, r, key, faulty, fails, first, refl))
 
   pub phantom_key_if : is_in_form tx ≡ true → read_verdict (running j i).state tx ≡ Phantom → (x : PhantomKey) × IsPhantomKey j i tx x
   phantom_key_if in_form e =
@@ -101,7 +101,7 @@ module _ (j : Job) (i : ℕ) (tx : Tx) where
       let first = subst (λ (m : NsSet). IsFirstDifference (version_there s m.name x.1) (version_read x.1) y.2) (sym set)
       (subst (λ (r : Range). IsFirstDifference (version_there s y.0.name r) (version_read r) y.2) (sym range) y.5) in
       let key : x.2 ≡ y.2 = one_first_difference (version_there s x.0.name x.1) (version_read x.1) x.2 y.2 x.5 first in
-      x.6 ∙ (λ t. phantom_key s (set t).name (range t) (key t)) ∙ sym y.6
+      x.6 ∙ (λ t. phantom_key j i (set t).name (range t) (key t)) ∙ sym y.6
 
   -- ---- the writer
 
@@ -122,3 +122,33 @@ module _ (j : Job) (i : ℕ) (tx : Tx) where
 
   pub stale_read_comes_after : (x : StaleRead) (h : ℕ) → IsStaleRead j i tx x → x.writer ≡ Some h → h < i
   stale_read_comes_after x h y e = last_below-lt (writes_row j (y.0.name, y.1.key)) i h (sym (ap (λ (z : StaleRead). z.writer) y.4) ∙ e)
+
+  -- ---- the writer of a key of a range
+
+  -- what is said of the version of a key is so where the key lies outside what is compared, which has none
+  where_compared : (P : Version → Type 0) (b : Bool) (v : Option Version) → IfSome v P → IfSome (cond b v None) P
+  where_compared P true v h = h
+  where_compared P false v h = tt
+
+  pub phantom_is_left : (x : PhantomKey) (h : ℕ) → IsPhantomKey j i tx x → x.writer ≡ Some h → IfSome x.there (λ v. v ≡ version_of j h)
+  phantom_is_left x h y e =
+      let k : StateKey = (y.0.name, y.2) in
+      let writer : last_below (writes_row j k) i ≡ Some h = sym (ap (λ (z : PhantomKey). z.writer) y.6) ∙ e in
+      subst (λ (v : Option Version). IfSome v (λ z. z ≡ version_of j h)) (sym (ap (λ (z : PhantomKey). z.there) y.6))
+      (where_compared (λ z. z ≡ version_of j h) (is_compared y.1 y.2) (version_in (running j i).state k)
+      (written_version j k (last_below (writes_row j k) i) (get (running j i).state k) h (left_by j k i) writer))
+
+  was_there : (k : StateKey) (v : Option Version) → v ≡ version_in j.state k → IfSome v (λ z. version_in j.state k ≡ Some z)
+  was_there k None e = tt
+  was_there k (Some z) e = sym e
+
+  pub phantom_is_old : (x : PhantomKey) → IsPhantomKey j i tx x → x.writer ≡ None → IfSome x.there (λ v. version_in j.state (x.range.namespace, x.key) ≡ Some v)
+  phantom_is_old x y e =
+      let k : StateKey = (y.0.name, y.2) in
+      let writer : last_below (writes_row j k) i ≡ None = sym (ap (λ (z : PhantomKey). z.writer) y.6) ∙ e in
+      subst (λ (z : PhantomKey). IfSome z.there (λ v. version_in j.state (z.range.namespace, z.key) ≡ Some v)) (sym y.6)
+      (where_compared (λ v. version_in j.state k ≡ Some v) (is_compared y.1 y.2) (version_in (running j i).state k)
+      (was_there k (version_in (running j i).state k) (unwritten_version j k (last_below (writes_row j k) i) (get (running j i).state k) (left_by j k i) writer)))
+
+  pub phantom_comes_after : (x : PhantomKey) (h : ℕ) → IsPhantomKey j i tx x → x.writer ≡ Some h → h < i
+  phantom_comes_after x h y e = last_below-lt (writes_row j (y.0.name, y.2)) i h (sym (ap (λ (z : PhantomKey). z.writer) y.6) ∙ e)

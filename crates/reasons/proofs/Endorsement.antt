@@ -17,6 +17,7 @@ use Rattle.reasons.specs.declared.endorsement_fault.EndorsementFault.TheVariants
 use Rattle.reasons.specs.declared.policy_owner.PolicyOwner.{PolicyOwner}
 use Rattle.reasons.specs.declared.policy_owner.PolicyOwner.TheVariants.{OfKey, OfChaincode}
 use Rattle.reasons.specs.First.{first_below}
+use Rattle.reasons.specs.Shortfall.{shortfall_of}
 use Rattle.reasons.specs.Endorsement.{first_barred, touches, Governs, IsEndorsementFault}
 use Rattle.reasons.proofs.Lists.{some_is, some_and_none, found-all}
 
@@ -41,7 +42,7 @@ endorsement_fault_if j i tx signers defined =
     barred : (k : StateKey) → first_barred j i tx signers ≡ Some k → (owner : PolicyOwner) × (policy : Tree) × Governs j k owner policy → (o : Option ℕ) → first_below (touches j k) i ≡ o
         → (f : EndorsementFault) × IsEndorsementFault j i tx signers f
     barred k is g (Some h) touched = (Touched k.0 k.1 h, (is, touched))
-    barred k is g None touched = (Unsatisfied k.0 k.1 g.0 g.1 signers, (is, touched, g.2, refl))
+    barred k is g None touched = (Unsatisfied k.0 k.1 g.0 (shortfall_of tx.endorsements signers g.1), (is, touched, g.2, refl))
 
     by : is_defined j.definitions tx.chaincode ≡ true → list_all (λ k. is_defined j.definitions k.0) (written_keys tx) ≡ true → (o : Option StateKey) → first_barred j i tx signers ≡ o
         → (f : EndorsementFault) × IsEndorsementFault j i tx signers f
@@ -50,7 +51,7 @@ endorsement_fault_if j i tx signers defined =
         barred k is (governed j k here) (first_below (touches j k) i) refl
     by named all None is =
         let policy = there_if (get j.definitions tx.chaincode) named in
-        (ChaincodeUnsatisfied tx.chaincode policy.0 signers, (is, refl, policy.1, refl))
+        (ChaincodeUnsatisfied tx.chaincode (shortfall_of tx.endorsements signers policy.0), (is, refl, policy.1, refl))
 
 -- ---- and one alone
 
@@ -69,23 +70,23 @@ module _ (j : Job) (i : ℕ) (tx : Tx) (signers : List Identity) where
       let same : (n, k) ≡ (m, l) = some_is (n, k) (m, l) (sym x.0 ∙ y.0) in
       let place : p ≡ q = some_is p q (sym x.1 ∙ same_first (n, k) (m, l) same ∙ y.1) in
       λ t. Touched (same t).0 (same t).1 (place t)
-  one_endorsement_fault (Touched n k p) (Unsatisfied m l o policy there) x y =
+  one_endorsement_fault (Touched n k p) (Unsatisfied m l o lack) x y =
       let same : (n, k) ≡ (m, l) = some_is (n, k) (m, l) (sym x.0 ∙ y.0) in
       absurd (some_and_none p (sym x.1 ∙ same_first (n, k) (m, l) same ∙ y.1))
-  one_endorsement_fault (Touched n k p) (ChaincodeUnsatisfied m policy there) x y = absurd (some_and_none (n, k) (sym x.0 ∙ y.0))
-  one_endorsement_fault (Unsatisfied n k o policy there) (Touched m l q) x y =
+  one_endorsement_fault (Touched n k p) (ChaincodeUnsatisfied m lack) x y = absurd (some_and_none (n, k) (sym x.0 ∙ y.0))
+  one_endorsement_fault (Unsatisfied n k o lack) (Touched m l q) x y =
       let same : (n, k) ≡ (m, l) = some_is (n, k) (m, l) (sym x.0 ∙ y.0) in
       absurd (some_and_none q (sym y.1 ∙ sym (same_first (n, k) (m, l) same) ∙ x.1))
-  one_endorsement_fault (Unsatisfied n k o policy there) (Unsatisfied m l o' policy' there') x y =
+  one_endorsement_fault (Unsatisfied n k o lack) (Unsatisfied m l o' lack') x y =
       let same : (n, k) ≡ (m, l) = some_is (n, k) (m, l) (sym x.0 ∙ y.0) in
-      let both = one_owner j (n, k) o o' policy policy' x.2 (subst (λ (z : StateKey). Governs j z o' policy') (sym same) y.2) in
-      let signed : there ≡ there' = x.3 ∙ sym y.3 in
-      λ t. Unsatisfied (same t).0 (same t).1 (both.0 t) (both.1 t) (signed t)
-  one_endorsement_fault (Unsatisfied n k o policy there) (ChaincodeUnsatisfied m policy' there') x y = absurd (some_and_none (n, k) (sym x.0 ∙ y.0))
-  one_endorsement_fault (ChaincodeUnsatisfied n policy there) (Touched m l q) x y = absurd (some_and_none (m, l) (sym y.0 ∙ x.0))
-  one_endorsement_fault (ChaincodeUnsatisfied n policy there) (Unsatisfied m l o policy' there') x y = absurd (some_and_none (m, l) (sym y.0 ∙ x.0))
-  one_endorsement_fault (ChaincodeUnsatisfied n policy there) (ChaincodeUnsatisfied m policy' there') x y =
+      let both = one_owner j (n, k) o o' lack.policy lack'.policy x.2 (subst (λ (z : StateKey). Governs j z o' lack'.policy) (sym same) y.2) in
+      let lacks : lack ≡ lack' = x.3 ∙ ap (shortfall_of tx.endorsements signers) both.1 ∙ sym y.3 in
+      λ t. Unsatisfied (same t).0 (same t).1 (both.0 t) (lacks t)
+  one_endorsement_fault (Unsatisfied n k o lack) (ChaincodeUnsatisfied m lack') x y = absurd (some_and_none (n, k) (sym x.0 ∙ y.0))
+  one_endorsement_fault (ChaincodeUnsatisfied n lack) (Touched m l q) x y = absurd (some_and_none (m, l) (sym y.0 ∙ x.0))
+  one_endorsement_fault (ChaincodeUnsatisfied n lack) (Unsatisfied m l o lack') x y = absurd (some_and_none (m, l) (sym y.0 ∙ x.0))
+  one_endorsement_fault (ChaincodeUnsatisfied n lack) (ChaincodeUnsatisfied m lack') x y =
       let name : n ≡ m = x.1 ∙ sym y.1 in
-      let same : policy ≡ policy' = some_is policy policy' (sym x.2 ∙ y.2) in
-      let signed : there ≡ there' = x.3 ∙ sym y.3 in
-      λ t. ChaincodeUnsatisfied (name t) (same t) (signed t)
+      let same : lack.policy ≡ lack'.policy = some_is lack.policy lack'.policy (sym x.2 ∙ y.2) in
+      let lacks : lack ≡ lack' = x.3 ∙ ap (shortfall_of tx.endorsements signers) same ∙ sym y.3 in
+      λ t. ChaincodeUnsatisfied (name t) (lacks t)

@@ -77,11 +77,11 @@ module _ (channel : Configuration) (accepts : Accepts) (w : World) (txs : List (
         → used ≡ u → is_in_form tx ≡ f → is_all_defined w.definitions tx ≡ d
         → candidate_at j i ≡ tested a b c u f d (opened tx (signers_of accepts tx)) → HasReason
     by_tests false b c u f d ea eb ec eu ef ed e = made (OtherChannel tx.channel) (flag-at _ e) (item.Tx tx, is, refl)
-    by_tests true false c u f d ea eb ec eu ef ed e = made BadSignature (flag-at _ e) tt
+    by_tests true false c u f d ea eb ec eu ef ed e = made (BadSignature tx.creator) (flag-at _ e) (item.Tx tx, is, refl)
     by_tests true true false u f d ea eb ec eu ef ed e = made (OtherId (wanted_id (item.Tx tx))) (flag-at _ e) (item.Tx tx, is, refl)
     by_tests true true true true f d ea eb ec eu ef ed e =
         let own : used_id channel accepts (Some (item.Tx tx)) ≡ Some tx.id = λ t. if is_none (first_failed ((ea t, TargetChainNotFound) ∷ (eb t, BadCreatorSignature) ∷ (ec t, BadProposalTxId) ∷ [])) then Some tx.id else None in
-        let here = first_use_if channel accepts w (take i txs) tx.id (ap (is_used w.first_uses (ids_of channel accepts (take i txs))) (sym own) ∙ eu) in
+        let here = first_use_if channel accepts w txs i tx.id (ap (is_used w.first_uses (ids_of channel accepts (take i txs))) (sym own) ∙ eu) in
         made (UsedId here.0) (flag-at _ e) (item.Tx tx, is, here.1)
     by_tests true true true false false d ea eb ec eu ef ed e = let fault = form_fault_if tx ef in made (NotInForm fault.0) (flag-at _ e) (tx, is, fault.1)
     by_tests true true true false true false ea eb ec eu ef ed e = let name = undefined_if w.definitions tx ed in made (Undefined name.0) (flag-at _ e) (tx, is, name.1)
@@ -111,11 +111,11 @@ module _ (channel : Configuration) (accepts : Accepts) (w : World) (txs : List (
         → is_used w.first_uses (ids_of channel accepts (take i txs)) (used_id channel accepts (Some (item.Update u))) ≡ v → may_update here alone u ≡ m
         → candidate_at j i ≡ tested_update a b c v m signed → HasReason
     by_update_tests false b c v m ea eb ec ev em e = made (OtherChannel u.channel) (flag-at _ e) (item.Update u, is, refl)
-    by_update_tests true false c v m ea eb ec ev em e = made BadSignature (flag-at _ e) tt
+    by_update_tests true false c v m ea eb ec ev em e = made (BadSignature u.creator) (flag-at _ e) (item.Update u, is, refl)
     by_update_tests true true false v m ea eb ec ev em e = made (OtherId (wanted_id (item.Update u))) (flag-at _ e) (item.Update u, is, refl)
     by_update_tests true true true true m ea eb ec ev em e =
         let own : used_id channel accepts (Some (item.Update u)) ≡ Some u.id = λ t. if is_none (first_failed ((ea t, TargetChainNotFound) ∷ (eb t, BadCreatorSignature) ∷ (ec t, BadProposalTxId) ∷ [])) then Some u.id else None in
-        let place = first_use_if channel accepts w (take i txs) u.id (ap (is_used w.first_uses (ids_of channel accepts (take i txs))) (sym own) ∙ ev) in
+        let place = first_use_if channel accepts w txs i u.id (ap (is_used w.first_uses (ids_of channel accepts (take i txs))) (sym own) ∙ ev) in
         made (UsedId place.0) (flag-at _ e) (item.Update u, is, place.1)
     by_update_tests true true true false false ea eb ec ev em e = let f = unsigned_fault_if here accepts alone u em in made (InvalidUpdate f.0) (flag-at _ e) (u, is, f.1)
     by_update_tests true true true false true ea eb ec ev em e = by_admin em e (endorsed j i) refl

@@ -1,5 +1,5 @@
 -- Sets have a fault where they aren't in form, and nowhere else.
-use Rattle.std.proofs.Common.{◌≡◌, ℕ, Bool, true, false, cond, not, ◌&&◌, List, [], ◌∷◌, map, find, Option, Some, None, is_none, is_some, option_map, option_and_then, option_to_list, Result, Ok, Err, Ordering, Less, Equal, Greater, is_lt, refl, sym, ◌∙◌}
+use Rattle.std.proofs.Common.{◌≡◌, ℕ, suc, Bool, true, false, cond, not, ◌&&◌, List, [], ◌∷◌, map, Option, Some, None, is_none, is_some, option_map, option_and_then, option_to_list, Result, Ok, Err, Ordering, Less, Equal, Greater, is_lt, refl, sym, ◌∙◌}
 use Rattle.std.specs.List.{list_any, list_all}
 use Rattle.std.specs.Result.{result_ok, result_err}
 use Rattle.std.specs.Str.{bytes_eq}
@@ -22,9 +22,9 @@ use Rattle.reasons.specs.declared.form_fault.FormFault.{FormFault}
 use Rattle.reasons.specs.declared.form_fault.FormFault.TheVariants.{NamespaceRepeats, KeyRepeats, ResultFalls, ResultLeaves, UnreadablePolicy}
 use Rattle.reasons.specs.declared.key_list.KeyList.TheVariants.{Reads, Writes, PolicyWrites}
 use Rattle.reasons.specs.First.{first_there}
-use Rattle.reasons.specs.Form.{first_repeated, first_fallen, range_in, range_fault, text_fault, policy_fault, set_fault, form_fault}
+use Rattle.reasons.specs.Form.{first_repeated, first_fallen, first_outside, result_in, range_fault, ranges_fault, text_fault, policy_fault, set_fault, form_fault}
 use Rattle.reasons.proofs.Differences.{lower}
-use Rattle.reasons.proofs.Lists.{some_if, and-same, all-same, none-or, none-map, none-first_there, none-find}
+use Rattle.reasons.proofs.Lists.{some_if, and-same, all-same, none-or, none-map, none-first_there}
 
 -- ---- repeats
 
@@ -52,23 +52,40 @@ keys_of xs = map (λ x. x.key) xs
 abbrev versions_of : List KeyVersion → List (List ℕ × Version)
 versions_of xs = map (λ x. (x.key, x.version)) xs
 
-falls : (xs : List KeyVersion) → is_none (first_fallen (keys_of xs)) ≡ is_sorted bytes_cmp (versions_of xs)
-falls [] = refl
-falls (x ∷ []) = refl
-falls (x ∷ y ∷ ys) = by (bytes_cmp x.key y.key) refl (falls (y ∷ ys))
+falls : (place : ℕ) (xs : List KeyVersion) → is_none (first_fallen place (keys_of xs)) ≡ is_sorted bytes_cmp (versions_of xs)
+falls place [] = refl
+falls place (x ∷ []) = refl
+falls place (x ∷ y ∷ ys) = by (bytes_cmp x.key y.key) refl (falls (suc place) (y ∷ ys))
   where
-    by : (o : Ordering) → bytes_cmp x.key y.key ≡ o → is_none (first_fallen (keys_of (y ∷ ys))) ≡ is_sorted bytes_cmp (versions_of (y ∷ ys))
-        → is_none (cond (is_lt o) (first_fallen (keys_of (y ∷ ys))) (Some y.key)) ≡ ((is_lt o && below_all bytes_cmp x.key (versions_of ys)) && is_sorted bytes_cmp (versions_of (y ∷ ys)))
+    by : (o : Ordering) → bytes_cmp x.key y.key ≡ o → is_none (first_fallen (suc place) (keys_of (y ∷ ys))) ≡ is_sorted bytes_cmp (versions_of (y ∷ ys))
+        → is_none (cond (is_lt o) (first_fallen (suc place) (keys_of (y ∷ ys))) (Some (suc place, y.key))) ≡ ((is_lt o && below_all bytes_cmp x.key (versions_of ys)) && is_sorted bytes_cmp (versions_of (y ∷ ys)))
     by Less e rest = rest ∙ with_more (below_all bytes_cmp x.key (versions_of ys)) (is_sorted bytes_cmp (versions_of (y ∷ ys)))
         (λ sorted. lower nat_list_cmp_total x.key y.key e (versions_of ys) (both_true (below_all bytes_cmp y.key (versions_of ys)) (is_sorted bytes_cmp (versions_of ys)) sorted).0)
     by Equal e rest = refl
     by Greater e rest = refl
 
-range_in_form : (namespace : List ℕ) (r : Range) → is_none (range_fault namespace r) ≡ has_results_in_form r
-range_in_form namespace r =
-    none-or (option_map (ResultFalls (range_in namespace r)) (first_fallen (keys_of r.results))) (option_map (λ x. ResultLeaves (range_in namespace r) x.key) (find (λ x. not (is_within r.start r.end x.key)) r.results))
-    ∙ and-same (none-map (ResultFalls (range_in namespace r)) (first_fallen (keys_of r.results)) ∙ falls r.results)
-    (none-map (λ x. ResultLeaves (range_in namespace r) x.key) (find (λ x. not (is_within r.start r.end x.key)) r.results) ∙ none-find (λ x. is_within r.start r.end x.key) r.results)
+leaves : (start end : List ℕ) (place : ℕ) (xs : List KeyVersion) → is_none (first_outside start end place (keys_of xs)) ≡ list_all (λ x. is_within start end x.key) xs
+leaves start end place [] = refl
+leaves start end place (x ∷ xs) = by (is_within start end x.key) (leaves start end (suc place) xs)
+  where
+    by : (b : Bool) → is_none (first_outside start end (suc place) (keys_of xs)) ≡ list_all (λ y. is_within start end y.key) xs
+        → is_none (cond b (first_outside start end (suc place) (keys_of xs)) (Some (place, x.key))) ≡ (b && list_all (λ y. is_within start end y.key) xs)
+    by true rest = rest
+    by false rest = refl
+
+range_in_form : (namespace : List ℕ) (range_place : ℕ) (r : Range) → is_none (range_fault namespace range_place r) ≡ has_results_in_form r
+range_in_form namespace range_place r =
+    let falls_at : ℕ × List ℕ → FormFault = λ found. ResultFalls (result_in namespace range_place r found) in
+    let leaves_at : ℕ × List ℕ → FormFault = λ found. ResultLeaves (result_in namespace range_place r found) in
+    none-or (option_map falls_at (first_fallen 0 (keys_of r.results))) (option_map leaves_at (first_outside r.start r.end 0 (keys_of r.results)))
+    ∙ and-same (none-map falls_at (first_fallen 0 (keys_of r.results)) ∙ falls 0 r.results)
+    (none-map leaves_at (first_outside r.start r.end 0 (keys_of r.results)) ∙ leaves r.start r.end 0 r.results)
+
+ranges_in_form : (namespace : List ℕ) (range_place : ℕ) (rs : List Range) → is_none (ranges_fault namespace range_place rs) ≡ list_all has_results_in_form rs
+ranges_in_form namespace range_place [] = refl
+ranges_in_form namespace range_place (r ∷ rs) =
+    none-or (range_fault namespace range_place r) (ranges_fault namespace (suc range_place) rs)
+    ∙ and-same (range_in_form namespace range_place r) (ranges_in_form namespace (suc range_place) rs)
 
 -- ---- policies
 
@@ -98,12 +115,12 @@ set_in_form n =
     five (option_map (KeyRepeats n.name Reads) (first_repeated (map (λ r. r.key) n.reads)))
     (option_map (KeyRepeats n.name Writes) (first_repeated (map (λ w. w.key) n.writes)))
     (option_map (KeyRepeats n.name PolicyWrites) (first_repeated (map (λ w. w.key) n.policy_writes)))
-    (first_there (map (range_fault n.name) n.ranges))
+    (ranges_fault n.name 0 n.ranges)
     (first_there (map (policy_fault n.name) n.policy_writes))
     ∙ and-same (and-same (and-same (and-same (key_repeats (KeyRepeats n.name Reads) (map (λ r. r.key) n.reads))
     (key_repeats (KeyRepeats n.name Writes) (map (λ w. w.key) n.writes)))
     (key_repeats (KeyRepeats n.name PolicyWrites) (map (λ w. w.key) n.policy_writes)))
-    (none-first_there (range_fault n.name) n.ranges ∙ all-same (λ r. is_none (range_fault n.name r)) has_results_in_form (range_in_form n.name) n.ranges))
+    (ranges_in_form n.name 0 n.ranges))
     (none-first_there (policy_fault n.name) n.policy_writes ∙ all-same (λ w. is_none (policy_fault n.name w)) has_policy_in_form (policy_in_form n.name) n.policy_writes)
 
 pub form-none : (tx : Tx) → is_none (form_fault tx) ≡ is_in_form tx

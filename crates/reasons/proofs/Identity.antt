@@ -13,6 +13,8 @@ use Rattle.channel.specs.Configuration.{Configuration}
 use Rattle.rules.specs.declared.first_use.FirstUse.{FirstUse}
 use Rattle.rules.specs.Effect.{written_keys}
 use Rattle.rules.specs.Candidate.{is_defined, is_all_defined, used_id, is_used}
+use Rattle.rules.specs.Commit.{job_of}
+use Rattle.rules.specs.Fold.{flag}
 use Rattle.rules.specs.World.{World}
 use Rattle.rules.proofs.Booleans.{or-false}
 use Rattle.rules.proofs.Candidates.{ids_of}
@@ -50,25 +52,34 @@ module _ (channel : Configuration) (accepts : Accepts) where
       list_any-append (bytes_eq id) (option_to_list (used_id channel accepts tx)) (ids_of channel accepts txs)
       ∙ ap (λ (b : Bool). uses_id channel accepts id tx || b) (any-ids id txs)
 
-  pub first_use_if : (w : World) (before : List (Option Item)) (id : List ℕ) → is_used w.first_uses (ids_of channel accepts before) (Some id) ≡ true
-      → (place : IdUse) × IsFirstUse channel accepts w before id place
-  first_use_if w before id e = by (get w.first_uses id) refl (sym (or-false (contains_key w.first_uses id || list_any (bytes_eq id) (ids_of channel accepts before))) ∙ e)
+  pub first_use_if : (w : World) (items : List (Option Item)) (i : ℕ) (id : List ℕ) → is_used w.first_uses (ids_of channel accepts (take i items)) (Some id) ≡ true
+      → (first : IdUse) × IsFirstUse channel accepts w items i id first
+  first_use_if w items i id e = by (get w.first_uses id) refl (sym (or-false (contains_key w.first_uses id || list_any (bytes_eq id) (ids_of channel accepts before))) ∙ e)
     where
-      by : (o : Option FirstUse) → get w.first_uses id ≡ o → (is_some o || list_any (bytes_eq id) (ids_of channel accepts before)) ≡ true
-          → (place : IdUse) × IsFirstUse channel accepts w before id place
-      by (Some u) is e = (Earlier u.block u.place, (u.flag, is))
-      by None is e = (Here (position_or_len (uses_id channel accepts id) before), (is, place_if (uses_id channel accepts id) before (sym (any-ids id before) ∙ e)))
+      before : List (Option Item)
+      before = take i items
 
-pub one_use : (channel : Configuration) (accepts : Accepts) (w : World) (txs : List (Option Item)) (id : List ℕ) (a b : IdUse)
-    → IsFirstUse channel accepts w txs id a → IsFirstUse channel accepts w txs id b → a ≡ b
-one_use channel accepts w txs id (Earlier m h) (Earlier n i) x y =
-    let u : FirstUse = record { block = m; place = h; flag = x.0 } in
-    let v : FirstUse = record { block = n; place = i; flag = y.0 } in
-    let same : u ≡ v = some_is u v (sym x.1 ∙ y.1) in
-    ap (λ (f : FirstUse). Earlier f.block f.place) same
-one_use channel accepts w txs id (Earlier m h) (Here i) x y = let u : FirstUse = record { block = m; place = h; flag = x.0 } in absurd (some_and_none u (sym x.1 ∙ y.0))
-one_use channel accepts w txs id (Here h) (Earlier n i) x y = let v : FirstUse = record { block = n; place = i; flag = y.0 } in absurd (some_and_none v (sym y.1 ∙ x.0))
-one_use channel accepts w txs id (Here h) (Here i) x y = ap Here (some_is h i (sym x.1 ∙ y.1))
+      place : ℕ
+      place = position_or_len (uses_id channel accepts id) before
+
+      by : (o : Option FirstUse) → get w.first_uses id ≡ o → (is_some o || list_any (bytes_eq id) (ids_of channel accepts before)) ≡ true
+          → (first : IdUse) × IsFirstUse channel accepts w items i id first
+      by (Some u) is e = (Earlier u.block u.place u.flag, is)
+      by None is e = (Here place (flag (job_of channel accepts w items) place), (is, place_if (uses_id channel accepts id) before (sym (any-ids id before) ∙ e), refl))
+
+pub one_use : (channel : Configuration) (accepts : Accepts) (w : World) (txs : List (Option Item)) (at : ℕ) (id : List ℕ) (a b : IdUse)
+    → IsFirstUse channel accepts w txs at id a → IsFirstUse channel accepts w txs at id b → a ≡ b
+one_use channel accepts w txs at id (Earlier m h f) (Earlier n i g) x y =
+    let u : FirstUse = record { block = m; place = h; flag = f } in
+    let v : FirstUse = record { block = n; place = i; flag = g } in
+    let same : u ≡ v = some_is u v (sym x ∙ y) in
+    ap (λ (z : FirstUse). Earlier z.block z.place z.flag) same
+one_use channel accepts w txs at id (Earlier m h f) (Here i g) x y = let u : FirstUse = record { block = m; place = h; flag = f } in absurd (some_and_none u (sym x ∙ y.0))
+one_use channel accepts w txs at id (Here h f) (Earlier n i g) x y = let v : FirstUse = record { block = n; place = i; flag = g } in absurd (some_and_none v (sym y ∙ x.0))
+one_use channel accepts w txs at id (Here h f) (Here i g) x y =
+    let place : h ≡ i = some_is h i (sym x.1 ∙ y.1) in
+    let given : f ≡ g = x.2 ∙ ap (flag (job_of channel accepts w txs)) place ∙ sym y.2 in
+    λ t. Here (place t) (given t)
 
 -- ---- definitions
 

@@ -1,3 +1,4 @@
+mod Lacking
 mod Lists
 mod Differences
 mod Form

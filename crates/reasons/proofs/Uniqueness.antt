@@ -1,5 +1,5 @@
 -- A place has no two reasons.
-use Rattle.std.proofs.Common.{◌≡◌, ℕ, ◌==◌, length, List, take, Option, Some, refl, sym, ap, subst, ◌∙◌}
+use Rattle.std.proofs.Common.{◌≡◌, ℕ, ◌==◌, length, List, Option, Some, refl, sym, ap, subst, ◌∙◌}
 use Rattle.transaction.specs.declared.transaction.Tx.{Tx}
 use Rattle.transaction.specs.declared.update.Update.{Update}
 use Rattle.transaction.specs.declared.item.Item.{Item}
@@ -51,9 +51,9 @@ module _ (channel : Configuration) (accepts : Accepts) (w : World) (txs : List (
   one_explanation : (a b : Reason) → flag_of a ≡ flag_of b → Explains channel accepts w txs i a → Explains channel accepts w txs i b → a ≡ b
   one_explanation NoFault NoFault e x y = refl
   one_explanation NoTransaction NoTransaction e x y = refl
-  one_explanation BadSignature BadSignature e x y = refl
+  one_explanation (BadSignature a) (BadSignature b) e x y = ap BadSignature (one_of_item txs i (λ v x. v ≡ (origin_of x).creator) (λ tx c d p q. p ∙ sym q) a b x y)
   one_explanation (OtherId a) (OtherId b) e x y = ap OtherId (one_of_item txs i (λ v tx. v ≡ wanted_id tx) (λ tx c d p q. p ∙ sym q) a b x y)
-  one_explanation (UsedId a) (UsedId b) e x y = ap UsedId (one_of_item txs i (λ v x. IsFirstUse channel accepts w (take i txs) (origin_of x).id v) (λ x c d p q. one_use channel accepts w (take i txs) (origin_of x).id c d p q) a b x y)
+  one_explanation (UsedId a) (UsedId b) e x y = ap UsedId (one_of_item txs i (λ v x. IsFirstUse channel accepts w txs i (origin_of x).id v) (λ x c d p q. one_use channel accepts w txs i (origin_of x).id c d p q) a b x y)
   one_explanation (NotEndorsed a) (NotEndorsed b) e x y =
       ap NotEndorsed (one_of txs i (λ v tx. IsEndorsementFault j i tx (signers_of accepts tx) v) (λ tx c d p q. one_endorsement_fault j i tx (signers_of accepts tx) c d p q) a b x y)
   one_explanation (InvalidUpdate a) (InvalidUpdate b) e x y =

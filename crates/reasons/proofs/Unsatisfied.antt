@@ -34,6 +34,7 @@ use Rattle.rules.proofs.Booleans.{neither}
 use Rattle.rules.proofs.Candidates.{ids_of}
 use Rattle.reasons.specs.declared.endorsement_fault.EndorsementFault.TheVariants.{Unsatisfied, ChaincodeUnsatisfied}
 use Rattle.reasons.specs.declared.policy_owner.PolicyOwner.{PolicyOwner}
+use Rattle.reasons.specs.declared.shortfall.Shortfall.{Shortfall}
 use Rattle.reasons.specs.declared.policy_owner.PolicyOwner.TheVariants.{OfKey, OfChaincode}
 use Rattle.reasons.specs.Endorsement.{Governs, IsEndorsementFault}
 use Rattle.reasons.specs.Reason.{item_at}
@@ -52,15 +53,15 @@ governs_is : (j : Job) (k : StateKey) (owner : PolicyOwner) (policy : Tree) → 
 governs_is j k OfKey policy e = ap (governing j.definitions k.0) e
 governs_is j k OfChaincode policy e = ap (governing j.definitions k.0) e.0 ∙ e.1
 
-pub key_policy_fails : (j : Job) (i : ℕ) (tx : Tx) (signers : List Identity) (namespace key : List ℕ) (owner : PolicyOwner) (policy : Tree) (there : List Identity)
-    → IsEndorsementFault j i tx signers (Unsatisfied namespace key owner policy there) → is_satisfied policy there ≡ false
-key_policy_fails j i tx signers namespace key owner policy there x =
+pub key_policy_fails : (j : Job) (i : ℕ) (tx : Tx) (signers : List Identity) (namespace key : List ℕ) (owner : PolicyOwner) (lack : Shortfall)
+    → IsEndorsementFault j i tx signers (Unsatisfied namespace key owner lack) → is_satisfied lack.policy lack.signers ≡ false
+key_policy_fails j i tx signers namespace key owner lack x =
     let k : StateKey = (namespace, key) in
     let barred : may_write j.definitions j.state (running j i).touched signers k ≡ false =
     not_true (may_write j.definitions j.state (running j i).touched signers k) (found-passes (λ y. not (may_write j.definitions j.state (running j i).touched signers y)) (written_keys tx) k x.0) in
     let apart : is_among k (running j i).touched ≡ false = among_touched j k i ∙ ap is_some x.1 in
-    ap (is_satisfied policy) x.3
-    ∙ sym (ap (meets signers) (governs_is j k owner policy x.2))
+    ap (λ (y : Shortfall). is_satisfied lack.policy y.signers) x.3
+    ∙ sym (ap (meets signers) (governs_is j k owner lack.policy x.2))
     ∙ sym (ap (λ (b : Bool). not b && meets signers (governing j.definitions k.0 (policy_in j.state k))) apart)
     ∙ barred
 
@@ -113,9 +114,9 @@ module _ (channel : Configuration) (accepts : Accepts) (w : World) (txs : List (
   not_endorsed true Stale e = absurd cc
   not_endorsed true Phantom e = absurd cc
 
-  pub chaincode_policy_fails : flag j i ≡ EndorsementPolicyFailure → (chaincode : List ℕ) (policy : Tree) (there : List Identity)
-      → IsEndorsementFault j i tx (signers_of accepts tx) (ChaincodeUnsatisfied chaincode policy there) → is_satisfied policy there ≡ false
-  chaincode_policy_fails e chaincode policy there x =
+  pub chaincode_policy_fails : flag j i ≡ EndorsementPolicyFailure → (chaincode : List ℕ) (lack : Shortfall)
+      → IsEndorsementFault j i tx (signers_of accepts tx) (ChaincodeUnsatisfied chaincode lack) → is_satisfied lack.policy lack.signers ≡ false
+  chaincode_policy_fails e chaincode lack x =
       let signers : List Identity = signers_of accepts tx in
       let opened_here = open_at e in
       let refused : endorsed j i ≡ false = not_endorsed (endorsed j i) (reads j i (running j i).state)
@@ -125,7 +126,7 @@ module _ (channel : Configuration) (accepts : Accepts) (w : World) (txs : List (
       sym (none-find (may_write j.definitions j.state (running j i).touched signers) (written_keys tx)) ∙ ap is_none x.0 in
       let rest : (has_writes tx tx.chaincode || meets signers (get j.definitions tx.chaincode)) ≡ false =
       sym (ap (λ (b : Bool). b && (has_writes tx tx.chaincode || meets signers (get j.definitions tx.chaincode))) all) ∙ rule in
-      ap (is_satisfied policy) x.3 ∙ sym (ap (meets signers) x.2) ∙ (neither (has_writes tx tx.chaincode) (meets signers (get j.definitions tx.chaincode)) rest).1
+      ap (λ (y : Shortfall). is_satisfied lack.policy y.signers) x.3 ∙ sym (ap (meets signers) x.2) ∙ (neither (has_writes tx tx.chaincode) (meets signers (get j.definitions tx.chaincode)) rest).1
 
 -- ---- the admin policy
 
@@ -165,11 +166,11 @@ module _ (channel : Configuration) (accepts : Accepts) (w : World) (items : List
   not_passed true Stale e = absurd cc
   not_passed true Phantom e = absurd cc
 
-  pub admin_policy_fails : flag own i ≡ InvalidConfigTransaction → (policy : Tree) (there : List Identity)
-      → IsUpdateFault (channel_in channel w) accepts (length items == 1) u (AdminUnsatisfied policy there) → is_satisfied policy there ≡ false
-  admin_policy_fails e policy there x =
+  pub admin_policy_fails : flag own i ≡ InvalidConfigTransaction → (lack : Shortfall)
+      → IsUpdateFault (channel_in channel w) accepts (length items == 1) u (AdminUnsatisfied lack) → is_satisfied lack.policy lack.signers ≡ false
+  admin_policy_fails e lack x =
       let may : may_update (channel_in channel w) (length items == 1) u ≡ true = sym (none_if_may (channel_in channel w) (length items == 1) u) ∙ ap is_none x.0 in
       let open_here = update_at may e in
       let refused : endorsed own i ≡ false = not_passed (endorsed own i) (reads own i (running own i).state)
       (sym (ap (λ (c : Candidate). flag_by c (endorsed own i) (reads own i (running own i).state)) open_here) ∙ e) in
-      ap (is_satisfied policy) x.2 ∙ sym (ap (meets (update_signers_of accepts u)) x.1) ∙ sym (ap (endorsement_by own.admin own.definitions own.state (running own i).touched) open_here) ∙ refused
+      ap (λ (y : Shortfall). is_satisfied lack.policy y.signers) x.2 ∙ sym (ap (meets (update_signers_of accepts u)) x.1) ∙ sym (ap (endorsement_by own.admin own.definitions own.state (running own i).touched) open_here) ∙ refused

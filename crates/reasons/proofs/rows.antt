@@ -3,6 +3,7 @@ mod Shared
 mod Looks
 mod Form
 mod Identity
+mod Shortfall
 mod Endorsement
 mod Reads
 mod Ranges

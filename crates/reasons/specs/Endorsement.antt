@@ -15,6 +15,7 @@ use Rattle.reasons.specs.declared.endorsement_fault.EndorsementFault.TheVariants
 use Rattle.reasons.specs.declared.policy_owner.PolicyOwner.{PolicyOwner}
 use Rattle.reasons.specs.declared.policy_owner.PolicyOwner.TheVariants.{OfKey, OfChaincode}
 use Rattle.reasons.specs.First.{first_below}
+use Rattle.reasons.specs.Shortfall.{shortfall_of}
 
 -- the first of its written keys that it may not write, as candidate i
 abbrev pub first_barred : Job → ℕ → Tx → List Identity → Option StateKey
@@ -33,9 +34,9 @@ Governs j k OfChaincode policy = (policy_in j.state k ≡ None) × (get j.defini
 abbrev pub IsEndorsementFault : Job → ℕ → Tx → List Identity → EndorsementFault → Type 0
 IsEndorsementFault j i tx signers (Touched namespace key place) =
     (first_barred j i tx signers ≡ Some (namespace, key)) × (first_below (touches j (namespace, key)) i ≡ Some place)
-IsEndorsementFault j i tx signers (Unsatisfied namespace key owner policy there) =
+IsEndorsementFault j i tx signers (Unsatisfied namespace key owner x) =
     (first_barred j i tx signers ≡ Some (namespace, key)) × (first_below (touches j (namespace, key)) i ≡ None)
-    × Governs j (namespace, key) owner policy × (there ≡ signers)
-IsEndorsementFault j i tx signers (ChaincodeUnsatisfied chaincode policy there) =
+    × Governs j (namespace, key) owner x.policy × (x ≡ shortfall_of tx.endorsements signers x.policy)
+IsEndorsementFault j i tx signers (ChaincodeUnsatisfied chaincode x) =
     (first_barred j i tx signers ≡ None) × (chaincode ≡ tx.chaincode)
-    × (get j.definitions tx.chaincode ≡ Some policy) × (there ≡ signers)
+    × (get j.definitions tx.chaincode ≡ Some x.policy) × (x ≡ shortfall_of tx.endorsements signers x.policy)

@@ -1,6 +1,7 @@
 pub mod First
 pub mod Form
 pub mod Identity
+pub mod Shortfall
 pub mod Endorsement
 pub mod Reads
 pub mod Ranges

@@ -13,7 +13,8 @@ use Rattle.rules.specs.Job.{Job}
 use Rattle.rules.specs.Fold.{running}
 use Rattle.reasons.specs.declared.phantom_key.PhantomKey.{PhantomKey}
 use Rattle.reasons.specs.Form.{range_in}
-use Rattle.reasons.specs.Reads.{first_faulty}
+use Rattle.reasons.specs.First.{last_below}
+use Rattle.reasons.specs.Reads.{first_faulty, writes_row}
 
 -- the version that a key of the compared part has, and the one that the query found there
 abbrev pub version_there : State → List ℕ → Range → List ℕ → Option Version
@@ -27,12 +28,19 @@ pub record IsFirstDifference (there read : List ℕ → Option Version) (key : L
   pub differs : there key ≢ read key
   pub same_before : (k : List ℕ) → bytes_cmp k key ≡ Less → there k ≡ read k
 
-abbrev pub phantom_key : State → List ℕ → Range → List ℕ → PhantomKey
-phantom_key s namespace r key = record { range = range_in namespace r; key = key; read = version_read r key; there = version_there s namespace r key }
+abbrev pub phantom_key : Job → ℕ → List ℕ → Range → List ℕ → PhantomKey
+phantom_key j i namespace r key = record {
+  range = range_in namespace r;
+  exhausted = r.exhausted;
+  key = key;
+  read = version_read r key;
+  there = version_there (running j i).state namespace r key;
+  writer = last_below (writes_row j (namespace, key)) i;
+}
 
 -- of the first namespace with a fault, and in it of the first range that doesn't hold, the first key that differs
 abbrev pub IsPhantomKey : Job → ℕ → Tx → PhantomKey → Type 0
 IsPhantomKey j i tx x =
     (n : NsSet) × (r : Range) × (key : List ℕ) × (first_faulty (running j i).state tx ≡ Some n)
     × (find (λ y. not (range_holds (running j i).state n.name y)) n.ranges ≡ Some r)
-    × IsFirstDifference (version_there (running j i).state n.name r) (version_read r) key × (x ≡ phantom_key (running j i).state n.name r key)
+    × IsFirstDifference (version_there (running j i).state n.name r) (version_read r) key × (x ≡ phantom_key j i n.name r key)

@@ -1,5 +1,5 @@
 -- Why a transaction or an update has its flag.
-use Rattle.std.specs.Prelude.{◌≡◌, ℕ, ◌<◌, ◌==◌, List, length, take, Option, Some, None, slice_get, slice_index_or, ⊤}
+use Rattle.std.specs.Prelude.{◌≡◌, ℕ, ◌<◌, ◌==◌, List, length, Option, Some, None, slice_get, slice_index_or, ⊤}
 use Rattle.transaction.specs.declared.transaction.Tx.{Tx}
 use Rattle.transaction.specs.declared.update.Update.{Update}
 use Rattle.transaction.specs.declared.item.Item.{Item}
@@ -26,7 +26,7 @@ use Rattle.reasons.specs.Update.{IsUpdateFault}
 abbrev pub flag_of : Reason → Flag
 flag_of NoFault = Valid
 flag_of NoTransaction = BadPayload
-flag_of BadSignature = BadCreatorSignature
+flag_of (BadSignature creator) = BadCreatorSignature
 flag_of (InvalidUpdate fault) = InvalidConfigTransaction
 flag_of (OtherId wanted) = BadProposalTxId
 flag_of (UsedId place) = DuplicateTxId
@@ -55,10 +55,10 @@ OfUpdate items i P = (u : Update) × (item_at items i ≡ Some (item.Update u)) 
 abbrev pub Explains : Configuration → Accepts → World → List (Option Item) → ℕ → Reason → Type 0
 Explains channel accepts w items i NoFault = ⊤
 Explains channel accepts w items i NoTransaction = ⊤
-Explains channel accepts w items i BadSignature = ⊤
+Explains channel accepts w items i (BadSignature creator) = OfItem items i (λ x. creator ≡ (origin_of x).creator)
 Explains channel accepts w items i (OtherChannel name) = OfItem items i (λ x. name ≡ (origin_of x).channel)
 Explains channel accepts w items i (OtherId wanted) = OfItem items i (λ x. wanted ≡ wanted_id x)
-Explains channel accepts w items i (UsedId place) = OfItem items i (λ x. IsFirstUse channel accepts w (take i items) (origin_of x).id place)
+Explains channel accepts w items i (UsedId place) = OfItem items i (λ x. IsFirstUse channel accepts w items i (origin_of x).id place)
 Explains channel accepts w items i (InvalidUpdate fault) = OfUpdate items i (λ u. IsUpdateFault (channel_in channel w) accepts (length items == 1) u fault)
 Explains channel accepts w items i (NotInForm fault) = OfTx items i (λ tx. form_fault tx ≡ Some fault)
 Explains channel accepts w items i (Undefined chaincode) = OfTx items i (λ tx. first_undefined w.definitions tx ≡ Some chaincode)

@@ -11,6 +11,7 @@ use Rattle.reasons.specs.declared.update_fault.UpdateFault.{UpdateFault}
 use Rattle.reasons.specs.declared.update_fault.UpdateFault.TheVariants.{NotAlone, NoAdminPolicy, NoDefinition, NoPolicy, AdminUnsatisfied}
 use Rattle.reasons.specs.First.{first_there}
 use Rattle.reasons.specs.Form.{text_fault}
+use Rattle.reasons.specs.Shortfall.{shortfall_of}
 
 -- the first fault that shows without its signers
 abbrev pub unsigned_fault : Configuration → Bool → Update → Option UpdateFault
@@ -23,8 +24,8 @@ unsigned_fault channel alone u = first_there (
 
 -- the channel is the one with the world's definitions
 abbrev pub IsUpdateFault : Configuration → Accepts → Bool → Update → UpdateFault → Type 0
-IsUpdateFault channel accepts alone u (AdminUnsatisfied policy there) =
-    (unsigned_fault channel alone u ≡ None) × (channel.admin ≡ Some policy) × (there ≡ update_signers_of accepts u)
+IsUpdateFault channel accepts alone u (AdminUnsatisfied x) =
+    (unsigned_fault channel alone u ≡ None) × (channel.admin ≡ Some x.policy) × (x ≡ shortfall_of u.endorsements (update_signers_of accepts u) x.policy)
 IsUpdateFault channel accepts alone u NotAlone = unsigned_fault channel alone u ≡ Some NotAlone
 IsUpdateFault channel accepts alone u NoAdminPolicy = unsigned_fault channel alone u ≡ Some NoAdminPolicy
 IsUpdateFault channel accepts alone u (NoDefinition chaincode) = unsigned_fault channel alone u ≡ Some (NoDefinition chaincode)

@@ -1,7 +1,6 @@
 use crate::policy_owner::PolicyOwner;
-use policy::Policy;
-use transaction::OwnedIdentity;
-use values::{Items, Key, Name};
+use crate::shortfall::Shortfall;
+use values::{Key, Name};
 
 /// Why the signers of a transaction may not write what it writes: the first written key that they may not
 /// write, or no key.
@@ -19,14 +18,12 @@ pub enum EndorsementFault {
         namespace: Name,
         key: Key,
         owner: PolicyOwner,
-        policy: Policy,
-        signers: Items<OwnedIdentity>,
+        shortfall: Shortfall,
     },
     /// The signers don't satisfy the policy of the chaincode that is named, in whose namespace nothing is
     /// written.
     ChaincodeUnsatisfied {
         chaincode: Name,
-        policy: Policy,
-        signers: Items<OwnedIdentity>,
+        shortfall: Shortfall,
     },
 }

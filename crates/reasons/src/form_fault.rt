@@ -1,6 +1,6 @@
 use crate::key_list::KeyList;
 use crate::policy_text_fault::PolicyTextFault;
-use crate::queried_range::QueriedRange;
+use crate::range_result::RangeResult;
 use values::{Key, Name};
 
 /// Why read and write sets aren't in form.
@@ -17,15 +17,9 @@ pub enum FormFault {
         key: Key,
     },
     /// The key of a result isn't above that of the result before it.
-    ResultFalls {
-        range: QueriedRange,
-        key: Key,
-    },
+    ResultFalls(RangeResult),
     /// The key of a result lies outside its range.
-    ResultLeaves {
-        range: QueriedRange,
-        key: Key,
-    },
+    ResultLeaves(RangeResult),
     /// The policy that is written for the key can't be read.
     UnreadablePolicy {
         namespace: Name,

@@ -1,10 +1,13 @@
-ghost use Rattle.std.specs.Prelude.{◌≡◌, ◌<◌, ℕ, List, length, map, false, Option, Some, None, IfSome, is_some};
+ghost use Rattle.std.specs.Prelude.{◌≡◌, ◌<◌, ℕ, List, length, map, false, Option, Some, true, None, IfSome, IsSome, is_some};
 ghost use Rattle.transaction.specs.declared.item.Item.{Item};
 ghost use Rattle.transaction.specs.declared.identity.Identity.{Identity};
+ghost use Rattle.transaction.specs.declared.transaction.Endorsement.{Endorsement};
 ghost use Rattle.policy.specs.Tree.{Tree};
+ghost use Rattle.policy.specs.Spelled.{IsSpelled};
 ghost use Rattle.policy_eval.specs.Accepts.{Accepts};
 ghost use Rattle.policy_eval.specs.Evaluating.{is_satisfied};
 ghost use Rattle.channel.specs.Configuration.{Configuration};
+ghost use Rattle.rules.specs.declared.flag.Flag.{Flag};
 ghost use Rattle.rules.specs.State.{StateKey, version_in, is_among};
 ghost use Rattle.rules.specs.Job.{Job};
 ghost use Rattle.rules.specs.World.{World, height_of};
@@ -14,10 +17,13 @@ ghost use Rattle.reasons.specs.declared.endorsement_fault.EndorsementFault.TheVa
 ghost use Rattle.reasons.specs.declared.id_use.IdUse.TheVariants.{Here};
 ghost use Rattle.reasons.specs.declared.policy_owner.PolicyOwner.{PolicyOwner};
 ghost use Rattle.reasons.specs.declared.reason.Reason.{Reason};
-ghost use Rattle.reasons.specs.declared.reason.Reason.TheVariants.{UsedId, NotEndorsed, InvalidUpdate, ReadConflict};
+ghost use Rattle.reasons.specs.declared.reason.Reason.TheVariants.{UsedId, NotEndorsed, InvalidUpdate, ReadConflict, PhantomConflict};
 ghost use Rattle.reasons.specs.declared.update_fault.UpdateFault.TheVariants.{AdminUnsatisfied};
 ghost use Rattle.reasons.specs.declared.stale_read.StaleRead.{StaleRead};
+ghost use Rattle.reasons.specs.declared.phantom_key.PhantomKey.{PhantomKey};
+ghost use Rattle.reasons.specs.declared.shortfall.Shortfall.{Shortfall};
 ghost use Rattle.reasons.specs.First.{first_below};
+ghost use Rattle.reasons.specs.Shortfall.{shortfall_of};
 ghost use Rattle.reasons.specs.Endorsement.{touches};
 ghost use Rattle.reasons.specs.Reason.{flag_of, IsReason, AreReasons};
 
@@ -41,21 +47,34 @@ pub fn reasons_have_the_flags()
 
 /// A law, and no work: the signers that a reason names don't satisfy the policy that it names.
 pub fn named_policies_are_not_satisfied()
-    ensures of_a_key { (channel : Configuration) (accepts : Accepts) (w : World) (items : List (Option Item)) (i : ℕ) (namespace key : List ℕ) (owner : PolicyOwner) (policy : Tree) (signers : List Identity)
-        → IsReason channel accepts w items i (NotEndorsed (Unsatisfied namespace key owner policy signers)) → is_satisfied policy signers ≡ false }
-    ensures of_the_admin { (channel : Configuration) (accepts : Accepts) (w : World) (items : List (Option Item)) (i : ℕ) (policy : Tree) (signers : List Identity)
-        → IsReason channel accepts w items i (InvalidUpdate (AdminUnsatisfied policy signers)) → is_satisfied policy signers ≡ false }
-    ensures of_a_chaincode { (channel : Configuration) (accepts : Accepts) (w : World) (items : List (Option Item)) (i : ℕ) (chaincode : List ℕ) (policy : Tree) (signers : List Identity)
-        → IsReason channel accepts w items i (NotEndorsed (ChaincodeUnsatisfied chaincode policy signers)) → is_satisfied policy signers ≡ false }
+    ensures of_a_key { (channel : Configuration) (accepts : Accepts) (w : World) (items : List (Option Item)) (i : ℕ) (namespace key : List ℕ) (owner : PolicyOwner) (lack : Shortfall)
+        → IsReason channel accepts w items i (NotEndorsed (Unsatisfied namespace key owner lack)) → is_satisfied lack.policy lack.signers ≡ false }
+    ensures of_the_admin { (channel : Configuration) (accepts : Accepts) (w : World) (items : List (Option Item)) (i : ℕ) (lack : Shortfall)
+        → IsReason channel accepts w items i (InvalidUpdate (AdminUnsatisfied lack)) → is_satisfied lack.policy lack.signers ≡ false }
+    ensures of_a_chaincode { (channel : Configuration) (accepts : Accepts) (w : World) (items : List (Option Item)) (i : ℕ) (chaincode : List ℕ) (lack : Shortfall)
+        → IsReason channel accepts w items i (NotEndorsed (ChaincodeUnsatisfied chaincode lack)) → is_satisfied lack.policy lack.signers ≡ false }
 {}
 
-/// A law, and no work: where the key of a read that doesn't hold is there, its version is that of the writer that the
-/// reason names; where it names none, what is there is what was there before the block.
+/// Laws of what signers lack, and no work: of a policy that some text spells a principal is missing where they don't satisfy it, and
+/// of none where they do.
+pub fn unsatisfied_policies_miss_a_principal()
+    ensures missing { (policy : Tree) (endorsements : List Endorsement) (signers : List Identity) → IsSpelled policy → is_satisfied policy signers ≡ false
+        → IsSome (shortfall_of endorsements signers policy).missing }
+    ensures satisfied { (policy : Tree) (endorsements : List Endorsement) (signers : List Identity) → is_satisfied policy signers ≡ true
+        → (shortfall_of endorsements signers policy).missing ≡ None }
+{}
+
+/// A law, and no work: where the key of a read that doesn't hold, or of a range that doesn't, is there, its version is that of the
+/// writer that the reason names; where it names none, what is there is what was there before the block.
 pub fn named_writers_left_what_is_there()
     ensures written { (channel : Configuration) (accepts : Accepts) (w : World) (items : List (Option Item)) (i h : ℕ) (read : StaleRead)
         → IsReason channel accepts w items i (ReadConflict read) → read.writer ≡ Some h → IfSome read.there (λ v. v ≡ record { block = height_of w; tx = h }) }
     ensures unwritten { (channel : Configuration) (accepts : Accepts) (w : World) (items : List (Option Item)) (i : ℕ) (read : StaleRead)
         → IsReason channel accepts w items i (ReadConflict read) → read.writer ≡ None → read.there ≡ version_in w.state (read.namespace, read.key) }
+    ensures phantom { (channel : Configuration) (accepts : Accepts) (w : World) (items : List (Option Item)) (i h : ℕ) (x : PhantomKey)
+        → IsReason channel accepts w items i (PhantomConflict x) → x.writer ≡ Some h → IfSome x.there (λ v. v ≡ record { block = height_of w; tx = h }) }
+    ensures old_phantom { (channel : Configuration) (accepts : Accepts) (w : World) (items : List (Option Item)) (i : ℕ) (x : PhantomKey)
+        → IsReason channel accepts w items i (PhantomConflict x) → x.writer ≡ None → IfSome x.there (λ v. version_in w.state (x.range.namespace, x.key) ≡ Some v) }
 {}
 
 /// A law, and no work: a key is touched where an earlier candidate of the block touches it.
@@ -65,10 +84,12 @@ pub fn touched_keys_have_a_toucher()
 
 /// A law, and no work: each transaction of the block that a reason names stands before the one that it is the reason of.
 pub fn named_places_come_before()
-    ensures of_a_use { (channel : Configuration) (accepts : Accepts) (w : World) (items : List (Option Item)) (i h : ℕ)
-        → IsReason channel accepts w items i (UsedId (Here h)) → h < i }
+    ensures of_a_use { (channel : Configuration) (accepts : Accepts) (w : World) (items : List (Option Item)) (i h : ℕ) (given : Flag)
+        → IsReason channel accepts w items i (UsedId (Here h given)) → h < i }
     ensures of_a_policy { (channel : Configuration) (accepts : Accepts) (w : World) (items : List (Option Item)) (i h : ℕ) (namespace key : List ℕ)
         → IsReason channel accepts w items i (NotEndorsed (Touched namespace key h)) → h < i }
     ensures of_a_writer { (channel : Configuration) (accepts : Accepts) (w : World) (items : List (Option Item)) (i h : ℕ) (read : StaleRead)
         → IsReason channel accepts w items i (ReadConflict read) → read.writer ≡ Some h → h < i }
+    ensures of_a_phantom { (channel : Configuration) (accepts : Accepts) (w : World) (items : List (Option Item)) (i h : ℕ) (x : PhantomKey)
+        → IsReason channel accepts w items i (PhantomConflict x) → x.writer ≡ Some h → h < i }
 {}

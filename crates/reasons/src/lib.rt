@@ -10,7 +10,9 @@ mod phantom_key;
 mod policy_owner;
 mod policy_text_fault;
 mod queried_range;
+mod range_result;
 mod reason;
+mod shortfall;
 mod stale_read;
 mod update_fault;
 
@@ -21,11 +23,14 @@ pub use key_list::KeyList;
 pub use laws::{
     each_place_has_one_reason, named_places_come_before, named_policies_are_not_satisfied,
     named_writers_left_what_is_there, reasons_have_the_flags, touched_keys_have_a_toucher,
+    unsatisfied_policies_miss_a_principal,
 };
 pub use phantom_key::PhantomKey;
 pub use policy_owner::PolicyOwner;
 pub use policy_text_fault::PolicyTextFault;
 pub use queried_range::QueriedRange;
+pub use range_result::RangeResult;
 pub use reason::Reason;
+pub use shortfall::Shortfall;
 pub use stale_read::StaleRead;
 pub use update_fault::UpdateFault;

@@ -7,9 +7,13 @@ use values::Key;
 #[derive(Debug, Drop)]
 pub struct PhantomKey {
     pub range: QueriedRange,
+    /// Whether the query was read to its end.
+    pub exhausted: bool,
     pub key: Key,
     /// As the query found it, or none where the key was absent.
     pub read: Option<Version>,
     /// What is there once the valid transactions before are applied, or none where the key is absent.
     pub there: Option<Version>,
+    /// The place of the transaction of the same block that wrote or deleted the key last, if one did.
+    pub writer: Option<u32>,
 }

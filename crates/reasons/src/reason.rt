@@ -8,7 +8,7 @@ use crate::phantom_key::PhantomKey;
 use crate::stale_read::StaleRead;
 use crate::update_fault::UpdateFault;
 use rules::Flag;
-use transaction::TxId;
+use transaction::{OwnedIdentity, TxId};
 use values::Name;
 
 /// Why a transaction or an update has its flag.
@@ -18,8 +18,8 @@ pub enum Reason {
     NoFault,
     /// 2: its bytes are neither a transaction nor an update.
     NoTransaction,
-    /// 4: the verifier refuses its creator's signature.
-    BadSignature,
+    /// 4: the verifier refuses the signature of its creator.
+    BadSignature { creator: OwnedIdentity },
     /// 6: it is an update that may not be made, or that its signers may not make.
     InvalidUpdate(UpdateFault),
     /// 8: its nonce and creator give another id.
@@ -48,7 +48,7 @@ impl Reason {
         match self {
             Reason::NoFault => Flag::Valid,
             Reason::NoTransaction => Flag::BadPayload,
-            Reason::BadSignature => Flag::BadCreatorSignature,
+            Reason::BadSignature { .. } => Flag::BadCreatorSignature,
             Reason::InvalidUpdate(_) => Flag::InvalidConfigTransaction,
             Reason::OtherId { .. } => Flag::BadProposalTxId,
             Reason::UsedId(_) => Flag::DuplicateTxId,

@@ -1,7 +1,6 @@
 use crate::policy_text_fault::PolicyTextFault;
-use policy::Policy;
-use transaction::OwnedIdentity;
-use values::{Items, Name};
+use crate::shortfall::Shortfall;
+use values::Name;
 
 /// Why an update isn't valid: the first of these that holds.
 #[derive(Drop)]
@@ -11,14 +10,9 @@ pub enum UpdateFault {
     /// The channel has no admin policy.
     NoAdminPolicy,
     /// The chaincode whose policy it gives has no definition.
-    NoDefinition {
-        chaincode: Name,
-    },
+    NoDefinition { chaincode: Name },
     /// Its text is no policy.
     NoPolicy(PolicyTextFault),
     /// Its signers don't satisfy the admin policy.
-    AdminUnsatisfied {
-        policy: Policy,
-        signers: Items<OwnedIdentity>,
-    },
+    AdminUnsatisfied(Shortfall),
 }

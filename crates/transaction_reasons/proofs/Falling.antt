@@ -3,9 +3,9 @@ use Rattle.std.proofs.Common.{◌≡◌, ℕ, zero, suc, ◌≤◌, List, [], �
 use Rattle.transaction.specs.declared.transaction.KeyVersion.{KeyVersion}
 use Rattle.reasons.specs.Form.{first_fallen}
 
-pub none_behind : (xs : List KeyVersion) (n : ℕ) → length xs ≤ suc n → ◌≡◌ {A = Option (List ℕ)} (first_fallen (map (λ x. x.key) (drop n xs))) None
-none_behind [] zero le = refl
-none_behind [] (suc n) le = refl
-none_behind (x ∷ []) zero le = refl
-none_behind (x ∷ y ∷ ys) zero le = absurd (omega arith)
-none_behind (x ∷ xs) (suc n) le = none_behind xs n (omega arith)
+pub none_behind : (place : ℕ) (xs : List KeyVersion) (n : ℕ) → length xs ≤ suc n → ◌≡◌ {A = Option (ℕ × List ℕ)} (first_fallen place (map (λ x. x.key) (drop n xs))) None
+none_behind place [] zero le = refl
+none_behind place [] (suc n) le = refl
+none_behind place (x ∷ []) zero le = refl
+none_behind place (x ∷ y ∷ ys) zero le = absurd (omega arith)
+none_behind place (x ∷ xs) (suc n) le = none_behind place xs n (omega arith)

@@ -1,5 +1,6 @@
 -- Which reason a flag has.
 use Rattle.std.proofs.Common.{◌≡◌, ℕ, List, refl, subst}
+use Rattle.transaction.specs.declared.identity.Identity.{Identity}
 use Rattle.rules.specs.declared.flag.Flag.{Flag}
 use Rattle.rules.specs.declared.flag.Flag.TheVariants.{Valid, BadPayload, BadCreatorSignature, InvalidConfigTransaction, BadProposalTxId, DuplicateTxId, EndorsementPolicyFailure, MvccReadConflict, PhantomReadConflict, TargetChainNotFound, BadRwset, InvalidChaincode}
 use Rattle.reasons.specs.declared.reason.Reason.{Reason}
@@ -15,7 +16,7 @@ use Rattle.reasons.specs.Reason.{flag_of}
 abbrev pub IsOfFlag : Flag → Reason → Type 0
 IsOfFlag Valid r = r ≡ NoFault
 IsOfFlag BadPayload r = r ≡ NoTransaction
-IsOfFlag BadCreatorSignature r = r ≡ BadSignature
+IsOfFlag BadCreatorSignature r = (creator : Identity) × (r ≡ BadSignature creator)
 IsOfFlag InvalidConfigTransaction r = (f : UpdateFault) × (r ≡ InvalidUpdate f)
 IsOfFlag BadProposalTxId r = (id : List ℕ) × (r ≡ OtherId id)
 IsOfFlag DuplicateTxId r = (place : IdUse) × (r ≡ UsedId place)
@@ -29,7 +30,7 @@ IsOfFlag InvalidChaincode r = (name : List ℕ) × (r ≡ Undefined name)
 own_flag : (r : Reason) → IsOfFlag (flag_of r) r
 own_flag NoFault = refl
 own_flag NoTransaction = refl
-own_flag BadSignature = refl
+own_flag (BadSignature creator) = (creator, refl)
 own_flag (InvalidUpdate f) = (f, refl)
 own_flag (OtherId id) = (id, refl)
 own_flag (UsedId place) = (place, refl)

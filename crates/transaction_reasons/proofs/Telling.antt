@@ -1,7 +1,8 @@
 -- What an item tells is the reason that there is.
-use Rattle.std.proofs.Common.{◌≡◌, ℕ, ◌==◌, List, length, map, Option, Some, None, take, sym, ap, subst, ◌∙◌}
+use Rattle.std.proofs.Common.{◌≡◌, ℕ, ◌==◌, List, length, map, Option, Some, None, sym, ap, subst, ◌∙◌}
 use Rattle.std.specs.Prelude.{is_none, option_map}
 use Rattle.std.proofs.lemmas.List.{length-map}
+use Rattle.transaction.specs.declared.identity.Identity.{Identity}
 use Rattle.transaction.specs.declared.transaction.Tx.{Tx}
 use Rattle.transaction.specs.declared.update.Update.{Update}
 use Rattle.transaction.specs.declared.item.Item.{Item}
@@ -10,7 +11,7 @@ use Rattle.policy_eval.specs.Accepts.{Accepts}
 use Rattle.channel.specs.Configuration.{Configuration}
 use Rattle.rules.specs.declared.early_flag.EarlyFlag.{EarlyFlag}
 use Rattle.rules.specs.declared.early_flag.EarlyFlag.TheVariants as early
-use Rattle.rules.specs.declared.flag.Flag.TheVariants.{BadProposalTxId, DuplicateTxId, TargetChainNotFound, InvalidConfigTransaction, BadRwset, InvalidChaincode}
+use Rattle.rules.specs.declared.flag.Flag.TheVariants.{BadCreatorSignature, BadProposalTxId, DuplicateTxId, TargetChainNotFound, InvalidConfigTransaction, BadRwset, InvalidChaincode}
 use Rattle.rules.specs.Flags as flags
 use Rattle.rules.specs.Candidate.{Candidate, flagged, used_id, origin_of}
 use Rattle.rules.specs.Job.{candidate_at, flag_by, reads}
@@ -18,7 +19,7 @@ use Rattle.rules.specs.Fold.{running, endorsed}
 use Rattle.rules.specs.Commit.{channel_in, job_of}
 use Rattle.rules.specs.World.{World}
 use Rattle.reasons.specs.declared.reason.Reason.{Reason}
-use Rattle.reasons.specs.declared.reason.Reason.TheVariants.{OtherId, UsedId, OtherChannel, InvalidUpdate, NotInForm, Undefined}
+use Rattle.reasons.specs.declared.reason.Reason.TheVariants.{BadSignature, OtherId, UsedId, OtherChannel, InvalidUpdate, NotInForm, Undefined}
 use Rattle.reasons.specs.declared.id_use.IdUse.{IdUse}
 use Rattle.reasons.specs.declared.update_fault.UpdateFault.{UpdateFault}
 use Rattle.reasons.specs.declared.update_fault.UpdateFault.TheVariants.{NotAlone, NoAdminPolicy, NoDefinition, NoPolicy, AdminUnsatisfied}
@@ -59,17 +60,23 @@ module _ (channel : Configuration) (accepts : Accepts) (w : World) (items : List
       let name : k.0 ≡ (origin_of x).channel = of_item (λ y. k.0 ≡ (origin_of y).channel) (explained r (OtherChannel k.0) k.1 why) in
       ap (λ (n : List ℕ). Some (OtherChannel n)) (sym name) ∙ ap (λ (y : Reason). Some y) (sym k.1)
 
+  pub tells_creator : (r : Reason) → flag_of r ≡ BadCreatorSignature → Explains channel accepts w items i r → Some (BadSignature (origin_of x).creator) ≡ Some r
+  tells_creator r f why =
+      let k = of_flag r BadCreatorSignature f in
+      let creator : k.0 ≡ (origin_of x).creator = of_item (λ y. k.0 ≡ (origin_of y).creator) (explained r (BadSignature k.0) k.1 why) in
+      ap (λ (c : Identity). Some (BadSignature c)) (sym creator) ∙ ap (λ (y : Reason). Some y) (sym k.1)
+
   pub tells_id : (r : Reason) → flag_of r ≡ BadProposalTxId → Explains channel accepts w items i r → Some (OtherId (wanted_id x)) ≡ Some r
   tells_id r f why =
       let k = of_flag r BadProposalTxId f in
       let id : k.0 ≡ wanted_id x = of_item (λ y. k.0 ≡ wanted_id y) (explained r (OtherId k.0) k.1 why) in
       ap (λ (n : List ℕ). Some (OtherId n)) (sym id) ∙ ap (λ (y : Reason). Some y) (sym k.1)
 
-  pub tells_use : (o : Option IdUse) → ((p : IdUse) → IsFirstUse channel accepts w (take i items) (origin_of x).id p → o ≡ Some p) → (r : Reason) → flag_of r ≡ DuplicateTxId → Explains channel accepts w items i r
+  pub tells_use : (o : Option IdUse) → ((p : IdUse) → IsFirstUse channel accepts w items i (origin_of x).id p → o ≡ Some p) → (r : Reason) → flag_of r ≡ DuplicateTxId → Explains channel accepts w items i r
       → option_map UsedId o ≡ Some r
   tells_use o found r f why =
       let k = of_flag r DuplicateTxId f in
-      let first : IsFirstUse channel accepts w (take i items) (origin_of x).id k.0 = of_item (λ y. IsFirstUse channel accepts w (take i items) (origin_of y).id k.0) (explained r (UsedId k.0) k.1 why) in
+      let first : IsFirstUse channel accepts w items i (origin_of x).id k.0 = of_item (λ y. IsFirstUse channel accepts w items i (origin_of y).id k.0) (explained r (UsedId k.0) k.1 why) in
       ap (option_map UsedId) (found k.0 first) ∙ ap (λ (y : Reason). Some y) (sym k.1)
 
   -- ---- what a transaction alone has
@@ -95,7 +102,7 @@ module _ (channel : Configuration) (accepts : Accepts) (w : World) (items : List
   shows u NoAdminPolicy there is_fault = is_fault
   shows u (NoDefinition name) there is_fault = is_fault
   shows u (NoPolicy fault) there is_fault = is_fault
-  shows u (AdminUnsatisfied policy signers) there is_fault = absurd (there is_fault.0)
+  shows u (AdminUnsatisfied lack) there is_fault = absurd (there is_fault.0)
 
   open_otherwise : candidate_at (job_of channel accepts w items) i ≡ flagged early.InvalidConfigTransaction → (u : Update) → item_at items i ≡ Some (item.Update u)
       → unsigned_fault (channel_in channel w) (length items == 1) u ≡ None → ⊥

@@ -10,6 +10,8 @@ use Rattle.policy_eval.specs.Accepts.{Accepts}
 use Rattle.channel.specs.Configuration.{Configuration}
 use Rattle.rules.specs.declared.first_use.FirstUse.{FirstUse}
 use Rattle.rules.specs.Candidate.{used_id}
+use Rattle.rules.specs.Commit.{job_of}
+use Rattle.rules.specs.Fold.{flag}
 use Rattle.rules.specs.World.{World}
 use Rattle.reasons.specs.declared.id_use.IdUse.{IdUse}
 use Rattle.reasons.specs.declared.id_use.IdUse.TheVariants.{Earlier, Here}
@@ -34,15 +36,16 @@ module _ (channel : Configuration) (accepts : Accepts) (w : World) (ids : List (
       ∙ ap (λ (l : List (Option (List ℕ))). position (λ used. list_any (bytes_eq id) (option_to_list used)) l) (take-map (used_id channel accepts) i items)
       ∙ position-map (used_id channel accepts) (λ used. list_any (bytes_eq id) (option_to_list used)) (take i items)
 
-  pub earlier_use : (first : FirstUse) → get w.first_uses id ≡ Some first → (used_at : IdUse) → IsFirstUse channel accepts w (take i items) id used_at → Some (Earlier first.block first.place) ≡ Some used_at
-  earlier_use first is (Earlier block place) used = ap (λ (f : FirstUse). Some (Earlier f.block f.place)) (some_same (get w.first_uses id) first (record { block = block; place = place; flag = used.0 }) is used.1)
+  pub earlier_use : (first : FirstUse) → get w.first_uses id ≡ Some first → (used_at : IdUse) → IsFirstUse channel accepts w items i id used_at → Some (Earlier first.block first.place first.flag) ≡ Some used_at
+  earlier_use first is (Earlier block place given) used =
+      ap (λ (f : FirstUse). Some (Earlier f.block f.place f.flag)) (some_same (get w.first_uses id) first (record { block = block; place = place; flag = given }) is used)
     where
       some_same : {X : Type 0} (o : Option X) (x y : X) → o ≡ Some x → o ≡ Some y → x ≡ y
       some_same None x y e f = absurd cc
       some_same (Some z) x y e f = cc
-  earlier_use first is (Here place) used = absurd (cc (is, used.0))
+  earlier_use first is (Here place given) used = absurd (cc (is, used.0))
 
-  pub use_here : get w.first_uses id ≡ None → (found : Option ℕ) → found ≡ position (λ used. list_any (bytes_eq id) (option_to_list used)) (take i ids) → (used_at : IdUse) → IsFirstUse channel accepts w (take i items) id used_at
-      → (place : ℕ) × (found ≡ Some place) × (used_at ≡ Here place)
-  use_here none found is (Earlier block place) used = absurd (cc (none, used.1))
-  use_here none found is (Here place) used = (place, is ∙ place_is ∙ used.1, refl)
+  pub use_here : get w.first_uses id ≡ None → (found : Option ℕ) → found ≡ position (λ used. list_any (bytes_eq id) (option_to_list used)) (take i ids) → (used_at : IdUse) → IsFirstUse channel accepts w items i id used_at
+      → (place : ℕ) × (found ≡ Some place) × (used_at ≡ Here place (flag (job_of channel accepts w items) place))
+  use_here none found is (Earlier block place given) used = absurd (cc (none, used))
+  use_here none found is (Here place given) used = (place, is ∙ place_is ∙ used.1, ap (Here place) used.2)

@@ -1,10 +1,11 @@
--- Which reasons an item tells without the state, and not the flag alone.
+-- Which reasons an item tells without the state.
 use Rattle.std.specs.Prelude.{Bool, true, false}
 use Rattle.rules.specs.declared.early_flag.EarlyFlag.{EarlyFlag}
-use Rattle.rules.specs.declared.early_flag.EarlyFlag.TheVariants.{BadProposalTxId, DuplicateTxId, TargetChainNotFound, InvalidConfigTransaction, BadRwset, InvalidChaincode}
+use Rattle.rules.specs.declared.early_flag.EarlyFlag.TheVariants.{BadCreatorSignature, BadProposalTxId, DuplicateTxId, TargetChainNotFound, InvalidConfigTransaction, BadRwset, InvalidChaincode}
 
 -- of these flags
 abbrev pub is_told_by_item : EarlyFlag → Bool
+is_told_by_item BadCreatorSignature = true
 is_told_by_item BadProposalTxId = true
 is_told_by_item DuplicateTxId = true
 is_told_by_item TargetChainNotFound = true

@@ -7,10 +7,11 @@ ghost use Rattle.transaction.specs.declared.item.Item as item_value;
 ghost use Rattle.transaction.specs.declared.item.Item.TheVariants as kind;
 ghost use Rattle.transaction.specs.Items.{item_of};
 ghost use Rattle.policy_eval.specs.Accepts.{Accepts};
-ghost use Rattle.rules.specs.Flags as flags;
+ghost use Rattle.rules.specs.Flags as early;
 ghost use Rattle.rules.specs.Candidate.{flagged, used_id, origin_of};
 ghost use Rattle.rules.specs.Job.{candidate_at};
 ghost use Rattle.rules.specs.Commit.{channel_in, job_of};
+ghost use Rattle.rules.specs.Fold as fold;
 ghost use Rattle.reasons.specs.declared.reason.Reason as reason_of;
 ghost use Rattle.reasons.specs.declared.reason.Reason.TheVariants as because;
 ghost use Rattle.reasons.specs.Form as form;
@@ -21,13 +22,14 @@ ghost use Rattle.transaction_reasons.specs.Told.{is_told_by_item};
 
 use crate::first_uses::first_use;
 use crate::form::form_fault;
+use crate::identities::owned_identity;
 use crate::undefined::first_undefined;
 use crate::updates::unsigned_fault;
 use block_steps::{decoded_item, origin_of};
 use channel::Configuration;
 use header_hash::tx_id;
 use reasons::Reason;
-use rules::EarlyFlag;
+use rules::{EarlyFlag, Flag};
 use std::alloc::{AllocError, Global};
 use transaction::{BlockVersion, Item, SpelledItem, TxId};
 use world::World;
@@ -37,6 +39,14 @@ fn other_channel(alloc: Global, item: &Item<'_>) -> Result<Option<Reason>, Alloc
 {
     Ok(Some(Reason::OtherChannel {
         channel: origin_of(item).channel.copy(alloc)?,
+    }))
+}
+
+fn bad_signature(alloc: Global, item: &Item<'_>) -> Result<Option<Reason>, AllocError>
+    ensures { IfOk result (λ reason. reason ≡ Some (because.BadSignature (origin_of item.now).creator)) }
+{
+    Ok(Some(Reason::BadSignature {
+        creator: owned_identity(alloc, origin_of(item).creator)?,
     }))
 }
 
@@ -104,22 +114,25 @@ fn reason_told(
     channel: &Configuration,
     world: &World,
     ids: &[Option<TxId>],
+    flags: &[Flag],
     i: u32,
     flag: EarlyFlag,
     item: &SpelledItem<'_>,
 ) -> Result<Option<Reason>, AllocError>
     requires few { length ids.now ≤ max_txs }
+    requires flags { length flags.now ≡ length ids.now }
     requires place { i < length ids.now }
     requires told { IsTrue (is_told_by_item flag) }
     ensures { IfOk result (λ x. (accepts : Accepts) (items : List (Option item_value.Item)) (r : reason_of.Reason) → ids.now ≡ map (used_id channel.now accepts) items
-        → item_at items i ≡ Some item.now → candidate_at (job_of channel.now accepts world.now items) i ≡ flagged flag
-        → flag_of r ≡ flags.flag_of flag → Explains channel.now accepts world.now items i r → x ≡ Some r) }
+        → flags.now ≡ fold.flags (job_of channel.now accepts world.now items) → item_at items i ≡ Some item.now → candidate_at (job_of channel.now accepts world.now items) i ≡ flagged flag
+        → flag_of r ≡ early.flag_of flag → Explains channel.now accepts world.now items i r → x ≡ Some r) }
 {
     match flag {
         EarlyFlag::TargetChainNotFound => other_channel(alloc, item.item()),
         EarlyFlag::BadProposalTxId => Ok(Some(other_id(item))),
         EarlyFlag::DuplicateTxId => {
-            let used = first_use(world, ids, origin_of(item.item()).id, i as usize);
+            let id = origin_of(item.item()).id;
+            let used = first_use(world, ids, flags, id, i as usize);
             Ok(used.map(Reason::UsedId))
         }
         EarlyFlag::InvalidConfigTransaction => {
@@ -127,52 +140,39 @@ fn reason_told(
         }
         EarlyFlag::BadRwset => form_reason(alloc, item.item()),
         EarlyFlag::InvalidChaincode => undefined_reason(alloc, world, item.item()),
-        EarlyFlag::BadPayload | EarlyFlag::BadCreatorSignature => Ok(None),
-    }
-}
-
-/// The reason that says no more than the flag, where the flag has one.
-fn bare_reason(flag: EarlyFlag) -> Option<Reason>
-    ensures { MatchOption result (IsTrue (is_told_by_item flag)) (λ x. (r : reason_of.Reason) → flag_of r ≡ flags.flag_of flag → x ≡ r) }
-{
-    match flag {
-        EarlyFlag::BadPayload => Some(Reason::NoTransaction),
-        EarlyFlag::BadCreatorSignature => Some(Reason::BadSignature),
-        EarlyFlag::TargetChainNotFound
-        | EarlyFlag::BadProposalTxId
-        | EarlyFlag::DuplicateTxId
-        | EarlyFlag::InvalidConfigTransaction
-        | EarlyFlag::BadRwset
-        | EarlyFlag::InvalidChaincode => None,
+        EarlyFlag::BadCreatorSignature => bad_signature(alloc, item.item()),
+        EarlyFlag::BadPayload => Ok(None),
     }
 }
 
 /// Why the item that these bytes spell was given this flag, before the rules on the state: at place i of a block of this version
-/// over this world, where the ids that the block's items use are these, one for each place.
+/// over this world, where the ids that the block's items use, and the flags that they have, are these, one for each place.
 ///
-/// Where the flag alone doesn't say it, the bytes are decoded again, and what the flag is about is looked at again, up to the first
-/// fault. Memory for that, and for what the reason names.
+/// The bytes are decoded again where the flag says that they spell an item, and what the flag is about is looked at again, up to the
+/// first fault. Memory for that, and for what the reason names.
 pub fn reason_in_bytes(
     alloc: Global,
     channel: &Configuration,
     world: &World,
     ids: &[Option<TxId>],
+    flags: &[Flag],
     i: u32,
     flag: EarlyFlag,
     version: BlockVersion,
     bytes: &[u8],
 ) -> Result<Option<Reason>, AllocError>
     requires few { length ids.now ≤ max_txs }
+    requires flags { length flags.now ≡ length ids.now }
     requires place { i < length ids.now }
     ensures { IfOk result (λ x. (accepts : Accepts) (items : List (Option item_value.Item)) (r : reason_of.Reason) → ids.now ≡ map (used_id channel.now accepts) items
-        → item_at items i ≡ item_of version bytes.now → candidate_at (job_of channel.now accepts world.now items) i ≡ flagged flag
+        → flags.now ≡ fold.flags (job_of channel.now accepts world.now items) → item_at items i ≡ item_of version bytes.now → candidate_at (job_of channel.now accepts world.now items) i ≡ flagged flag
         → IsReason channel.now accepts world.now items i r → x ≡ Some r) }
 {
-    if let Some(reason) = bare_reason(flag) {
-        return Ok(Some(reason));
+    if let EarlyFlag::BadPayload = flag {
+        return Ok(Some(Reason::NoTransaction));
     }
     match decoded_item(alloc, version, bytes)? {
         None => Ok(None),
-        Some(item) => reason_told(alloc, channel, world, ids, i, flag, &item),
+        Some(item) => reason_told(alloc, channel, world, ids, flags, i, flag, &item),
     }
 }

@@ -4,6 +4,7 @@
 
 mod first_uses;
 mod form;
+mod identities;
 mod item_reasons;
 mod policy_texts;
 mod ranges_in_form;
@@ -12,6 +13,7 @@ mod undefined;
 mod updates;
 mod written;
 
+pub use identities::owned_identity;
 pub use item_reasons::reason_in_bytes;
 pub use ranges_in_form::queried_range;
 pub use written::written_keys;

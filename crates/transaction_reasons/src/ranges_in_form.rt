@@ -1,14 +1,11 @@
 //! Results of ranges that aren't in form.
-ghost use Rattle.std.specs.Prelude.{◌≡◌, not, map, find, option_map, IfOk};
-ghost use Rattle.std.specs.Option.{option_copied};
+ghost use Rattle.std.specs.Prelude.{◌≡◌, map, IfOk};
 ghost use Rattle.std.specs.Ordering.{is_lt};
 ghost use Rattle.values.specs.Order.{bytes_cmp};
-ghost use Rattle.rules.specs.Ranges.{is_within};
-ghost use Rattle.reasons.specs.First.{first_there};
-ghost use Rattle.reasons.specs.Form.{first_fallen, range_in, range_fault};
+ghost use Rattle.reasons.specs.Form.{first_fallen, first_outside, range_in, result_in, range_fault, ranges_fault};
 
 use block_steps::is_within;
-use reasons::{FormFault, QueriedRange};
+use reasons::{FormFault, QueriedRange, RangeResult};
 use std::alloc::{AllocError, Global};
 use transaction::{KeyVersion, Range};
 use values::{Bytes, KeyRef, NameRef};
@@ -34,49 +31,65 @@ fn is_less(key: &KeyRef<'_>, other: &KeyRef<'_>) -> bool
     key.as_slice().cmp(&other.as_slice()).is_lt()
 }
 
-/// The key of the first result that isn't above the one before it.
-fn first_fallen<'a>(results: &[KeyVersion<'a>]) -> Option<KeyRef<'a>>
-    ensures { result ≡ first_fallen (map (λ x. x.key) results.now) }
+/// The first result that isn't above the one before it: its place and its key.
+fn first_fallen<'a>(results: &[KeyVersion<'a>]) -> Option<(usize, KeyRef<'a>)>
+    ensures { result ≡ first_fallen 0 (map (λ x. x.key) results.now) }
 {
     for i in 1..results.len() {
         if !is_less(&results[i - 1].key, &results[i].key) {
-            return Some(results[i].key.again());
+            return Some((i, results[i].key.again()));
         }
     }
     None
 }
 
-/// The key of the first result outside the range.
-fn first_outside<'a>(range: &Range<'a>) -> Option<KeyRef<'a>>
-    ensures { result ≡ option_map (λ x. x.key) (find (λ x. not (is_within range.now.start range.now.end x.key)) range.now.results) }
+/// The first result outside the range: its place and its key.
+fn first_outside<'a>(range: &Range<'a>) -> Option<(usize, KeyRef<'a>)>
+    ensures { result ≡ first_outside range.now.start range.now.end 0 (map (λ x. x.key) range.now.results) }
 {
-    for found in range.results.as_slice() {
+    for (place, found) in range.results.as_slice().iter().enumerate() {
         if !is_within(&range.start, &range.end, &found.key) {
-            return Some(found.key.again());
+            return Some((place, found.key.again()));
         }
     }
     None
+}
+
+/// A result of the range at this place of a namespace, copied.
+fn range_result(
+    alloc: Global,
+    namespace: &NameRef<'_>,
+    range_place: usize,
+    range: &Range<'_>,
+    place: usize,
+    key: &KeyRef<'_>,
+) -> Result<RangeResult, AllocError>
+    ensures { IfOk result (λ x. x ≡ result_in namespace.now range_place range.now (place, key.now)) }
+{
+    Ok(RangeResult {
+        range: queried_range(alloc, namespace, range)?,
+        range_place,
+        place,
+        key: key.copy(alloc)?,
+    })
 }
 
 /// The first result that falls, else the first one outside the range.
 fn range_fault(
     alloc: Global,
     namespace: &NameRef<'_>,
+    range_place: usize,
     range: &Range<'_>,
 ) -> Result<Option<FormFault>, AllocError>
-    ensures { IfOk result (λ fault. fault ≡ range_fault namespace.now range.now) }
+    ensures { IfOk result (λ fault. fault ≡ range_fault namespace.now range_place range.now) }
 {
-    if let Some(key) = first_fallen(range.results.as_slice()) {
-        return Ok(Some(FormFault::ResultFalls {
-            range: queried_range(alloc, namespace, range)?,
-            key: key.copy(alloc)?,
-        }));
+    if let Some((place, key)) = first_fallen(range.results.as_slice()) {
+        let fallen = range_result(alloc, namespace, range_place, range, place, &key)?;
+        return Ok(Some(FormFault::ResultFalls(fallen)));
     }
-    if let Some(key) = first_outside(range) {
-        return Ok(Some(FormFault::ResultLeaves {
-            range: queried_range(alloc, namespace, range)?,
-            key: key.copy(alloc)?,
-        }));
+    if let Some((place, key)) = first_outside(range) {
+        let outside = range_result(alloc, namespace, range_place, range, place, &key)?;
+        return Ok(Some(FormFault::ResultLeaves(outside)));
     }
     Ok(None)
 }
@@ -87,10 +100,10 @@ pub(crate) fn ranges_fault(
     namespace: &NameRef<'_>,
     ranges: &[Range<'_>],
 ) -> Result<Option<FormFault>, AllocError>
-    ensures { IfOk result (λ fault. fault ≡ first_there (map (range_fault namespace.now) ranges.now)) }
+    ensures { IfOk result (λ fault. fault ≡ ranges_fault namespace.now 0 ranges.now) }
 {
-    for range in ranges {
-        if let Some(fault) = range_fault(alloc, namespace, range)? {
+    for (range_place, range) in ranges.iter().enumerate() {
+        if let Some(fault) = range_fault(alloc, namespace, range_place, range)? {
             return Ok(Some(fault));
         }
     }

@@ -190,13 +190,13 @@ static LINES: &str = "\
 block 6 8a789cd576e3ddbe999daa46eb5af17df3f7bdebd04de980e932642975fe60c5
 0 0 VALID
 1 2 BAD_PAYLOAD
-2 4 BAD_CREATOR_SIGNATURE
+2 4 BAD_CREATOR_SIGNATURE creator Org1:client:c0
 3 6 INVALID_CONFIG_TRANSACTION not-alone
 4 8 BAD_PROPOSAL_TXID wanted fc72a154647f39ba60c7503b7c2debd18c99608711ac5adadee2152d196b82d3
-5 9 DUPLICATE_TXID used 0 0
-6 10 ENDORSEMENT_POLICY_FAILURE key cc car2 AND('Org1.peer','Org2.peer') Org1:peer:p0
+5 9 DUPLICATE_TXID used 0 0 0 VALID
+6 10 ENDORSEMENT_POLICY_FAILURE key cc car2 AND('Org1.peer','Org2.peer') Org1:peer:p0 missing Org2.peer
 7 11 MVCC_READ_CONFLICT read cc car5 was absent is 6 0 by 0
-8 12 PHANTOM_READ_CONFLICT range cc car1 car9 key car5 was absent is 6 0
+8 12 PHANTOM_READ_CONFLICT range cc car1 car9 key car5 was absent is 6 0 all by 0
 9 14 TARGET_CHAIN_NOT_FOUND channel other
 10 22 BAD_RWSET repeated cc reads car2
 11 25 INVALID_CHAINCODE undefined parts

@@ -1,5 +1,8 @@
 -- Signers that may not write.
-use Rattle.std.proofs.Common.{[], ◌∷◌, refl}
+use Rattle.std.proofs.Common.{ℕ, List, [], ◌∷◌, false, Some, refl}
+use Rattle.std.specs.Prelude.{codes}
+use Rattle.policy.specs.declared.tree.PolicyRole.TheVariants.{Peer}
+use Rattle.policy.specs.declared.tree.Principal.{Principal}
 use Rattle.rules.specs.State.{with_changes}
 use Rattle.rules.specs.Job.{Job}
 use Rattle.rules.specs.Fold.{running}
@@ -19,19 +22,22 @@ pub key_that_was_touched : IsEndorsementFault touching 3 (writing (put a ∷ put
 unfolding running with_changes first_below
 key_that_was_touched = (simp looks refl, simp looks refl)
 
+abbrev peer_in : List ℕ → Principal
+peer_in org = record { org = org; role = Peer }
+
 -- a and k, of which k has a policy of its own
 abbrev guarded : Job
 guarded = block_on 1 guarded_state (one (writing (put a ∷ put k ∷ [])) ∷ unendorsed (writing (put a ∷ put k ∷ [])) ∷ [])
 
-pub policy_of_the_key : IsEndorsementFault guarded 0 (writing (put a ∷ put k ∷ [])) (p0 ∷ []) (Unsatisfied chaincode k OfKey both_peers (p0 ∷ []))
+pub policy_of_the_key : IsEndorsementFault guarded 0 (writing (put a ∷ put k ∷ [])) (p0 ∷ []) (Unsatisfied chaincode k OfKey (record { policy = both_peers; signers = p0 ∷ []; refused = []; missing = Some (peer_in (codes "Org2")); another_order = false }))
 unfolding running with_changes first_below
 policy_of_the_key = (simp looks refl, refl, simp looks refl, refl)
 
-pub policy_of_the_chaincode : IsEndorsementFault guarded 1 (writing (put a ∷ put k ∷ [])) [] (Unsatisfied chaincode a OfChaincode either_peer [])
+pub policy_of_the_chaincode : IsEndorsementFault guarded 1 (writing (put a ∷ put k ∷ [])) [] (Unsatisfied chaincode a OfChaincode (record { policy = either_peer; signers = []; refused = p0 ∷ []; missing = Some (peer_in (codes "Org1")); another_order = false }))
 unfolding running with_changes first_below
 policy_of_the_chaincode = (simp looks refl, simp looks refl, (simp looks refl, simp looks refl), refl)
 
 -- nothing is written
-pub policy_of_the_named_chaincode : IsEndorsementFault (block_over [] (unendorsed (over []) ∷ [])) 0 (over []) [] (ChaincodeUnsatisfied chaincode either_peer [])
+pub policy_of_the_named_chaincode : IsEndorsementFault (block_over [] (unendorsed (over []) ∷ [])) 0 (over []) [] (ChaincodeUnsatisfied chaincode (record { policy = either_peer; signers = []; refused = p0 ∷ []; missing = Some (peer_in (codes "Org1")); another_order = false }))
 unfolding running with_changes first_below
 policy_of_the_named_chaincode = (refl, refl, simp looks refl, refl)

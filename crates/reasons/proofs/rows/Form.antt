@@ -8,6 +8,7 @@ use Rattle.reasons.specs.declared.form_fault.FormFault.TheVariants.{NamespaceRep
 use Rattle.reasons.specs.declared.key_list.KeyList.TheVariants.{Reads, Writes, PolicyWrites}
 use Rattle.reasons.specs.declared.policy_text_fault.PolicyTextFault.TheVariants.{Syntax}
 use Rattle.reasons.specs.declared.queried_range.QueriedRange.{QueriedRange}
+use Rattle.reasons.specs.declared.range_result.RangeResult.{RangeResult}
 use Rattle.reasons.specs.Form.{form_fault}
 use Rattle.rules.proofs.rows.Shared.{chaincode, dd, zz, a, c, k, at, absent, found, put, deleted, policy_put, policy_removed, broken_text, set_of}
 use Rattle.reasons.proofs.rows.Shared.{over, tx, reading, scanning}
@@ -46,21 +47,24 @@ a_to_d results = record { start = a; end = codes "d"; exhausted = true; results 
 abbrev range_a_to_d : QueriedRange
 range_a_to_d = record { namespace = chaincode; start = a; end = codes "d" }
 
-pub result_that_falls : form_fault (scanning (a_to_d (found_at_0 c ∷ found_at_0 a ∷ []))) ≡ Some (ResultFalls range_a_to_d a)
+abbrev result_of : ℕ → ℕ → List ℕ → RangeResult
+result_of range_place place key = record { range = range_a_to_d; range_place = range_place; place = place; key = key }
+
+pub result_that_falls : form_fault (scanning (a_to_d (found_at_0 c ∷ found_at_0 a ∷ []))) ≡ Some (ResultFalls (result_of 0 1 a))
 result_that_falls = refl
 
-pub result_that_repeats : form_fault (scanning (a_to_d (found_at_0 a ∷ found_at_0 c ∷ found_at_0 c ∷ found_at_0 a ∷ []))) ≡ Some (ResultFalls range_a_to_d c)
+pub result_that_repeats : form_fault (scanning (a_to_d (found_at_0 a ∷ found_at_0 c ∷ found_at_0 c ∷ found_at_0 a ∷ []))) ≡ Some (ResultFalls (result_of 0 2 c))
 result_that_repeats = refl
 
 -- the end is no key of the range
-pub result_that_leaves : form_fault (scanning (a_to_d (found_at_0 a ∷ found_at_0 (codes "d") ∷ found_at_0 (codes "e") ∷ []))) ≡ Some (ResultLeaves range_a_to_d (codes "d"))
+pub result_that_leaves : form_fault (scanning (a_to_d (found_at_0 a ∷ found_at_0 (codes "d") ∷ found_at_0 (codes "e") ∷ []))) ≡ Some (ResultLeaves (result_of 0 1 (codes "d")))
 result_that_leaves = refl
 
 -- e leaves the range, and then a falls
-pub falls_go_before_leaves : form_fault (scanning (a_to_d (found_at_0 (codes "e") ∷ found_at_0 a ∷ []))) ≡ Some (ResultFalls range_a_to_d a)
+pub falls_go_before_leaves : form_fault (scanning (a_to_d (found_at_0 (codes "e") ∷ found_at_0 a ∷ []))) ≡ Some (ResultFalls (result_of 0 1 a))
 falls_go_before_leaves = refl
 
-pub second_range : form_fault (tx [] (a_to_d [] ∷ a_to_d (found_at_0 (codes "d") ∷ []) ∷ []) [] []) ≡ Some (ResultLeaves range_a_to_d (codes "d"))
+pub second_range : form_fault (tx [] (a_to_d [] ∷ a_to_d (found_at_0 (codes "d") ∷ []) ∷ []) [] []) ≡ Some (ResultLeaves (result_of 1 0 (codes "d")))
 second_range = refl
 
 -- ---- policies
@@ -71,7 +75,7 @@ broken key = record { key = key; policy = Some broken_text }
 pub policy_that_is_unreadable : form_fault (tx [] [] [] (policy_put a ∷ broken k ∷ broken c ∷ [])) ≡ Some (UnreadablePolicy chaincode k Syntax)
 policy_that_is_unreadable = simp looks refl
 
-pub ranges_go_before_policies : form_fault (tx [] (a_to_d (found_at_0 (codes "d") ∷ []) ∷ []) [] (broken k ∷ [])) ≡ Some (ResultLeaves range_a_to_d (codes "d"))
+pub ranges_go_before_policies : form_fault (tx [] (a_to_d (found_at_0 (codes "d") ∷ []) ∷ []) [] (broken k ∷ [])) ≡ Some (ResultLeaves (result_of 0 0 (codes "d")))
 ranges_go_before_policies = refl
 
 pub in_form : form_fault (tx (absent k ∷ []) (a_to_d (found_at_0 a ∷ found_at_0 c ∷ []) ∷ []) (put k ∷ []) (policy_put k ∷ [])) ≡ None

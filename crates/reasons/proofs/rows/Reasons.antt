@@ -1,8 +1,10 @@
 -- Reasons as a whole.
 use Rattle.transaction.specs.declared.item.Item.{Item}
 use Rattle.transaction.specs.declared.item.Item.TheVariants as item
-use Rattle.std.proofs.Common.{[], ◌∷◌, Some, None, List, Option, refl, arith}
+use Rattle.std.proofs.Common.{[], ◌∷◌, false, Some, None, List, Option, refl, arith}
 use Rattle.transaction.specs.declared.transaction.Tx.{Tx}
+use Rattle.policy.specs.declared.tree.PolicyRole.TheVariants.{Peer}
+use Rattle.rules.specs.declared.flag.Flag.TheVariants.{Valid}
 use Rattle.rules.specs.State.{with_changes}
 use Rattle.rules.specs.Fold.{running}
 use Rattle.rules.specs.World.{empty_world}
@@ -33,9 +35,9 @@ pub no_transaction : IsReason channel any (empty_world channel.definitions) thre
 unfolding running with_changes
 no_transaction = record { place = omega arith; flag_is = refl; why = tt }
 
-pub id_was_used : IsReason channel any (empty_world channel.definitions) three 2 (UsedId (Here 0))
+pub id_was_used : IsReason channel any (empty_world channel.definitions) three 2 (UsedId (Here 0 Valid))
 unfolding running with_changes
-id_was_used = record { place = omega arith; flag_is = simp uses refl; why = (item.Tx writes_k, refl, (simp uses refl, simp uses refl)) }
+id_was_used = record { place = omega arith; flag_is = simp uses refl; why = (item.Tx writes_k, refl, (simp uses refl, simp uses refl, simp uses refl)) }
 
 -- ---- signers
 
@@ -50,7 +52,7 @@ badly_endorsed = record writes_k { endorsements = record { endorser = p0; signat
 abbrev channel_of_both : Configuration
 channel_of_both = record { name = codes "ch"; definitions = from_entries {R = bytes_cmp} ((chaincode, both_peers) ∷ []); admin = None }
 
-pub signers_that_there_were : IsReason channel_of_both accepts_none (empty_world channel_of_both.definitions) (Some (item.Tx badly_endorsed) ∷ []) 0 (NotEndorsed (Unsatisfied chaincode k OfChaincode both_peers (p0 ∷ [])))
+pub signers_that_there_were : IsReason channel_of_both accepts_none (empty_world channel_of_both.definitions) (Some (item.Tx badly_endorsed) ∷ []) 0 (NotEndorsed (Unsatisfied chaincode k OfChaincode (record { policy = both_peers; signers = p0 ∷ []; refused = q0 ∷ []; missing = Some (record { org = codes "Org2"; role = Peer }); another_order = false })))
 unfolding running with_changes first_below
 signers_that_there_were = record { place = omega arith; flag_is = simp uses refl; why = (badly_endorsed, refl, (simp uses refl, refl, (simp uses refl, simp uses refl), refl)) }
 
@@ -59,5 +61,5 @@ signers_that_there_were = record { place = omega arith; flag_is = simp uses refl
 abbrev badly_signed : Tx
 badly_signed = record writes_k { signature = 1 ∷ [] }
 
-pub signature_of_the_creator : IsReason channel accepts_none (empty_world channel.definitions) (Some (item.Tx badly_signed) ∷ []) 0 BadSignature
-signature_of_the_creator = record { place = omega arith; flag_is = refl; why = tt }
+pub signature_of_the_creator : IsReason channel accepts_none (empty_world channel.definitions) (Some (item.Tx badly_signed) ∷ []) 0 (BadSignature p0)
+signature_of_the_creator = record { place = omega arith; flag_is = refl; why = (item.Tx badly_signed, refl, refl) }

@@ -72,5 +72,5 @@ pub no_policy : IsUpdateFault with_admin any true (update_of chaincode cut_text 
 no_policy = simp updating refl
 
 -- with the signers that there were
-pub endorsed_by_a_peer : IsUpdateFault with_admin any true (update_of chaincode new_text (p0 ∷ p0 ∷ [])) (AdminUnsatisfied admin (p0 ∷ []))
+pub endorsed_by_a_peer : IsUpdateFault with_admin any true (update_of chaincode new_text (p0 ∷ p0 ∷ [])) (AdminUnsatisfied (record { policy = admin; signers = p0 ∷ []; refused = []; missing = Some (record { org = codes "Org1"; role = wanted.Admin }); another_order = false }))
 endorsed_by_a_peer = (simp updating refl, refl, refl)

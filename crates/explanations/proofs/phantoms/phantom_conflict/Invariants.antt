@@ -1,5 +1,4 @@
 use Rattle.std.proofs.Common.{◌≡◌, drop, Option}
-use Rattle.rules.specs.Fold.{running}
 use Rattle.reasons.specs.declared.phantom_key.PhantomKey.{PhantomKey}
 use Rattle.explanations.specs.Found.{IsFoundInSet, IsFoundFirst}
 use Rattle.explanations.proofs.phantoms.phantom_conflict.Given as goal
@@ -7,5 +6,5 @@ use Rattle.explanations.proofs.phantoms.phantom_conflict.Given as goal
 abbrev pub invariant-loop-set : goal.invariant-loop-set
 invariant-loop-set l = record {
   board : l.board ≡ l.initial.board;
-  left : (x : Option PhantomKey) → IsFoundFirst (IsFoundInSet (running l.job l.i).state) (drop l.set-index l.sets) x → IsFoundFirst (IsFoundInSet (running l.job l.i).state) l.sets x;
+  left : (x : Option PhantomKey) → IsFoundFirst (IsFoundInSet l.job l.i) (drop l.set-index l.sets) x → IsFoundFirst (IsFoundInSet l.job l.i) l.sets x;
 }

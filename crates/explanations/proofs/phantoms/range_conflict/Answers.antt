@@ -24,5 +24,5 @@ returns-clause-value c =
     let is = sym c.in-Some.is ∙ c.least_difference.ensures.value ∙ ap (least_where (differs_at there (version_read r)) None) c.as_slice-2.ensures.value in (
       c.in-Some.key,
       where_they_differ there (version_read r) c.add_results.new.keys.items (others_are_same j c.args.i c.args.namespace.now r c.in_ok-keys.keys.items c.add_results.new.keys.items c.in_ok-keys.ensures all) (Some c.in-Some.key) is,
-      λ t. record { range = c.in_ok-queried_range.ensures t; key = c.in_ok-copy.ensures t; read = c.version_found.ensures t; there = c.version_there.ensures.value t },
+      c.in_ok-phantom_key.ensures.value,
     )

@@ -1,7 +1,6 @@
 use Rattle.std.proofs.Common.{List, Option, sym, subst}
 use Rattle.transaction.specs.declared.transaction.NsSet.{NsSet}
 use Rattle.rules.specs.declared.flag.Flag.TheVariants.{PhantomReadConflict}
-use Rattle.rules.specs.Fold.{running}
 use Rattle.reasons.specs.declared.reason.Reason.{Reason}
 use Rattle.explanations.specs.Found.{IsFoundInSets}
 use Rattle.explanations.specs.Told.{IsTheReason}
@@ -13,4 +12,4 @@ returns-clause-value c =
     let o = c.args.open_tx.now in
     subst (λ (x : Option Reason). IsTheReason c.args.job.now c.args.i PhantomReadConflict x) (sym c.phantom.ensures)
     (tells_phantom c.args.job.now c.args.i c.each_place_has_one_reason.ensures.one_reason o.tx o.signers c.requires.opened o.in_form c.in_ok-key.key
-    (subst (λ (sets : List NsSet). IsFoundInSets (running c.args.job.now c.args.i).state sets c.in_ok-key.key) c.as_slice.ensures c.in_ok-key.ensures.value))
+    (subst (λ (sets : List NsSet). IsFoundInSets c.args.job.now c.args.i sets c.in_ok-key.key) c.as_slice.ensures c.in_ok-key.ensures.value))

@@ -1,7 +1,6 @@
-use Rattle.std.proofs.Common.{◌≡◌, map, drop}
-use Rattle.reasons.specs.First.{first_there}
-use Rattle.reasons.specs.Form.{range_fault}
+use Rattle.std.proofs.Common.{◌≡◌, drop}
+use Rattle.reasons.specs.Form.{ranges_fault}
 use Rattle.transaction_reasons.proofs.ranges_in_form.ranges_fault.Given as goal
 
-abbrev pub invariant-loop-range : goal.invariant-loop-range
-invariant-loop-range l = first_there (map (range_fault l.namespace) l.ranges) ≡ first_there (map (range_fault l.namespace) (drop l.range-index l.ranges))
+abbrev pub invariant-loop-range_place : goal.invariant-loop-range_place
+invariant-loop-range_place l = ranges_fault l.namespace 0 l.ranges ≡ ranges_fault l.namespace l.range_place (drop l.range_place l.ranges)

@@ -1,0 +1,24 @@
+//! A chain whose last two blocks have each word of a reason, and ids that are asked for.
+
+use crate::explained::each_word::vectors::{
+    answers, channel, first_block, keys, second_block, third_block,
+};
+use crate::files::MemoryFiles;
+use crate::fixture::unlike;
+use std::alloc::AllocError;
+
+mod vectors;
+
+#[test]
+fn each_word_of_a_reason(rt: HostRuntime) -> Result<(), AllocError> {
+    let files = [
+        ("c", channel()),
+        ("k", keys()),
+        ("b0", first_block()),
+        ("b1", second_block()),
+        ("b2", third_block()),
+    ];
+    let unlike = unlike(&rt, &MemoryFiles(&files), answers())?;
+    assert!(rt; unlike.is_none(), "{unlike:?}");
+    Ok(())
+}
