@@ -144,7 +144,7 @@ fn cause(reason: &Reason) -> Option<usize> {
         Reason::InvalidUpdate(UpdateFault::NoAdminPolicy) => Some(1),
         Reason::InvalidUpdate(UpdateFault::NoDefinition { .. }) => Some(2),
         Reason::InvalidUpdate(UpdateFault::NoPolicy(_)) => Some(3),
-        Reason::InvalidUpdate(UpdateFault::AdminUnsatisfied { .. }) => Some(4),
+        Reason::InvalidUpdate(UpdateFault::AdminUnsatisfied(_)) => Some(4),
         _ => None,
     }
 }

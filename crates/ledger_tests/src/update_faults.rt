@@ -48,9 +48,9 @@ fn put_fault(alloc: Global, told: &mut Vec<u8>, fault: &UpdateFault) -> Result<(
             let text = format!(in alloc; "no policy: {fault:?}")?;
             told.extend_from_slice(text.as_bytes())
         }
-        UpdateFault::AdminUnsatisfied { policy, signers } => {
-            let text = policy.text(alloc)?;
-            put_unsatisfied(told, text.as_str(), signers.as_slice())
+        UpdateFault::AdminUnsatisfied(shortfall) => {
+            let text = shortfall.policy.text(alloc)?;
+            put_unsatisfied(told, text.as_str(), shortfall.signers.as_slice())
         }
     }
 }
