@@ -12,7 +12,6 @@ pub struct Shortfall {
     /// The first principal that was left without a signer: of a gate that isn't satisfied, that of its first
     /// member that isn't. There is one, as each policy has it that some text spells.
     pub missing: Option<Principal>,
-    /// Whether the same signers would satisfy the policy if each of its gates asked for members of any role
-    /// last: then they are enough, and only their order fails.
+    /// Whether the same signers would satisfy the policy if each of its gates asked for members of any role last.
     pub another_order: bool,
 }
