@@ -223,7 +223,8 @@ fn explain_last<'a, W: Write, P: Progress>(
 }
 
 /// Reads the files, hands all blocks but the last in, and writes the last one's lines. The memory is that of `run`,
-/// with the reasons, and a buffer of a fixed size.
+/// with the reasons, and a buffer of a fixed size. Where an id is asked for or shown, the last block's items are
+/// decoded once more, and 65 bytes kept for each.
 pub fn print_reasons<'a, F: Files, W: Write, P: Progress>(
     alloc: Global,
     files: &F,
