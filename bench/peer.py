@@ -13,7 +13,8 @@ Each transaction has two endorsements, which its policy asks for; values are of 
 - `contended`: as typical, but all four keys are drawn by Zipf's law, so that the first key is in each seventh draw.
 - `wide`: 5 blocks of 4,096 transactions, each of which reads and writes keys that no other one has.
 - `chain`: 2 blocks of 4,096 transactions, each of which reads what the one before it wrote.
-- `state`: 20 blocks of 500 as in typical, over 1,000,000 keys.
+- `drawn`: 20 blocks of 500 as in typical, over 100,000 keys.
+- `state`: the same over 1,000,000 keys.
 - `history`: 100 blocks of 500 transactions, all of which write the same 10 keys.
 - `ranges`: 20 blocks of 500 transactions that read a range of 10 keys and write a key elsewhere.
 - `policies`: 20 blocks of 500 transactions that write two keys with policies of their own.
@@ -30,6 +31,8 @@ Above it stands the limit of the machine, `limit`: how much faster two and four 
 A second table has the time for one transaction with one worker, to whom blocks are handed in one by one: by the size of a
 block, the length of the chain and the keys of the state; the slope is that of its logarithm by theirs: 0 where it doesn't
 grow.
+
+A third table, `slow`, is of `typical` and `state` by a verifier that takes some 60 µs more for a signature, as one of ECDSA P-256 does.
 
 `--beside` has another checkout of this repository whose libraries are built, and another table: how long a transaction takes, with
 1, 2 and 4 workers, by this one's committer and by that one's, in turns, and what that is divided by.
@@ -56,7 +59,7 @@ from scratch import RUNS, UNDER, Machine, build, built_of, times_as_long
 from encoding import Namespace, Tx, data_hash, header_hash, identity, spelled_block, spelled_tx, tx_id
 from signing import Keys
 
-CRATES = ["block", "transaction", "values", "header_hash", "key_book", "rules", "gates", "commit"]
+CRATES = ["block", "transaction", "values", "header_hash", "policy_eval", "key_book", "rules", "gates", "commit"]
 WORKERS = [1, 2, 4]
 # How many keys a transaction writes that makes the state, and how many of them a block has.
 STEP, STEPS = 2500, 20
@@ -66,11 +69,16 @@ KEYS = "".join(f"{who} {number:02x}{'5a' * 31}\n" for number, who in enumerate([
 VALUE = b"v" * 100
 POLICY = b"AND('Org1.peer','Org2.peer')"
 
-# Its words are `hash`, `ledger`, `explain`, `submit`, or for `run` the number of workers; how many blocks make the state; and files
+# Its words are `hash`, `ledger`, `explain`, `submit`, or for `run` the number of workers, behind `slow` where the verifier is; how many blocks make the state; and files
 # of blocks. For each it prints the nanoseconds that it took, or that its hashing took, and how many of its transactions are valid;
 # for `run` that of each that makes the state, and that of all others together.
 PROGRAM = r"""
 #![tactic(auto)]
+
+ghost use Rattle.std.specs.Prelude.{◌&&◌, not};
+ghost use Rattle.std.specs.Str.{bytes_eq};
+ghost use Rattle.key_book.specs.Book.{accepts};
+ghost use Rattle.key_book.specs.Hmac.{hmac};
 
 use anyhow::bail;
 use block::decode_block;
@@ -78,6 +86,7 @@ use commit::{Channel, Committer, Flag, Ledger};
 use gates::Open;
 use header_hash::{DataHasher, commit_hash, tx_id};
 use key_book::{KeyBook, hmac_sha256};
+use policy_eval::Verify;
 use rules::Delta;
 use std::alloc::Global;
 use std::io::Print;
@@ -86,8 +95,28 @@ use std::sync::Wait;
 use std::thread::Threads;
 use std::time::{Clock, Instant};
 use std::{env, fs};
-use transaction::{SpelledTx, append_identity, decode_tx, encode_body};
+use transaction::{Identity, SpelledTx, append_identity, decode_tx, encode_body};
 use values::{Bytes, Slice};
+
+// So many bytes are hashed beside a signature by a verifier that takes 60 µs more, where a byte takes 4.4 ns.
+const SLOW_BYTES: usize = 13_600;
+
+/// A key book that takes its time: it hashes some bytes beside each signature that it accepts.
+#[derive(Drop)]
+struct Slow<'k> {
+    keys: &'k KeyBook,
+    key: [u8; 32],
+    bytes: &'k [u8],
+}
+
+impl<'k> Verify for Slow<'k> {
+    ghost accepts = { λ v identity message signature. accepts v.keys.now identity message signature && not (bytes_eq (hmac v.key v.bytes.now) message) };
+
+    fn verify(&self, identity: &Identity<'_>, message: &[u8], signature: &[u8]) -> bool {
+        self.keys.verify(identity, message, signature)
+            && hmac_sha256(&self.key, self.bytes).as_slice() != message
+    }
+}
 
 // Of a row that differs: lengths and the row's version; and of a block.
 const OF_A_ROW: usize = 22;
@@ -219,14 +248,14 @@ fn explained<R: Clock + Print>(rt: &R, ledger: &mut Ledger, keys: &KeyBook, byte
     Ok(())
 }
 
-fn by_committer<R: Clock + Print + Threads + Wait + Sync>(
+fn by_committer<R: Clock + Print + Threads + Wait + Sync, V: Verify + Sync>(
     rt: &R,
     committer: &mut Committer,
-    keys: &KeyBook,
+    verifier: &V,
     bytes: &[u8],
 ) -> anyhow::Result<()> {
     let start = Instant::now(rt)?;
-    let answer = committer.submit(rt, bytes, keys, &Open);
+    let answer = committer.submit(rt, bytes, verifier, &Open);
     let nanos = start.elapsed(rt)?.as_nanos();
     let Ok(receipt) = answer else {
         bail!("refused");
@@ -291,37 +320,37 @@ fn submit_to_ledger<R: AllocGlobal + Files + Clock + Print>(rt: &R, is_explained
     Ok(())
 }
 
-fn submit_to<R: AllocGlobal + Files + Clock + Print + Threads + Wait + Sync>(
+fn submit_to<R: AllocGlobal + Files + Clock + Print + Threads + Wait + Sync, V: Verify + Sync>(
     rt: &R,
     committer: &mut Committer,
+    verifier: &V,
     paths: &[String],
 ) -> anyhow::Result<()> {
-    let keys = key_book(rt)?;
     for path in paths {
         let bytes = fs::read(rt, path.as_str())?;
-        by_committer(rt, committer, &keys, &bytes)?;
+        by_committer(rt, committer, verifier, &bytes)?;
     }
     Ok(())
 }
 
-fn run_all<R: AllocGlobal + Files + Clock + Print + Threads + Wait + Sync>(
+fn run_all<R: AllocGlobal + Files + Clock + Print + Threads + Wait + Sync, V: Verify + Sync>(
     rt: &R,
     committer: &mut Committer,
+    verifier: &V,
     setup: usize,
     paths: &[String],
 ) -> anyhow::Result<()> {
     let (first, others) = paths.split_at(setup.min(paths.len()));
-    submit_to(rt, committer, first)?;
+    submit_to(rt, committer, verifier, first)?;
     if others.is_empty() {
         return Ok(());
     }
-    let keys = key_book(rt)?;
     let mut blocks = Vec::new(rt.alloc());
     for path in others {
         blocks.push(Bytes::from_vec(fs::read(rt, path.as_str())?))?;
     }
     let start = Instant::now(rt)?;
-    let answers = committer.run(rt, blocks.as_slice(), &keys, &Open)?;
+    let answers = committer.run(rt, blocks.as_slice(), verifier, &Open)?;
     let nanos = start.elapsed(rt)?.as_nanos();
     let mut count = 0u32;
     for answer in answers {
@@ -334,8 +363,9 @@ fn run_all<R: AllocGlobal + Files + Clock + Print + Threads + Wait + Sync>(
     Ok(())
 }
 
-fn submit_to_committer<R: AllocGlobal + Files + Clock + Print + Threads + Wait + Sync>(
+fn submit_to_committer<R: AllocGlobal + Files + Clock + Print + Threads + Wait + Sync, V: Verify + Sync>(
     rt: &R,
+    verifier: &V,
     workers: usize,
     setup: usize,
     paths: &[String],
@@ -343,9 +373,36 @@ fn submit_to_committer<R: AllocGlobal + Files + Clock + Print + Threads + Wait +
     let Ok((mut committer, _handles)) = Committer::open(rt.alloc(), rt, channel(rt)?, workers, 0) else {
         bail!("no committer");
     };
-    let ended = run_all(rt, &mut committer, setup, paths);
+    let ended = run_all(rt, &mut committer, verifier, setup, paths);
     committer.close(rt);
     ended
+}
+
+fn by_keys<R: AllocGlobal + Files + Clock + Print + Threads + Wait + Sync>(
+    rt: &R,
+    workers: usize,
+    setup: usize,
+    paths: &[String],
+) -> anyhow::Result<()> {
+    let keys = key_book(rt)?;
+    submit_to_committer(rt, &keys, workers, setup, paths)
+}
+
+fn slowly<R: AllocGlobal + Files + Clock + Print + Threads + Wait + Sync>(
+    rt: &R,
+    workers: usize,
+    setup: usize,
+    paths: &[String],
+) -> anyhow::Result<()> {
+    let keys = key_book(rt)?;
+    let mut bytes = Vec::new(rt.alloc());
+    bytes.resize(SLOW_BYTES, 0)?;
+    let slow = Slow {
+        keys: &keys,
+        key: [7; 32],
+        bytes: bytes.as_slice(),
+    };
+    submit_to_committer(rt, &slow, workers, setup, paths)
 }
 
 fn main(rt: HostRuntime) -> anyhow::Result<()> {
@@ -364,10 +421,13 @@ fn main(rt: HostRuntime) -> anyhow::Result<()> {
         "hash" => hash_blocks(&rt, &paths),
         "ledger" => submit_to_ledger(&rt, false, &paths),
         "explain" => submit_to_ledger(&rt, true, &paths),
-        "submit" => submit_to_committer(&rt, 1, paths.len(), &paths),
-        "1" => submit_to_committer(&rt, 1, setup, &paths),
-        "2" => submit_to_committer(&rt, 2, setup, &paths),
-        "4" => submit_to_committer(&rt, 4, setup, &paths),
+        "submit" => by_keys(&rt, 1, paths.len(), &paths),
+        "1" => by_keys(&rt, 1, setup, &paths),
+        "2" => by_keys(&rt, 2, setup, &paths),
+        "4" => by_keys(&rt, 4, setup, &paths),
+        "slow 1" => slowly(&rt, 1, setup, &paths),
+        "slow 2" => slowly(&rt, 2, setup, &paths),
+        "slow 4" => slowly(&rt, 4, setup, &paths),
         _ => bail!("no way"),
     }
 }
@@ -510,6 +570,7 @@ WORKLOADS = {
     "contended": (2000, contended, 100, 500),
     "wide": (20_480, wide, 5, 4096),
     "chain": (10, chain, 2, 4096),
+    "drawn": (100_000, mixed, 20, 500),
     "state": (1_000_000, mixed, 20, 500),
     "history": (10, history, 100, 500),
     "ranges": (2000, ranges, 20, 500),
@@ -567,6 +628,14 @@ def told_beside(program, other, name, blocks):
     for count, these, those in zip(WORKERS, times[::2], times[1::2]):
         least, median = times_as_long(these, those)
         print(f"{name:>10} {count:>8} {min(these):>8.1f} {min(those):>8.1f} {least:>6.2f} {median:>8.2f}", flush=True)
+
+
+def told_slow(program, name, blocks):
+    times = [for_one(runs, blocks) for runs, _ in timed([(program, f"slow {count}", blocks) for count in WORKERS])]
+    least = " ".join(f"{min(runs):>8.1f}" for runs in times)
+    ratios = [times_as_long(times[0], runs) for runs in times[1:]]
+    faster, medians = (" ".join(f"{number:.2f}" for number in numbers) for numbers in zip(*ratios))
+    print(f"{name:>10} {least} {faster:>10}  {medians}", flush=True)
 
 
 def slope(found):
@@ -645,12 +714,20 @@ def beside(program, folder, made, top):
         told_beside(program, other, title, blocks)
 
 
+def made_in(folder, title):
+    """The blocks of a workload."""
+    state, make, *sizes = WORKLOADS[title]
+    blocks = Blocks(folder / title, state)
+    make(blocks, *sizes)
+    return blocks
+
+
 def main():
     words = argparse.ArgumentParser()
     words.add_argument("--beside", metavar="FOLDER")
     words.add_argument("workloads", nargs="*")
     words = words.parse_args()
-    wanted, made = words.workloads or ["limit", *WORKLOADS, "growth"], {}
+    wanted, made = words.workloads or ["limit", *WORKLOADS, "slow", "growth"], {}
     machine = Machine()
     with tempfile.TemporaryDirectory() as name:
         folder = pathlib.Path(name)
@@ -660,13 +737,16 @@ def main():
         if set(wanted) & set(WORKLOADS):
             print("             µs for one transaction                  transactions a second, by 1, 2, 4")
             print("            hashing  ledger explain  worker  ratio  workers                       faster      memory  medians")
-        for title, (state, make, *sizes) in WORKLOADS.items():
+        for title in WORKLOADS:
             if title in wanted:
-                blocks = made[title] = Blocks(folder / title, state)
-                make(blocks, *sizes)
-                told(program, title, blocks)
+                made[title] = made_in(folder, title)
+                told(program, title, made[title])
         if words.beside:
             beside(program, folder, made, words.beside)
+        if "slow" in wanted:
+            print("          µs for one transaction by 1, 2, 4    faster      medians")
+            for title in ("typical", "state"):
+                told_slow(program, title, made.get(title) or made_in(folder, title))
         if "growth" in wanted:
             for state in (2000, 1_000_000):
                 by_size(program, folder, state)

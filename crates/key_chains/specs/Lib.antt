@@ -11,5 +11,4 @@ pub mod Building
 pub mod Built
 pub mod Older
 pub mod Cells
-pub mod WrittenRows
 pub mod Shown

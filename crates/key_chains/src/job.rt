@@ -11,7 +11,6 @@ ghost use Rattle.rules.specs.Candidate.{flagged};
 ghost use Rattle.candidates.specs.Seen.{seen};
 ghost use Rattle.key_chains.specs.Operations.{operations};
 ghost use Rattle.key_chains.specs.PolicyWriters.{policy_writers};
-ghost use Rattle.key_chains.specs.WrittenRows.{AreRows};
 ghost use Rattle.state_db.specs.Batch.{changed};
 
 use crate::chains::{Chains, newest_on};
@@ -51,7 +50,7 @@ impl<'a> Model for Job<'a> {
     ghost use Rattle.block.specs.Limits.{max_txs};
     ghost use Rattle.candidates.specs.Seen.{seen};
     ghost use Rattle.key_chains.specs.Built.{IsBuilt};
-    ghost use Rattle.key_chains.specs.WrittenRows.{AreRows};
+    ghost use Rattle.state_db.specs.LookedUp.{AreRows};
 
     ghost view = { λ j. record { number = j.number; state = j.state.now.state; definitions = j.definitions.now; admin = option_copied j.admin; candidates = map seen j.candidates.items } };
 
@@ -65,21 +64,6 @@ fn item_of<T: Copy>(items: &[T], firsts: &[usize], i: u32, item: usize) -> T
     ensures { (d : T) → result ≡ slice_index_or items.now (slice_index firsts.now i + item) d }
 {
     items[firsts[i as usize] + item]
-}
-
-/// The rows of these keys.
-fn rows_of<'a>(
-    alloc: Global,
-    state: &'a StateDb,
-    keys: &[StateKey<'_>],
-) -> Result<Vec<Option<&'a Row>>, AllocError>
-    ensures { IfOk result (λ rows. AreRows state.entry.now.state keys.now rows.items) }
-{
-    let mut rows = Vec::with_capacity(alloc, keys.len())?;
-    for key in keys {
-        rows.push(state.row(key))?;
-    }
-    Ok(rows)
 }
 
 impl<'a> Job<'a> {
@@ -97,7 +81,7 @@ impl<'a> Job<'a> {
         ensures { IfOk result (λ j. j ≡ record { number = number; state = state.entry.now.state; definitions = definitions.entry.now; admin = option_copied admin.entry; candidates = map seen candidates.entry.items }) }
     {
         let chains = Chains::build(alloc, candidates.as_slice())?;
-        let rows = rows_of(alloc, state, chains.keys.as_slice())?;
+        let rows = state.rows_of(alloc, chains.keys.as_slice())?;
         Ok(Job {
             number,
             state,
@@ -201,11 +185,13 @@ impl<'a> Job<'a> {
         self.state.range(namespace, start, end)
     }
 
-    /// The rows that a batch would make differ from those before the block, spelled (`StateDb::update_bytes`).
+    /// The rows that a batch would make differ from those before the block, spelled (`StateDb::update_bytes`). A change of a key that
+    /// the block writes needs no look-up.
     pub fn update_bytes(&self, batch: &Batch) -> Result<Vec<u8>, AllocError>
         ensures { IfOk result (λ bytes. bytes.items ≡ update_bytes self.now.state (changed self.now.state batch.now)) }
     {
-        self.state.update_bytes(batch)
+        self.state
+            .update_bytes(batch, self.chains.keys.as_slice(), self.rows.as_slice())
     }
 
     /// The policy of a chaincode.

@@ -180,8 +180,8 @@ fn ready_of(
 /// The delta of a block that is the next one behind a block of this commit hash, which keeps these bytes; of its job, ids and flags.
 /// With the batch of its changes, by which the rows that differ are hashed too.
 ///
-/// Linear in the block and in what it writes, and two searches for each key that it writes. Memory for the delta and its batch, and for
-/// what is hashed; keys and values are parts of the bytes where they stand in them.
+/// Linear in the block and in what it writes. Memory for the delta and its batch, and for what is hashed; keys and values are parts of
+/// the bytes where they stand in them.
 pub fn delta_of(
     alloc: Global,
     bytes: Shared<Bytes>,

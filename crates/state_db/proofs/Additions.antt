@@ -1,5 +1,5 @@
 -- A batch of one change more.
-use Rattle.std.proofs.Common.{◌≡◌, ℕ, ◌+◌, ◌<◌, List, [], ◌∷◌, length, take, get_or, Option, sym, ap, ◌∙◌}
+use Rattle.std.proofs.Common.{◌≡◌, ℕ, ◌+◌, ◌<◌, List, [], length, take, get_or, Option, sym, ap, ◌∙◌}
 use Rattle.std.proofs.lemmas.List.{map_more, nil_from_length}
 use Rattle.std.specs.FinMap.{empty, entries, len-entries, len-empty}
 use Rattle.rules.specs.declared.delta.Change.{Change}

@@ -5,6 +5,7 @@ mod Changing
 mod Counts
 mod FromKey
 mod Leading
+mod LookedUp
 mod Maps
 mod Needs
 mod Opened

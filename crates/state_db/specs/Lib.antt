@@ -3,6 +3,7 @@ pub mod Limits
 pub mod Pages
 pub mod Search
 pub mod Batch
+pub mod LookedUp
 pub mod Ranges
 pub mod Edits
 pub mod Need

@@ -7,6 +7,7 @@ mod apply;
 mod batch;
 mod directory;
 mod edit;
+mod looked_up;
 mod page;
 mod rows;
 mod search;

@@ -6,6 +6,7 @@ ghost use Rattle.rules.specs.Ranges.{is_within, rows_where};
 ghost use Rattle.rules.specs.State.{with_changes};
 ghost use Rattle.state_db.specs.Limits.{max_page_rows};
 ghost use Rattle.state_db.specs.Batch.{changed};
+ghost use Rattle.state_db.specs.LookedUp.{AreRows};
 ghost use Rattle.state_db.specs.Search.{IsSorted};
 
 use crate::apply::{edit_pages, first_pages};
@@ -69,6 +70,21 @@ impl StateDb {
         ensures { option_copied result ≡ get self.now.state key.now }
     {
         row_of(self.pages.as_slice(), &key.wanted())
+    }
+
+    /// The rows of keys, each at its key's place. A look-up for each; memory for a list of them.
+    pub fn rows_of<'a>(
+        &'a self,
+        alloc: Global,
+        keys: &[StateKey<'_>],
+    ) -> Result<Vec<Option<&'a Row>>, AllocError>
+        ensures { IfOk result (λ rows. AreRows self.now.state keys.now rows.items) }
+    {
+        let mut rows = Vec::with_capacity(alloc, keys.len())?;
+        for key in keys {
+            rows.push(self.row(key))?;
+        }
+        Ok(rows)
     }
 
     /// The rows of a namespace from a start to before an end, an empty end being no bound, in the order of their keys.
@@ -137,11 +153,20 @@ impl StateDb {
 
     /// The rows that a batch would make differ, and changes none: how many they are, and then each with its key, in the order of the
     /// keys, spelled as the commit hash has them. A row that is put where the same one is, or removed where there is none, is none of
-    /// them. A look-up for each change, else linear in what is answered, for which it takes memory.
-    pub fn update_bytes(&self, batch: &Batch) -> Result<Vec<u8>, AllocError>
+    /// them.
+    ///
+    /// The rows of some keys are known (`rows_of`): where keys are in their order a change of one of them takes a step for each key
+    /// since the change before it, any other a look-up. Else linear in what is answered, for which it takes memory.
+    pub fn update_bytes<'a>(
+        &'a self,
+        batch: &Batch,
+        keys: &[StateKey<'_>],
+        rows: &[Option<&'a Row>],
+    ) -> Result<Vec<u8>, AllocError>
+        requires known { AreRows self.now.state keys.now rows.now }
         ensures { IfOk result (λ bytes. bytes.items ≡ update_bytes self.now.state (changed self.now.state batch.now)) }
     {
-        update_of(self.alloc, self.pages.as_slice(), batch.edits())
+        update_of(self.alloc, self.pages.as_slice(), keys, rows, batch.edits())
     }
 
     /// How many pages hold the rows.

@@ -7,15 +7,18 @@ ghost use Rattle.byteorder.specs.Endian.{big_bytes};
 ghost use Rattle.transaction.specs.Grammar.{counted, listed, optional, version_bytes};
 ghost use Rattle.rules.specs.Differing.{policy_text, is_same_row, is_unchanged};
 ghost use Rattle.rules.specs.CommitBytes.{row_bytes, change_bytes};
+ghost use Rattle.std.specs.FinMap.{from_sorted};
 ghost use Rattle.state_db.specs.Changing.{changing, if_changing};
+ghost use Rattle.state_db.specs.LookedUp.{AreRows};
 ghost use Rattle.state_db.specs.Pages.{joined, ArePages};
 
-use crate::directory::row_of;
 use crate::edit::Edit;
+use crate::looked_up::row_from;
 use crate::page::Page;
 use byteorder::{BigEndian, ByteOrder};
 use policy::Policy;
 use rules::Row;
+use state_keys::StateKey;
 use std::alloc::{AllocError, Global};
 use transaction::{Version, put_counted8, put_counted16, put_counted32, put_u32, put_u64};
 use values::Shared;
@@ -137,20 +140,26 @@ fn put_if_changing(
     Ok(count + 1)
 }
 
-/// Adds the edits that make a row of these pages differ. Answers how many they are.
-fn put_changing(
+/// Adds the edits that make a row of these pages differ. Answers how many they are. The rows of some keys are known.
+fn put_changing<'a>(
     alloc: Global,
     out: &mut Vec<u8>,
-    pages: &[Page],
+    pages: &'a [Page],
+    keys: &[StateKey<'_>],
+    rows: &[Option<&'a Row>],
     edits: &[Edit],
 ) -> Result<usize, AllocError>
-    requires { ArePages pages.now }
+    requires pages { ArePages pages.now }
+    requires rows { AreRows (from_sorted (joined pages.now)) keys.now rows.now }
     ensures out { OnOk result (out.new.items ≡ out.old.items ++ flat_map change_bytes (changing (joined pages.now) edits.now)) }
     ensures count { IfOk result (λ n. n ≡ length (changing (joined pages.now) edits.now)) }
 {
     let mut count = 0;
+    let mut from = 0;
     for edit in edits {
-        count = put_if_changing(alloc, out, count, row_of(pages, &edit.wanted()), edit)?;
+        let (before, at) = row_from(pages, keys, rows, from, edit);
+        count = put_if_changing(alloc, out, count, before, edit)?;
+        from = at;
     }
     Ok(count)
 }
@@ -165,18 +174,22 @@ fn set_count(out: &mut [u8], count: usize)
     out[..4].copy_from_slice(&bytes[4..]);
 }
 
-/// How many edits make a row of these pages differ, and each of them. The count stands in front, and is known last.
-pub(crate) fn update_of(
+/// How many edits make a row of these pages differ, and each of them. The count stands in front, and is known last. The rows of some
+/// keys are known.
+pub(crate) fn update_of<'a>(
     alloc: Global,
-    pages: &[Page],
+    pages: &'a [Page],
+    keys: &[StateKey<'_>],
+    rows: &[Option<&'a Row>],
     edits: &[Edit],
 ) -> Result<Vec<u8>, AllocError>
-    requires { ArePages pages.now }
+    requires pages { ArePages pages.now }
+    requires rows { AreRows (from_sorted (joined pages.now)) keys.now rows.now }
     ensures { IfOk result (λ bytes. bytes.items ≡ listed 4 change_bytes (changing (joined pages.now) edits.now)) }
 {
     let mut out = Vec::with_capacity(alloc, edits.len().saturating_mul(ROW_BYTES))?;
     out.extend_from_slice(&[0; 4])?;
-    let count = put_changing(alloc, &mut out, pages, edits)?;
+    let count = put_changing(alloc, &mut out, pages, keys, rows, edits)?;
     set_count(out.as_mut_slice(), count);
     Ok(out)
 }

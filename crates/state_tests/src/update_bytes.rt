@@ -5,6 +5,7 @@ use failing::Failed;
 use policy::Policy;
 use rules::Row;
 use state_db::{Batch, StateDb};
+use state_keys::StateKey;
 use std::alloc::Global;
 use transaction::Version;
 use values::{Part, Shared};
@@ -139,14 +140,47 @@ fn apply(alloc: Global, state: &mut StateDb, edits: &[Edit]) -> Result<(), Faile
     Ok(state.apply(&batch)?)
 }
 
+fn keys_of(alloc: Global, edits: &[Edit]) -> Result<Vec<StateKey<'static>>, Failed> {
+    let mut keys = Vec::new(alloc);
+    for &(namespace, at, _) in edits {
+        keys.push(StateKey::new(&name(namespace)?, &key(at)?))?;
+    }
+    Ok(keys)
+}
+
+// Where the rows of these keys are known.
+fn is_spelled_knowing(
+    alloc: Global,
+    state: &StateDb,
+    keys: &[StateKey<'_>],
+    edits: &[Edit],
+    bytes: &[u8],
+) -> Result<bool, Failed> {
+    let batch = batch_of(alloc, edits)?;
+    let rows = state.rows_of(alloc, keys)?;
+    let spelled = state.update_bytes(&batch, keys, rows.as_slice())?;
+    Ok(spelled.as_slice() == bytes)
+}
+
+// No row is known; all are, of keys in their order, and as they were given; the first one is, and the last.
 fn is_spelled_in(
     alloc: Global,
     state: &StateDb,
     edits: &[Edit],
     bytes: &[u8],
 ) -> Result<bool, Failed> {
-    let batch = batch_of(alloc, edits)?;
-    Ok(state.update_bytes(&batch)?.as_slice() == bytes)
+    let given = keys_of(alloc, edits)?;
+    let given = given.as_slice();
+    let mut ordered = keys_of(alloc, edits)?;
+    ordered.sort_unstable();
+    let one = given.len().min(1);
+    Ok(
+        is_spelled_knowing(alloc, state, &[], edits, bytes)?
+            && is_spelled_knowing(alloc, state, ordered.as_slice(), edits, bytes)?
+            && is_spelled_knowing(alloc, state, given, edits, bytes)?
+            && is_spelled_knowing(alloc, state, &given[..one], edits, bytes)?
+            && is_spelled_knowing(alloc, state, &given[given.len() - one..], edits, bytes)?,
+    )
 }
 
 fn is_spelled(

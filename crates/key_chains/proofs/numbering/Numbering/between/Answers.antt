@@ -1,4 +1,4 @@
-use Rattle.std.proofs.Common.{◌≡◌, ◌-◌, ℕ, List, take, drop, sym, ap, arith, ◌∙◌}
+use Rattle.std.proofs.Common.{ℕ, List, ap, ◌∙◌}
 use Rattle.rules.specs.State.{StateKey}
 use Rattle.rules.specs.Ranges.{is_within}
 use Rattle.key_chains.specs.Job.{keys_where}

@@ -1,5 +1,5 @@
-use Rattle.std.proofs.Common.{◌≡◌, sym, ap, ◌∙◌}
-use Rattle.std.specs.FinMap.{from_sorted, entries}
+use Rattle.std.proofs.Common.{◌≡◌, ap, ◌∙◌}
+use Rattle.std.specs.FinMap.{from_sorted}
 use Rattle.transaction.specs.Grammar.{listed}
 use Rattle.rules.specs.CommitBytes.{update_bytes, change_bytes}
 use Rattle.rules.specs.State.{State, key_cmp, with_changes}

@@ -1,0 +1,61 @@
+//! Rows that were looked up once for keys, and needn't be again.
+ghost use Rattle.std.specs.Prelude.{◌≡◌, IfOk, IfSome};
+ghost use Rattle.std.specs.Option.{option_copied};
+ghost use Rattle.std.specs.FinMap.{get, find, from_sorted};
+ghost use Rattle.rules.specs.State.{State, key_cmp};
+ghost use Rattle.state_db.specs.LookedUp.{AreRows};
+ghost use Rattle.state_db.specs.Pages.{joined, ArePages};
+
+use crate::directory::row_of;
+use crate::edit::Edit;
+use crate::page::Page;
+use rules::Row;
+use state_keys::StateKey;
+
+/// The place of the first key, from a place on, that doesn't stand before an edit's. No clause speaks of it: which key stands there is
+/// compared.
+fn passed(keys: &[StateKey<'_>], from: usize, edit: &Edit) -> usize {
+    let mut at = from;
+    while at < keys.len() && edit.order(&keys[at].wanted()).is_gt() {
+        at += 1;
+    }
+    at
+}
+
+/// The row of an edit's key, where that is the key at this place.
+fn row_at<'a>(
+    keys: &[StateKey<'_>],
+    rows: &[Option<&'a Row>],
+    at: usize,
+    edit: &Edit,
+) -> Option<Option<&'a Row>>
+    ensures { (s : State) → AreRows s keys.now rows.now → IfSome result (λ row. option_copied row ≡ get s edit.now.0) }
+{
+    let key = keys.get(at)?;
+    let row = rows.get(at)?;
+    if edit.order(&key.wanted()).is_eq() {
+        Some(*row)
+    } else {
+        None
+    }
+}
+
+/// The row of an edit's key, and the place among the keys where those behind it are looked for.
+pub(crate) fn row_from<'a>(
+    pages: &'a [Page],
+    keys: &[StateKey<'_>],
+    rows: &[Option<&'a Row>],
+    from: usize,
+    edit: &Edit,
+) -> (Option<&'a Row>, usize)
+    requires pages { ArePages pages.now }
+    requires rows { AreRows (from_sorted (joined pages.now)) keys.now rows.now }
+    ensures { option_copied result.0 ≡ find key_cmp edit.now.0 (joined pages.now) }
+{
+    let at = passed(keys, from, edit);
+    let row = match row_at(keys, rows, at, edit) {
+        Some(row) => row,
+        None => row_of(pages, &edit.wanted()),
+    };
+    (row, at)
+}
