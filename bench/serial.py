@@ -1,22 +1,23 @@
 #!/usr/bin/env python3
-"""Tells what the thread that commits does, part by part: microseconds for one transaction.
+"""Tells what the thread that commits does: by the functions in which it is, and by crate, in microseconds for a transaction.
 
-Run as `bench/serial.py [--beside FOLDER] [WORKLOAD ..]` from anywhere, on a quiet machine with four cores that has the kit and `perf` (Debian's
-linux-perf). It builds the program of `peer.py`, whose workloads these are, and samples its first thread, 10,000 times a second by
-the processor's clock, while `run` is at work on all blocks behind those that make the state: with one worker, which does all, and with
-four, of which this one commits.
+Run as `bench/serial.py [--beside FOLDER] [--functions N] [WORKLOAD ..]` from anywhere, on a quiet machine with four cores that has the kit and
+`perf` (Debian's linux-perf). It builds the program of `peer.py`, which also tells the workloads, and samples the first thread 10,000
+times a second by the processor's clock, while `run` is at work on all blocks behind those that make the state: with one worker,
+who does everything, and with four, of whom this one commits, checks, and at last takes part in the intake.
 
-A part has the time of functions by their crate; what a compiler put into its caller counts there. `hashing` is the compression of SHA-256,
-`memory` the C library's allocator, `copies` its copies and comparisons of bytes, `system` the kernel. The last column is how long
-the thread was at work for a transaction, and beside it what part of that is not hashing, as a multiple of hashing.
+A line is a part: `hashing` is the compression of SHA-256, `memory` the C library's allocator, `copies` its copies and comparisons of bytes, `system`
+the kernel, any other a crate, whose functions have with them what the compiler put into them. Of the kit's crates `std` are all
+in one. Behind it stand its microseconds for a transaction, and its part of all. `whole` is how long the thread was at work, and
+behind it how many times as long all other parts together took as hashing; `clock` is how long the run took.
+With `--functions` the N dearest functions follow.
 
-Each is the median over five runs, or over as many as RUNS says in the environment. `--beside` has another checkout of this
-repository whose libraries are built: then each line stands twice, here and there, and runs take turns.
+Each number is the median over five runs, or as many as RUNS says in the environment. `--beside` has another checkout of this
+repository whose libraries are built: each line has its numbers too, of runs in turns with these.
 """
 
 import argparse
 import collections
-import os
 import pathlib
 import re
 import statistics
@@ -29,31 +30,87 @@ import peer
 from scratch import RUNS, UNDER, Machine, build, built_of
 
 RATE = 10_000
+WANTED = ["typical", "contended", "wide", "drawn", "state"]
+SAMPLE = re.compile(r"\s*(\d+)/(\d+)\s+(\d+)\.(\d+):\s+[0-9a-f]+ (.*) \((.*)\)$")
+OF_STD = {"core", "std", "std_alloc", "std_collections", "std_io", "std_heap", "rattle_alloc", "rattle_realloc", "rattle_dealloc"}
 
 
 def sampled(program, workers, blocks, folder):
-    """Functions and shared objects that the first thread was in, each with how many samples; and for how many nanoseconds `run` took."""
+    """How many nanoseconds the first thread was in each function of each shared object, and how many `run` took, for one transaction."""
     data = folder / "perf.data"
     words = ["perf", "record", "-q", "-e", "cpu-clock", "-F", str(RATE), "-k", "mono", "-o", data, *UNDER, program, workers, str(blocks.setup)]
     process = subprocess.Popen([*words, *blocks.paths], cwd=blocks.folder, stdout=subprocess.PIPE, text=True)
-    line = None
+    end, line = 0, ""
     for line in process.stdout:
         end = time.monotonic_ns()
-    if process.wait() != 0 or line is None:
+    if process.wait() != 0 or not line:
         sys.exit(f"the run with {workers} workers failed: {process.returncode}")
-    nanos = int(line.split()[0])
-    script = subprocess.run(["perf", "script", "-i", data, "-F", "pid,tid,time,ip,sym,dso", "--ns"], capture_output=True, text=True, check=True)
+    nanos, count = int(line.split()[0]), sum(blocks.sizes[blocks.setup:])
+    script = subprocess.run(["perf", "script", "-i", data, "-F", "pid,tid,time,ip,sym,dso", "--ns"], stdout=subprocess.PIPE, text=True, check=True)
     found = collections.Counter()
-    for sample in script.stdout.splitlines():
-        match = re.match(r"\s*(\d+)/(\d+)\s+(\d+)\.(\d+):\s+[0-9a-f]+ (.*) \((.*)\)$", sample)
-        at = int(match[3]) * 1_000_000_000 + int(match[4])
-        if match[1] == match[2] and end - nanos <= at <= end:
-            found[match[5], pathlib.Path(match[6]).name] += 1
-    return found, nanos
+    for process_id, thread_id, seconds, fraction, function, shared in map(re.Match.groups, filter(None, map(SAMPLE.match, script.stdout.splitlines()))):
+        if process_id == thread_id and end - nanos <= int(seconds) * 1_000_000_000 + int(fraction) <= end:
+            found[function, pathlib.Path(shared).name] += 1_000_000_000 / RATE / count
+    return found, nanos / count
+
+
+def part_of(function, shared):
+    if shared.startswith("[kernel"):
+        return "system"
+    if shared.startswith("libc"):
+        return "copies" if "mem" in function else "memory"
+    if function.startswith("sha2::") and "compress" in function:
+        return "hashing"
+    crate = function.split("::")[0].split("<")[0]
+    return "std" if crate in OF_STD else crate
+
+
+def by_part(found):
+    parts = collections.Counter()
+    for (function, shared), nanos in found.items():
+        parts[part_of(function, shared)] += nanos
+    return parts
+
+
+def medians(runs):
+    """Of each name that some run has."""
+    return {name: statistics.median(run.get(name, 0) for run in runs) / 1000 for name in set().union(*runs)}
+
+
+def told(programs, workers, title, blocks, folder, functions):
+    rounds = [[sampled(program, workers, blocks, folder) for program in programs] for _ in range(RUNS)]
+    each = list(zip(*rounds))
+    clocks = " ".join(f"{statistics.median(nanos for _, nanos in runs) / 1000:>16.2f}" for runs in each)
+    print(f"{title}, workers: {workers}\n{'clock':>24} {clocks}")
+    for kind, most in (by_part, 20), (dict, functions):
+        tables = [medians([kind(found) for found, _ in runs]) for runs in each]
+        wholes = [sum(table.values()) for table in tables]
+        if kind is by_part:
+            rest = [(whole - table["hashing"]) / table["hashing"] for whole, table in zip(wholes, tables)]
+            print(f"{'whole':>24} {' '.join(f'{whole:>9.2f} {times:>6.2f}' for whole, times in zip(wholes, rest))}")
+        for name in sorted(tables[0], key=tables[0].get, reverse=True)[:most]:
+            shown = name if kind is by_part else f"{name[0]} {name[1]}"
+            print(f"{shown:>24} {' '.join(f'{table.get(name, 0):>9.3f} {table.get(name, 0) / whole:>6.1%}' for table, whole in zip(tables, wholes))}")
+    print(flush=True)
 
 
 def main():
-    pass
+    words = argparse.ArgumentParser()
+    words.add_argument("--beside", metavar="FOLDER")
+    words.add_argument("--functions", metavar="N", type=int, default=0)
+    words.add_argument("workloads", nargs="*", default=WANTED)
+    words = words.parse_args()
+    machine = Machine()
+    with tempfile.TemporaryDirectory() as name:
+        folder = pathlib.Path(name)
+        programs = [build(folder / "program", "peer", peer.PROGRAM, own=peer.CRATES, kit=["anyhow"])]
+        if words.beside:
+            programs.append(built_of(words.beside, folder / "other", "peer", "peer"))
+        for title in words.workloads:
+            blocks = peer.made_in(folder, title)
+            for workers in "1", "4":
+                told(programs, workers, title, blocks, folder, words.functions)
+    print(machine)
 
 
 if __name__ == "__main__":

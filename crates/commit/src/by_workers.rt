@@ -16,7 +16,7 @@ use check_workers::check_all;
 use gates::Gate;
 use intake_workers::{Handed, Hashed};
 use key_chains::Job;
-use ledger::{delta_of, job_of};
+use ledger::{Unhashed, job_of, unhashed_of};
 use policy_eval::Verify;
 use rules::Refused;
 use std::alloc::{AllocError, Global};
@@ -24,7 +24,7 @@ use std::sync::Wait;
 use std::thread::Threads;
 use transaction::TxId;
 use values::{Bytes, Hash, Shared};
-use world::{ReadyDelta, World};
+use world::World;
 
 fn one_handed<'b>(alloc: Global, block: DecodedBlock<'b>) -> Result<Vec<Handed<'b>>, AllocError>
     ensures { IfOk result (λ handed. (bytes : List ℕ) → Spells bytes block.entry → AreHanded (bytes ∷ []) handed.items) }
@@ -80,8 +80,8 @@ fn linked<'b>(
     Ok((linked, bytes))
 }
 
-/// The delta of a block that is the next one, which keeps these bytes, of its job and ids, checked by so many workers; and how many
-/// verdicts none of them had found.
+/// The delta of a block that is the next one, which keeps these bytes, of its job and ids, checked by so many workers, but for its commit
+/// hash; and how many verdicts none of them had found.
 fn checked_delta<R: Threads + Wait + Sync, V, G: Gate + Sync>(
     means: &Means<'_, R, V, G>,
     checkers: Workers,
@@ -90,17 +90,18 @@ fn checked_delta<R: Threads + Wait + Sync, V, G: Gate + Sync>(
     job: &Job<'_>,
     ids: &[Option<TxId>],
     last: Option<Hash>,
-) -> Result<(ReadyDelta, u32), Refused>
+) -> Result<(Unhashed, u32), Refused>
     requires ids { length ids.now ≡ length job.now.candidates }
     requires few { length ids.now ≤ max_txs }
     ensures { MatchResult result (λ r. IsDeltaOfJob job.now ids.now last bytes block.now r.0) (λ refused. refused ≡ Memory) }
 {
     let checked = check_all(means.rt, means.alloc, job, checkers.count, means.gate)?;
-    let delta = delta_of(means.alloc, bytes, block, last, job, ids, checked.flags)?;
+    let delta = unhashed_of(means.alloc, bytes, block, last, job, ids, checked.flags)?;
     Ok((delta, checked.gathered))
 }
 
-/// What the block that was taken in would change, or why it would be refused; and how many verdicts no worker had found.
+/// What the block that was taken in would change, but for its commit hash, or why it would be refused; and how many verdicts no
+/// worker had found.
 ///
 /// Used ids and the chains of its keys are made in order; both checks are done by so many workers.
 pub(crate) fn next_delta<R: Threads + Wait + Sync, V: Verify, G: Gate + Sync>(
@@ -109,7 +110,7 @@ pub(crate) fn next_delta<R: Threads + Wait + Sync, V: Verify, G: Gate + Sync>(
     checkers: Workers,
     bytes: &[u8],
     prepared: Prepared<'_>,
-) -> Result<(ReadyDelta, u32), Refused>
+) -> Result<(Unhashed, u32), Refused>
     requires prepared { IsPrepared means.now.channel.now (V.accepts means.now.verifier.now) bytes.now prepared }
     requires names { HasNamesOf means.now.channel.now world.now }
     ensures { IsNextDeltaOr means.now.channel.now (V.accepts means.now.verifier.now) world.now bytes.now result }

@@ -3,6 +3,7 @@
 
 mod by_workers;
 mod committer;
+mod hashing;
 mod laws;
 mod means;
 mod not_committed;

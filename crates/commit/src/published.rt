@@ -9,6 +9,7 @@ ghost use Rattle.commit.specs.Prepared.{IsTakenIn, MayWait};
 ghost use Rattle.commit.specs.Running.{BelongsTo, SubmitsTo};
 
 use crate::by_workers::{next_delta, take_in_next};
+use crate::hashing::hashed;
 use crate::means::Means;
 use crate::not_committed::NotCommitted;
 use crate::prepared::Prepared;
@@ -126,13 +127,22 @@ impl Published {
         if self.publisher.failed() {
             return Err(NotCommitted::Stopped);
         }
-        let (delta, gathered) = next_delta(
+        let (unhashed, gathered) = next_delta(
             means,
             self.publisher.published(),
             checkers,
             bytes,
             prepared?,
         )?;
+        let Ok(delta) = hashed(
+            means.rt,
+            means.alloc,
+            means.workers,
+            &mut self.publisher,
+            unhashed,
+        ) else {
+            return Err(NotCommitted::Refused(Refused::Memory));
+        };
         match self.publisher.publish_ready(means.rt, delta) {
             Ok(receipt) => {
                 self.gathered = gathered;

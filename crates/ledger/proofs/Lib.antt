@@ -1,3 +1,4 @@
+pub mod Crossing
 mod Found
 mod Gathered
 pub mod NextDeltas

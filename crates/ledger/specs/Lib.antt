@@ -4,3 +4,4 @@ pub mod NextDelta
 pub mod NextReasons
 pub mod Submissions
 pub mod Taken
+pub mod Unhashed

@@ -5,6 +5,8 @@ mod explaining;
 mod ledger;
 mod next_delta;
 mod serial;
+mod unhashed;
 
 pub use ledger::Ledger;
-pub use next_delta::{delta_of, job_of};
+pub use next_delta::{delta_of, job_of, unhashed_of};
+pub use unhashed::Unhashed;

@@ -4,23 +4,23 @@ ghost use Rattle.block.specs.Limits.{max_txs};
 ghost use Rattle.rules.specs.Delta.{AreRealChanges, changes_in, definitions_in};
 ghost use Rattle.rules.specs.Fold as fold;
 ghost use Rattle.rules.specs.Fold.{final_state, definitions_to};
-ghost use Rattle.rules.specs.Commit.{commit_hash_in, committed_of};
 ghost use Rattle.rules.specs.State.{State, with_changes};
 ghost use Rattle.state_db.specs.Batch.{changed};
 ghost use Rattle.ledger.specs.Changes.{AddEntriesOf};
 ghost use Rattle.ledger.specs.NextDelta.{AreIdsOfTaken, IsDeltaOfJob, IsJobOfTaken};
 
-use block_steps::{LinkedBlock, next_commit_hash, uses_of};
+use crate::unhashed::{Place, Unhashed};
+use block_steps::{LinkedBlock, uses_of};
 use channel::Configuration;
 use effects::{Effects, effects_of};
 use header_hash::header_hash;
 use intake::{Taken, candidates_of, ids_of};
 use key_chains::Job;
-use rules::{CommittedBlock, Delta, Flag, NewDefinition, NewUse};
+use rules::Flag;
 use state_db::Batch;
 use std::alloc::{AllocError, Global};
-use transaction::{BlockVersion, TxId};
-use values::{Bytes, Hash, Items, Shared, Slice};
+use transaction::TxId;
+use values::{Bytes, Hash, Shared, Slice};
 use world::{ReadyDelta, World};
 
 // how many bytes tell how long a transaction is
@@ -71,34 +71,6 @@ fn starts_of(alloc: Global, bytes: usize, txs: &[Slice<'_>]) -> Result<Vec<usize
     Ok(starts)
 }
 
-/// The commit hash of a job's block behind this one, where these are its flags, what a batch makes of the state before it is its
-/// last state, and these are the definitions that it gives.
-fn commit_hash_of(
-    alloc: Global,
-    job: &Job<'_>,
-    last: Option<Hash>,
-    version: BlockVersion,
-    flags: &[Flag],
-    batch: &Batch,
-    definitions: &[NewDefinition],
-) -> Result<Hash, AllocError>
-    requires flags { flags.now ≡ fold.flags job.now }
-    requires state { changed job.now.state batch.now ≡ final_state job.now }
-    requires definitions { definitions_in definitions.now ≡ definitions_to job.now (length job.now.candidates) }
-    ensures { IfOk result (λ hash. hash ≡ commit_hash_in last version job.now) }
-{
-    let update = job.update_bytes(batch)?;
-    next_commit_hash(
-        alloc,
-        last,
-        version,
-        job.number(),
-        flags,
-        update.as_slice(),
-        definitions,
-    )
-}
-
 /// The effects of a job, with a batch of its changes.
 fn effects_in(
     alloc: Global,
@@ -120,68 +92,38 @@ fn effects_in(
     Ok((effects, batch))
 }
 
-/// The block as it is kept, where these are its effects and a batch of their changes.
-fn kept_of(
+/// The delta of a block that is the next one behind a block of this commit hash, which keeps these bytes; of its job, ids and flags;
+/// but for its own commit hash. With the batch of its changes, by which the rows that differ are spelled too.
+///
+/// Linear in the block and in what it writes. Memory for the delta and its batch, and for what is hashed; keys and values are parts of
+/// the bytes where they stand in them.
+pub fn unhashed_of(
     alloc: Global,
     bytes: Shared<Bytes>,
     block: &LinkedBlock<'_>,
     last: Option<Hash>,
     job: &Job<'_>,
+    ids: &[Option<TxId>],
     flags: Vec<Flag>,
-    effects: &Effects,
-    batch: &Batch,
-) -> Result<Shared<CommittedBlock>, AllocError>
+) -> Result<Unhashed, AllocError>
     requires flags { flags.items ≡ fold.flags job.now }
-    requires state { changed job.now.state batch.now ≡ final_state job.now }
-    requires definitions { definitions_in effects.now.definitions.items ≡ definitions_to job.now (length job.now.candidates) }
-    ensures { IfOk result (λ kept. kept ≡ committed_of bytes last block.now job.now) }
+    requires ids { length ids.now ≡ length job.now.candidates }
+    requires few { length ids.now ≤ max_txs }
+    ensures { IfOk result (λ d. IsDeltaOfJob job.now ids.now last bytes block.now d) }
 {
-    let commit_hash = commit_hash_of(
-        alloc,
-        job,
+    let uses = uses_of(alloc, job.number(), ids, flags.as_slice())?;
+    let (effects, batch) = effects_in(alloc, job, flags.as_slice(), &bytes, block.txs())?;
+    let update = job.update_bytes(&batch)?;
+    let place = Place {
+        number: job.number(),
+        header_hash: header_hash(block.header()),
+        version: block.version(),
         last,
-        block.version(),
-        flags.as_slice(),
-        batch,
-        effects.definitions.as_slice(),
-    )?;
-    Shared::new(
-        alloc,
-        CommittedBlock {
-            bytes,
-            header_hash: header_hash(block.header()),
-            commit_hash,
-            version: block.version(),
-            flags: Items::from_vec(flags),
-        },
-    )
-}
-
-/// The delta of these effects and uses.
-fn ready_of(
-    effects: Effects,
-    batch: Batch,
-    uses: Vec<NewUse>,
-    block: Shared<CommittedBlock>,
-) -> ReadyDelta
-    requires { (s : State) → changed s batch ≡ with_changes s (changes_in effects.changes.items) }
-    ensures { result ≡ record { changes = effects.changes.items; entries = effects.entries.items; uses = uses.items; definitions = effects.definitions.items; block = block } }
-{
-    let delta = Delta {
-        changes: Items::from_vec(effects.changes),
-        entries: Items::from_vec(effects.entries),
-        uses: Items::from_vec(uses),
-        definitions: Items::from_vec(effects.definitions),
-        block,
     };
-    ReadyDelta::of_parts(delta, batch)
+    Ok(Unhashed::of_parts(place, bytes, flags, effects, batch, uses, update))
 }
 
-/// The delta of a block that is the next one behind a block of this commit hash, which keeps these bytes; of its job, ids and flags.
-/// With the batch of its changes, by which the rows that differ are hashed too.
-///
-/// Linear in the block and in what it writes. Memory for the delta and its batch, and for what is hashed; keys and values are parts of
-/// the bytes where they stand in them.
+/// The same with its commit hash.
 pub fn delta_of(
     alloc: Global,
     bytes: Shared<Bytes>,
@@ -196,8 +138,7 @@ pub fn delta_of(
     requires few { length ids.now ≤ max_txs }
     ensures { IfOk result (λ d. IsDeltaOfJob job.now ids.now last bytes block.now d) }
 {
-    let uses = uses_of(alloc, job.number(), ids, flags.as_slice())?;
-    let (effects, batch) = effects_in(alloc, job, flags.as_slice(), &bytes, block.txs())?;
-    let kept = kept_of(alloc, bytes, block, last, job, flags, &effects, &batch)?;
-    Ok(ready_of(effects, batch, uses, kept))
+    let unhashed = unhashed_of(alloc, bytes, block, last, job, ids, flags)?;
+    let commit_hash = unhashed.commit_hash(alloc)?;
+    unhashed.with_commit_hash(alloc, commit_hash)
 }

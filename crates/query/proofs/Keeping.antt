@@ -112,6 +112,10 @@ shows seat v before x y e none pending same empty one is_linked list book is =
     (ap (λ s. s.front.book) y_is ∙ (book ∙ sym (ap (λ s. s.front.book) same)))
     (subst (λ (s : Shown). IsLinkedDelta s.world e.delta) (sym same) is_linked)
 
+-- nothing more is shown
+pub shows_again : (seat : ℕ) (v : View) (x y : Shown) (none : List Entry) → none ≡ [] → y ≡ fold absorbed x none → TurnsAt IsRuled seat v x y Sees
+shows_again seat v x y none empty is = subst (λ (s : Shown). TurnsAt IsRuled seat v x s Sees) (sym (is ∙ ap (λ es. fold absorbed x es) empty)) (sees seat v x)
+
 -- whether it was shown or not, the seat stays
 pub stays : {A E : Type 0} (r : Result A E) (v w : View) (x y : Shown) → MatchResult r (λ _. Sees v x y w) (λ _. w ≡ v) → w ≡ v
 stays (Ok a) v w x y seen = seen.0
@@ -129,6 +133,12 @@ module _ {A E : Type 0} (before x y : Shown) (e : Entry) (none pending left : Li
   pub shows_same : (r : Result A E) → Published r → OnErr r (y ≡ before)
   shows_same (Ok a) done = tt
   shows_same (Err f) kept = kept.0 ∙ same
+
+-- where nothing was pending, the same is shown, and nothing is left
+pub shows_all : {A E : Type 0} (x y : Shown) (pending left : List Entry) (r : Result A E)
+    → MatchResult r (λ _. (y ≡ fold absorbed x pending) × (left ≡ [])) (λ _. (y ≡ x) × (left ≡ pending)) → pending ≡ [] → (y ≡ x) × (left ≡ [])
+shows_all x y pending left (Ok a) done empty = (done.0 ∙ ap (λ es. fold absorbed x es) empty, done.1)
+shows_all x y pending left (Err f) kept empty = (kept.0, kept.1 ∙ empty)
 
 -- the first one: what is shown becomes the writer's base
 pub begins : (seat : ℕ) (v : View) (x y : Shown) → x.front.list ≡ [] → y ≡ x → TurnsAt IsRuled seat v x y Begins

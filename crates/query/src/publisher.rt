@@ -89,6 +89,26 @@ fn show<R: Wait>(rt: &R, writer: &mut ShownWriter, entry: Entry) -> Result<(), A
     )
 }
 
+/// The writer, whose other world has absorbed what it lacked, where that needed no memory that was refused, and is shown then.
+fn caught_up<R: Wait>(writer: ShownWriter, rt: &R) -> (ShownWriter, Result<(), AllocError>)
+    requires none { drop writer.behind writer.log.items ≡ [] }
+    ensures place { view result.0.desk.place ≡ view writer.desk.place }
+    ensures same { result.0.desk.shown.value ≡ writer.desk.shown.value }
+    ensures none { drop result.0.behind result.0.log.items ≡ [] }
+{
+    let (writer, made) = writer.publish_as::<Sees, R>(rt);
+    (writer, made)
+}
+
+fn bring_up<R: Wait>(rt: &R, writer: &mut ShownWriter)
+    requires none { drop writer.old.behind writer.old.log.items ≡ [] }
+    ensures place { view writer.new.desk.place ≡ view writer.old.desk.place }
+    ensures same { writer.new.desk.shown.value ≡ writer.old.desk.shown.value }
+    ensures none { drop writer.new.behind writer.new.log.items ≡ [] }
+{
+    let _ = replace_with(writer, rt, |writer, rt| caught_up(writer, rt));
+}
+
 impl Publisher {
     /// Over a writer that was told of what it shows, the first of a list.
     pub(crate) fn over(
@@ -130,7 +150,7 @@ impl Publisher {
     /// Publishes the next block, whole: from now on queries answer from the world after it.
     ///
     /// An `Err` publishes nothing, and leaves the publisher failed. Costs the delta twice, once for each world, and its batch once.
-    /// It waits for queries that began before the publish before this one.
+    /// It waits for queries that began before the last publish, or before the world caught up since then.
     pub fn publish<R: Wait>(&mut self, rt: &R, delta: Delta) -> Result<Receipt, AllocError>
         requires linked { IsLinkedDelta (published_world self.old) delta }
         requires open { self.old.failed ≡ false }
@@ -186,6 +206,16 @@ impl Publisher {
             flags,
             front,
         })
+    }
+
+    /// Has the other world absorb the last block too, and shows that one, which holds the same: a step of the next publish, which is
+    /// spared it then. Where memory is refused that one does it. It waits for queries that began before the last publish.
+    pub fn catch_up<R: Wait>(&mut self, rt: &R)
+        ensures { self.new ≡ self.old }
+    {
+        if !self.failed {
+            bring_up(rt, &mut self.writer);
+        }
     }
 
     /// Ends the publisher, and waits for queries that have begun. Handles get no entry from then on.

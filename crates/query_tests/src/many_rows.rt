@@ -1,4 +1,5 @@
-//! 600 rows that one transaction writes, asked of a handle in ranges, and what is left once another one deletes some.
+//! 600 rows that one transaction writes, and another one once more, asked of a handle in ranges, and what is left once a third deletes
+//! some. They are so long that each block's commit hash is made beside other work.
 
 use crate::blocks::{bound, name};
 use crate::opening::{opened, submit_next};
@@ -16,19 +17,34 @@ const ROWS: u32 = 600;
 
 const DELETED: u32 = 256;
 
-fn put_line(alloc: Global, script: &mut String, line: &str, key: u32) -> Result<(), AllocError> {
-    let rest = if line == "write" { " v" } else { "" };
-    let line = format!(in alloc; "{line} k{key:03}{rest}\n")?;
+// With a blank before it, as a line has it.
+const VALUE: &str =
+    " vvvvvvvvvvvvvvvvvvvvvvvvvvvvvvvvvvvvvvvvvvvvvvvvvvvvvvvvvvvvvvvvvvvvvvvvvvvvvvvvvvvvvvvvvvvvvvvvvvvv";
+
+fn put_line(
+    alloc: Global,
+    script: &mut String,
+    word: &str,
+    key: u32,
+    rest: &str,
+) -> Result<(), AllocError> {
+    let line = format!(in alloc; "{word} k{key:03}{rest}\n")?;
     script.push_str(line.as_str())
 }
 
-// A script of one transaction that writes or deletes the keys k000 to before this one.
-fn script_of(alloc: Global, line: &str, count: u32) -> Result<String, AllocError> {
+// A script of one transaction with this nonce, which has a line of this word for the keys k000 to before this one.
+fn script_of(
+    alloc: Global,
+    nonce: &str,
+    word: &str,
+    count: u32,
+    rest: &str,
+) -> Result<String, AllocError> {
     let mut script = format!(in alloc;
-        "tx Org1:client:c0 {line} cc\nendorse Org1:peer:p0\nns cc\n"
+        "tx Org1:client:c0 {nonce} cc\nendorse Org1:peer:p0\nns cc\n"
     )?;
     for key in 0..count {
-        put_line(alloc, &mut script, line, key)?;
+        put_line(alloc, &mut script, word, key, rest)?;
     }
     Ok(script)
 }
@@ -62,34 +78,45 @@ fn digit(number: usize) -> u8 {
     b'0' + (number % 10) as u8
 }
 
-fn is_row(row: &KeyedRow, number: usize) -> bool {
+fn is_row(row: &KeyedRow, number: usize, block: u64) -> bool {
     let key = [b'k', digit(number / 100), digit(number / 10), digit(number)];
     let version = row.row().version;
     row.key().as_slice() == key.as_slice()
-        && row.row().value.as_slice() == b"v".as_slice()
-        && (version.block, version.tx) == (0, 0)
+        && row.row().value.as_slice() == &VALUE.as_bytes()[1..]
+        && (version.block, version.tx) == (block, 0)
 }
 
-fn are_rows(rows: &[KeyedRow], first: usize) -> bool {
+fn are_rows(rows: &[KeyedRow], first: usize, block: u64) -> bool {
     for (place, row) in rows.iter().enumerate() {
-        if !is_row(row, place.wrapping_add(first)) {
+        if !is_row(row, place.wrapping_add(first), block) {
             return false;
         }
     }
     true
 }
 
-fn is_answered(alloc: Global, handle: &mut QueryHandle, ask: &Ask) -> Result<bool, Failed> {
+// Of rows that this block wrote.
+fn is_answered(
+    alloc: Global,
+    handle: &mut QueryHandle,
+    ask: &Ask,
+    block: u64,
+) -> Result<bool, Failed> {
     let &(start, end, limit, first, count, more) = ask;
     let (namespace, start, end) = (name(b"cc")?, bound(start)?, bound(end)?);
     let reply = handle.range(alloc, &namespace, &start, &end, limit)?;
     let rows = reply.answer.rows.as_slice();
-    Ok(are_rows(rows, first) && rows.len() == count && reply.answer.more == more)
+    Ok(are_rows(rows, first, block) && rows.len() == count && reply.answer.more == more)
 }
 
-fn are_answered(alloc: Global, handle: &mut QueryHandle, asks: &[Ask]) -> Result<bool, Failed> {
+fn are_answered(
+    alloc: Global,
+    handle: &mut QueryHandle,
+    asks: &[Ask],
+    block: u64,
+) -> Result<bool, Failed> {
     for ask in asks {
-        if !is_answered(alloc, handle, ask)? {
+        if !is_answered(alloc, handle, ask, block)? {
             return Ok(false);
         }
     }
@@ -108,7 +135,7 @@ fn is_valid<R: Threads + Wait + Sync>(
     Ok(receipt.flags.as_slice() == [Flag::Valid].as_slice())
 }
 
-// The same, and whether all of this is answered behind it.
+// The same, and whether all of this is answered behind it, of rows that a block wrote.
 fn is_answered_behind<R: Threads + Wait + Sync>(
     rt: &R,
     committer: &mut Committer,
@@ -116,11 +143,12 @@ fn is_answered_behind<R: Threads + Wait + Sync>(
     story: &Story,
     number: usize,
     asks: &[Ask],
+    written_in: u64,
 ) -> Result<bool, Failed> {
     if !is_valid(rt, committer, story, number)? {
         return Ok(false);
     }
-    are_answered(story.alloc, handle, asks)
+    are_answered(story.alloc, handle, asks, written_in)
 }
 
 fn is_so_of<R: Threads + Wait + Sync>(
@@ -132,23 +160,32 @@ fn is_so_of<R: Threads + Wait + Sync>(
     let Some(handle) = handles.first_mut() else {
         return Err(Failed::Missing("a handle"));
     };
-    if !is_answered_behind(rt, committer, handle, story, 0, behind_writes())? {
+    if !is_answered_behind(rt, committer, handle, story, 0, behind_writes(), 0)? {
         return Ok(false);
     }
-    is_answered_behind(rt, committer, handle, story, 1, behind_deletes())
+    if !is_answered_behind(rt, committer, handle, story, 1, behind_writes(), 1)? {
+        return Ok(false);
+    }
+    is_answered_behind(rt, committer, handle, story, 2, behind_deletes(), 1)
 }
 
 fn is_so_by<R: Threads + Wait + Sync>(rt: &R, story: &mut Story) -> Result<bool, Failed> {
-    add_both(story)?;
+    add_all(story)?;
     let (mut committer, mut handles) = opened(rt, story.alloc, 2, 1)?;
     let is_so = is_so_of(rt, &mut committer, &mut handles, story);
     committer.close(rt);
     is_so
 }
 
-fn add_both(story: &mut Story) -> Result<(), Failed> {
-    story.take_of(BlockVersion::V1, script_of(story.alloc, "write", ROWS))?;
-    story.take_of(BlockVersion::V1, script_of(story.alloc, "delete", DELETED))
+fn add(story: &mut Story, nonce: &str, word: &str, count: u32, rest: &str) -> Result<(), Failed> {
+    let script = script_of(story.alloc, nonce, word, count, rest);
+    story.take_of(BlockVersion::V1, script)
+}
+
+fn add_all(story: &mut Story) -> Result<(), Failed> {
+    add(story, "first", "write", ROWS, VALUE)?;
+    add(story, "again", "write", ROWS, VALUE)?;
+    add(story, "last", "delete", DELETED, "")
 }
 
 fn is_so<R: Threads + Wait + Sync>(rt: &R, alloc: Global) -> Result<bool, Failed> {

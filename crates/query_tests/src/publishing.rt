@@ -34,7 +34,7 @@ fn is_linked(alloc: Global, world: &World, delta: &Delta) -> Result<bool, Failed
     Ok(is_kept_of(kept, &block))
 }
 
-/// Publishes the next block.
+/// Publishes the next block, behind each second one once the other world has caught up.
 pub fn publish_next<R: Wait>(
     rt: &R,
     alloc: Global,
@@ -49,6 +49,9 @@ pub fn publish_next<R: Wait>(
     }
     if !is_linked(alloc, publisher.published(), &delta)? {
         return Err(Failed::Missing("a linked delta"));
+    }
+    if publisher.published().height() % 2 == 0 {
+        publisher.catch_up(rt);
     }
     Ok(publisher.publish(rt, delta)?)
 }

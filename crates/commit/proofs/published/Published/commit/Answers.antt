@@ -1,8 +1,9 @@
-use Rattle.std.proofs.Common.{Err, refl, sym, ap, subst, ◌∙◌}
+use Rattle.std.proofs.Common.{Err, true, [], ◌∷◌, ◌++◌, refl, sym, ap, subst, ◌∙◌}
 use Rattle.std.proofs.lemmas.Result.{err_from_is_err_and}
+use Rattle.rules.specs.declared.delta.Delta.{Delta}
 use Rattle.rules.specs.Linked.{IsLinkedDelta}
-use Rattle.rules.specs.World.{World}
-use Rattle.query.specs.Published.{Publishing}
+use Rattle.rules.specs.World.{World, height_of}
+use Rattle.query.specs.Published.{Publishing, published_world}
 use Rattle.commit.specs.Committing.{IsCommitted, Submits}
 use Rattle.commit.specs.declared.not_committed.NotCommitted.TheVariants.{Refused}
 use Rattle.commit.specs.Running.{BelongsTo, committing}
@@ -11,36 +12,57 @@ use Rattle.commit.proofs.published.Published.commit.Goals as goal
 
 pub publish_ready-requires-clause-linked : goal.publish_ready-requires-clause-linked
 publish_ready-requires-clause-linked g c =
-    subst (λ (w : World). IsLinkedDelta w c.in_ok-delta.delta) c.published.ensures
-    (next-linked c.args.means.now.channel.now (g.V.Verify.accepts c.args.means.now.verifier.now) c.published.result.now c.args.bytes.now c.in_ok-delta.delta c.in_ok-delta.ensures)
+    let d = c.in_ok-unhashed.unhashed in
+    let linked = subst (λ (w : World). IsLinkedDelta w d) c.published.ensures
+    (next-linked c.args.means.now.channel.now (g.V.Verify.accepts c.args.means.now.verifier.now) c.published.result.now c.args.bytes.now d c.in_ok-unhashed.ensures) in
+    subst (λ (x : Delta). IsLinkedDelta (published_world c.hashed.new.publisher) x) (sym c.in-Ok.ensures.delta)
+    (subst (λ (p : Publishing). IsLinkedDelta (published_world p) d) (sym c.hashed.ensures.same) linked)
 
-pub returns-in-Ok-clause-submits : goal.returns-in-Ok-clause-submits
-returns-in-Ok-clause-submits g c =
+pub returns-in-Ok-publish_ready-clause-submits : goal.returns-in-Ok-publish_ready-clause-submits
+returns-in-Ok-publish_ready-clause-submits g c =
     let channel = c.args.means.now.channel.now in
     let accepts = g.V.Verify.accepts c.args.means.now.verifier.now in
     let going = sym c.failed.ensures ∙ c.if-failed.false in
     let old = c.self.inside.publisher in
     let base = ap (λ (p : Publishing). p.base) c.self.view_is ∙ c.requires.belongs.base in
-    let e = c.in-Ok.ensures in
-    subst (λ (p : Publishing). IsCommitted accepts (committing channel p) c.args.bytes.now c.in-Ok.receipt (committing channel c.publish_ready.new.self)) c.self.view_is
-    (committed channel accepts old c.publish_ready.new.self c.published.result.now c.args.bytes.now c.in_ok-delta.delta c.in-Ok.receipt
-    going base c.published.ensures c.in_ok-delta.ensures e.ok e.number e.height e.block.0 e.block.1 e.block.2 e.front)
+    let same = c.hashed.ensures.same in
+    let whole = c.in-Ok.ensures.delta in
+    let e = c.in-Ok-publish_ready.ensures in
+    subst (λ (p : Publishing). IsCommitted accepts (committing channel p) c.args.bytes.now c.in-Ok-publish_ready.receipt (committing channel c.publish_ready.new.self)) c.self.view_is
+    (committed channel accepts old c.publish_ready.new.self c.published.result.now c.args.bytes.now c.in_ok-unhashed.unhashed c.in-Ok-publish_ready.receipt
+    going base c.published.ensures c.in_ok-unhashed.ensures
+    (e.ok ∙ (λ i. record (same i) { list = (same i).list ++ (whole i) ∷ [] }))
+    (e.number ∙ ap (λ (p : Publishing). height_of (published_world p)) same)
+    e.height
+    (e.block.0 ∙ ap (λ (d : Delta). d.block.header_hash) whole)
+    (e.block.1 ∙ ap (λ (d : Delta). d.block.commit_hash) whole)
+    (e.block.2 ∙ ap (λ (d : Delta). d.block.flags) whole)
+    e.front)
 
-pub returns-in-Ok-clause-belongs : goal.returns-in-Ok-clause-belongs
-returns-in-Ok-clause-belongs g c =
+pub returns-in-Ok-publish_ready-clause-belongs : goal.returns-in-Ok-publish_ready-clause-belongs
+returns-in-Ok-publish_ready-clause-belongs g c =
     let channel = c.args.means.now.channel.now in
     let accepts = g.V.Verify.accepts c.args.means.now.verifier.now in
     let of = subst (λ (p : Publishing). BelongsTo channel p) (sym c.self.view_is) c.requires.belongs in
-    still_belongs channel accepts c.self.inside.publisher c.publish_ready.new.self c.published.result.now c.args.bytes.now c.in_ok-delta.delta
-    of c.published.ensures c.in_ok-delta.ensures c.in-Ok.ensures.ok
+    let same = c.hashed.ensures.same in
+    let whole = c.in-Ok.ensures.delta in
+    still_belongs channel accepts c.self.inside.publisher c.publish_ready.new.self c.published.result.now c.args.bytes.now c.in_ok-unhashed.unhashed
+    of c.published.ensures c.in_ok-unhashed.ensures (c.in-Ok-publish_ready.ensures.ok ∙ (λ i. record (same i) { list = (same i).list ++ (whole i) ∷ [] }))
 
-pub returns-in_err-delta-clause-submits : goal.returns-in_err-delta-clause-submits
-returns-in_err-delta-clause-submits g c =
+pub returns-in_err-unhashed-clause-submits : goal.returns-in_err-unhashed-clause-submits
+returns-in_err-unhashed-clause-submits g c =
     let channel = c.args.means.now.channel.now in
     let accepts = g.V.Verify.accepts c.args.means.now.verifier.now in
     let going = sym c.failed.ensures ∙ c.if-failed.false in
     let old = c.self.inside.publisher in
     let base = ap (λ (p : Publishing). p.base) c.self.view_is ∙ c.requires.belongs.base in
-    let back = err_from_is_err_and c.from_residual-in_err-delta.result c.from_residual-in_err-delta.ensures.1 in
-    let is = refused_by channel old c.published.result.now c.args.bytes.now c.in_err-delta.field-0.0 base c.published.ensures c.in_err-delta.ensures in
-    rw (back.1, back.2) (subst (λ (p : Publishing). Submits accepts (committing channel p) c.args.bytes.now (Err (Refused c.in_err-delta.field-0.0)) (committing channel p)) c.self.view_is (going, is, refl))
+    let back = err_from_is_err_and c.from_residual-in_err-unhashed.result c.from_residual-in_err-unhashed.ensures.1 in
+    let is = refused_by channel old c.published.result.now c.args.bytes.now c.in_err-unhashed.field-0.0 base c.published.ensures c.in_err-unhashed.ensures in
+    rw (back.1, back.2) (subst (λ (p : Publishing). Submits accepts (committing channel p) c.args.bytes.now (Err (Refused c.in_err-unhashed.field-0.0)) (committing channel p)) c.self.view_is (going, is, refl))
+
+pub returns-in-Err-clause-belongs : goal.returns-in-Err-clause-belongs
+returns-in-Err-clause-belongs g c =
+    let channel = c.args.means.now.channel.now in
+    let of = subst (λ (p : Publishing). BelongsTo channel p) (sym c.self.view_is) c.requires.belongs in
+    subst (λ (p : Publishing). BelongsTo channel p) (sym (c.in-Err.ensures.err ∙ (λ i. record (c.hashed.ensures.same i) { failed = true })))
+    (record { base = of.base; names = of.names })
