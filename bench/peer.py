@@ -32,7 +32,8 @@ A second table has the time for one transaction with one worker, to whom blocks 
 block, the length of the chain and the keys of the state; the slope is that of its logarithm by theirs: 0 where it doesn't
 grow.
 
-A third table, `slow`, is of `typical` and `state` by a verifier that takes some 60 µs more for a signature, as one of ECDSA P-256 does.
+Another one, `slow`, is of `typical` and `state` by a verifier that takes some 60 µs more for a signature, as one of ECDSA P-256 does:
+how long a transaction takes with 1, 2 and 4 workers, and how much faster than one two and four are.
 
 `--beside` has another checkout of this repository whose libraries are built, and another table: how long a transaction takes, with
 1, 2 and 4 workers, by this one's committer and by that one's, in turns, and what that is divided by.
@@ -69,9 +70,9 @@ KEYS = "".join(f"{who} {number:02x}{'5a' * 31}\n" for number, who in enumerate([
 VALUE = b"v" * 100
 POLICY = b"AND('Org1.peer','Org2.peer')"
 
-# Its words are `hash`, `ledger`, `explain`, `submit`, or for `run` the number of workers, behind `slow` where the verifier is; how many blocks make the state; and files
-# of blocks. For each it prints the nanoseconds that it took, or that its hashing took, and how many of its transactions are valid;
-# for `run` that of each that makes the state, and that of all others together.
+# Its words are `hash`, `ledger`, `explain`, `submit`, or for `run` the number of workers, behind `slow` where the verifier is; how
+# many blocks make the state; and files of blocks. For each it prints the nanoseconds that it took, or that its hashing took, and how
+# many of its transactions are valid; for `run` that of each that makes the state, and that of all others together.
 PROGRAM = r"""
 #![tactic(auto)]
 

@@ -1,14 +1,14 @@
 #!/usr/bin/env python3
 """Tells what the thread that commits does: by the functions in which it is, and by crate, in microseconds for a transaction.
 
-Run as `bench/serial.py [--beside FOLDER] [--functions N] [WORKLOAD ..]` from anywhere, on a quiet machine with four cores that has the kit and
-`perf` (Debian's linux-perf). It builds the program of `peer.py`, which also tells the workloads, and samples the first thread 10,000
-times a second by the processor's clock, while `run` is at work on all blocks behind those that make the state: with one worker,
-who does everything, and with four, of whom this one commits, checks, and at last takes part in the intake.
+Run as `bench/serial.py [--beside FOLDER] [--functions N] [WORKLOAD ..]` from anywhere, on a quiet machine with four cores that
+has the kit and `perf` (Debian's linux-perf). It builds the program of `peer.py`, which also tells the workloads, and samples the first
+thread 10,000 times a second by the processor's clock, while `run` is at work on all blocks behind those that make the state: with
+one worker, who does everything, and with four, of whom this one commits, checks, and at last takes part in the intake.
 
-A line is a part: `hashing` is the compression of SHA-256, `memory` the C library's allocator, `copies` its copies and comparisons of bytes, `system`
-the kernel, any other a crate, whose functions have with them what the compiler put into them. Of the kit's crates `std` are all
-in one. Behind it stand its microseconds for a transaction, and its part of all. `whole` is how long the thread was at work, and
+A line is a part: `hashing` is the compression of SHA-256, `memory` the C library's allocator, `copies` its copies and comparisons of
+bytes, `system` the kernel, any other a crate, whose functions have with them what the compiler put into them. Of the kit's crates
+`std` are all in one. Behind it stand its microseconds for a transaction, and its part of all. `whole` is how long the thread was at work, and
 behind it how many times as long all other parts together took as hashing; `clock` is how long the run took.
 With `--functions` the N dearest functions follow.
 
@@ -38,18 +38,21 @@ OF_STD = {"core", "std", "std_alloc", "std_collections", "std_io", "std_heap", "
 def sampled(program, workers, blocks, folder):
     """How many nanoseconds the first thread was in each function of each shared object, and how many `run` took, for one transaction."""
     data = folder / "perf.data"
-    words = ["perf", "record", "-q", "-e", "cpu-clock", "-F", str(RATE), "-k", "mono", "-o", data, *UNDER, program, workers, str(blocks.setup)]
-    process = subprocess.Popen([*words, *blocks.paths], cwd=blocks.folder, stdout=subprocess.PIPE, text=True)
+    words = ["perf", "record", "-q", "-e", "cpu-clock", "-F", str(RATE), "-k", "mono", "-o", data]
+    words += [*UNDER, program, workers, str(blocks.setup), *blocks.paths]
+    process = subprocess.Popen(words, cwd=blocks.folder, stdout=subprocess.PIPE, text=True)
     end, line = 0, ""
     for line in process.stdout:
         end = time.monotonic_ns()
     if process.wait() != 0 or not line:
         sys.exit(f"the run with {workers} workers failed: {process.returncode}")
     nanos, count = int(line.split()[0]), sum(blocks.sizes[blocks.setup:])
-    script = subprocess.run(["perf", "script", "-i", data, "-F", "pid,tid,time,ip,sym,dso", "--ns"], stdout=subprocess.PIPE, text=True, check=True)
+    words = ["perf", "script", "-i", data, "-F", "pid,tid,time,ip,sym,dso", "--ns"]
+    script = subprocess.run(words, stdout=subprocess.PIPE, text=True, check=True)
     found = collections.Counter()
-    for process_id, thread_id, seconds, fraction, function, shared in map(re.Match.groups, filter(None, map(SAMPLE.match, script.stdout.splitlines()))):
-        if process_id == thread_id and end - nanos <= int(seconds) * 1_000_000_000 + int(fraction) <= end:
+    for sample in filter(None, map(SAMPLE.match, script.stdout.splitlines())):
+        of_process, of_thread, seconds, fraction, function, shared = sample.groups()
+        if of_process == of_thread and end - nanos <= int(seconds) * 1_000_000_000 + int(fraction) <= end:
             found[function, pathlib.Path(shared).name] += 1_000_000_000 / RATE / count
     return found, nanos / count
 
@@ -87,10 +90,13 @@ def told(programs, workers, title, blocks, folder, functions):
         wholes = [sum(table.values()) for table in tables]
         if kind is by_part:
             rest = [(whole - table["hashing"]) / table["hashing"] for whole, table in zip(wholes, tables)]
-            print(f"{'whole':>24} {' '.join(f'{whole:>9.2f} {times:>6.2f}' for whole, times in zip(wholes, rest))}")
+            line = " ".join(f"{whole:>9.2f} {times:>6.2f}" for whole, times in zip(wholes, rest))
+            print(f"{'whole':>24} {line}")
         for name in sorted(tables[0], key=tables[0].get, reverse=True)[:most]:
             shown = name if kind is by_part else f"{name[0]} {name[1]}"
-            print(f"{shown:>24} {' '.join(f'{table.get(name, 0):>9.3f} {table.get(name, 0) / whole:>6.1%}' for table, whole in zip(tables, wholes))}")
+            took = [(table.get(name, 0), whole) for table, whole in zip(tables, wholes)]
+            line = " ".join(f"{micros:>9.3f} {micros / whole:>6.1%}" for micros, whole in took)
+            print(f"{shown:>24} {line}")
     print(flush=True)
 
 
