@@ -7,8 +7,8 @@ allocations of its own that the one which is refused is the first, second, third
 
 What a test then tells is counted: `beside`, where memory was refused to what the test does before or behind the call, which
 ended the test by that error; `made good`, where the call answered want of memory, left all as it was, and did what it was to do
-when it was called again; `stopped`, where a committer or a publisher stopped, and handles answer what was published before;
-`done`, where the call did what it does otherwise, so that it does without that memory. Anything else is a failure, and is shown.
+when it was called again; `done`, where the call did what it does otherwise, so that it does without that memory. Anything else is a
+failure, and is shown; `stopped` too, where a committer or a publisher stopped, and handles answer what was published before.
 
 Of a subject at most so many allocations are refused as `--at-most` says, 400 where it isn't given, evenly drawn from those from the
 call on; `allocations` is how many these are, with those by which the test looks at what is left. Each of the five crates is built
@@ -249,10 +249,10 @@ def is_fine(subject, calls, wanted, told):
     if left:
         print(f"{subject}: {left} weren't tried in time", flush=True)
         return False
-    if not counts["made good"] and not counts["stopped"]:
+    if not counts["made good"]:
         print(f"{subject}: no call answered want of memory", flush=True)
         return False
-    return not failures
+    return not failures and not counts["stopped"]
 
 
 def evenly(before, total, at_most):

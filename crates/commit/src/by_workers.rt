@@ -96,8 +96,8 @@ fn checked_delta<R: Threads + Wait + Sync, V, G: Gate + Sync>(
     ensures { MatchResult result (λ r. IsDeltaOfJob job.now ids.now last bytes block.now r.0) (λ refused. refused ≡ Memory) }
 {
     let checked = check_all(means.rt, means.alloc, job, checkers.count, means.gate)?;
-    let delta = unhashed_of(means.alloc, bytes, block, last, job, ids, checked.flags)?;
-    Ok((delta, checked.gathered))
+    let unhashed = unhashed_of(means.alloc, bytes, block, last, job, ids, checked.flags)?;
+    Ok((unhashed, checked.gathered))
 }
 
 /// What the block that was taken in would change, but for its commit hash, or why it would be refused; and how many verdicts no

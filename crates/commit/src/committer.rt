@@ -84,8 +84,9 @@ impl Committer {
         self.published.gathered()
     }
 
-    /// Takes the bytes of the next block: commits and publishes them, or refuses them and changes nothing. Where memory is
-    /// refused while they are published, what was published before stays, and it has stopped; from then on it takes no block.
+    /// Takes the bytes of the next block: commits and publishes them, or refuses them and changes nothing. All memory is had
+    /// before they are published. Were it refused meanwhile, what was published before stays, and it has stopped; from then on it
+    /// takes no block.
     pub fn submit<R: Threads + Wait + Sync, V: Verify + Sync, G: Gate + Sync>(
         &mut self,
         rt: &R,

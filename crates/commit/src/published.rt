@@ -17,7 +17,7 @@ use crate::workers::Workers;
 use gates::Gate;
 use policy::Definitions;
 use policy_eval::Verify;
-use query::{MAX_READERS, Publisher, QueryHandle, Receipt};
+use query::{MAX_READERS, PublishFault, Publisher, QueryHandle, Receipt};
 use rules::Refused;
 use std::alloc::Global;
 use std::marker::Model;
@@ -148,7 +148,8 @@ impl Published {
                 self.gathered = gathered;
                 Ok(receipt)
             }
-            Err(_) => Err(NotCommitted::MemoryInCommit),
+            Err(PublishFault::Memory) => Err(NotCommitted::Refused(Refused::Memory)),
+            Err(PublishFault::Failed) => Err(NotCommitted::MemoryInCommit),
         }
     }
 

@@ -13,7 +13,7 @@ use std::alloc::{AllocError, Global};
 use std::marker::Model;
 use transaction::BlockVersion;
 use values::{Bytes, Hash, Items, Shared};
-use world::ReadyDelta;
+use world::{ReadyDelta, Room, World};
 
 /// Where a block stands, and the commit hash of the one before it, or none.
 #[derive(Clone, Copy)]
@@ -24,7 +24,7 @@ pub(crate) struct Place {
     pub(crate) last: Option<Hash>,
 }
 
-/// What a block changes, with all of which its commit hash is made. A contract sees the delta that has this hash.
+/// What a block changes, and all that its commit hash is made of. A contract sees the delta that has this hash.
 #[derive(Drop)]
 pub struct Unhashed {
     place: Place,
@@ -99,6 +99,11 @@ impl Unhashed {
     /// How many bytes tell the rows that differ, which is most of what is hashed.
     pub fn update_len(&self) -> usize {
         self.update.len()
+    }
+
+    /// The room that the delta takes in a world.
+    pub fn room_in(&self, world: &World) -> Room {
+        world.room_for(self.effects.entries.len(), self.uses.len(), &self.batch)
     }
 
     /// The delta's commit hash: SHA-256 of what it is made of, spelled, whose memory it takes.

@@ -1,5 +1,5 @@
 -- Each step keeps the rule.
-use Rattle.std.proofs.Common.{◌≡◌, ℕ, zero, suc, ◌≢◌, List, [], ◌∷◌, ◌++◌, set, fold, refl, ap, sym, ◌∙◌, subst, ⊎_elim, Some, None, Result, Ok, Err, MatchResult, OnOk, OnErr}
+use Rattle.std.proofs.Common.{◌≡◌, ℕ, zero, suc, ◌≢◌, List, [], ◌∷◌, ◌++◌, set, fold, refl, ap, sym, ◌∙◌, subst, ⊎_elim, Option, Some, None, Result, Ok, Err, MatchResult, OnOk, OnErr}
 use Rattle.std.proofs.lemmas.List.Sums.{fold-append}
 use mathlib.Core.Option.{some, some-injective, some-ne-none}
 use mathlib.Core.List.{IsPrefix}
@@ -13,9 +13,14 @@ use Rattle.rules.specs.Delta.{applied}
 use Rattle.rules.specs.Linked.{IsLinkedDelta}
 use Rattle.query.specs.declared.shown.Shown.{Shown}
 use Rattle.query.specs.declared.shown.Entry.{Entry}
+use Rattle.query.specs.declared.shown.Operation.{Operation}
+use Rattle.query.specs.declared.shown.Operation.TheVariants.{Room, Block}
+use Rattle.policy.specs.Policies.{Policies}
+use Rattle.world.specs.Applied.{AreBehind, applied_with}
+use Rattle.world.specs.declared.room.Room as room
 use Rattle.query.specs.declared.shown.Told.{Told}
 use Rattle.query.specs.Published.{Beginning, GoesOn, applied_all, AreLinkedDeltas}
-use Rattle.query.specs.Rule.{View, Fits, IsRuled, Finds, Sees, Begins, Takes, IsTold, IsShown, absorbed, base_of}
+use Rattle.query.specs.Rule.{View, Fits, IsRuled, Finds, Sees, Begins, Takes, IsTold, IsShown, ChangeNothing, absorbed, base_of}
 
 -- ---- chains
 
@@ -98,47 +103,69 @@ publishes seat v x y d world list book is_linked views h at =
     } in
     (v, subst (λ (us : Seats). IsRuled y us) (sym (set_again views seat v at)) ruled, (refl, finds y views ruled seat v at))
 
--- The same of the writer's log: behind what was shown it has this entry alone.
-pub shows : (seat : ℕ) (v : View) (before x y : Shown) (e : Entry) (none pending : List Entry)
-    → x ≡ before → none ≡ [] → pending ≡ none ++ e ∷ []
-    → IsLinkedDelta before.world e.delta → e.front.list ≡ before.front.list ++ e.delta ∷ [] → e.front.book ≡ before.front.book
+-- ---- operations that nobody sees
+
+pub none_change_nothing : (none : List Operation) → none ≡ [] → ChangeNothing none
+none_change_nothing none empty = record { same = λ x. ap (fold absorbed x) empty }
+
+-- room too, behind others
+pub room_changes_nothing : (none pending : List Operation) (r : room.Room) → ChangeNothing none → pending ≡ none ++ Room r ∷ [] → ChangeNothing pending
+room_changes_nothing none pending r nothing one = record { same = λ x. ap (fold absorbed x) one ∙ (fold-append absorbed x none (Room r ∷ []) ∙ nothing.same x) }
+
+-- a block behind others
+one_block : (x : Shown) (e : Entry) (none pending : List Operation) → ChangeNothing none → pending ≡ none ++ Block e ∷ [] → fold absorbed x pending ≡ absorbed x (Block e)
+one_block x e none pending nothing one =
+    ap (fold absorbed x) one ∙ (fold-append absorbed x none (Block e ∷ []) ∙ ap (λ s. absorbed s (Block e)) (nothing.same x))
+
+-- a delta with the policies behind it
+applied_as : (w : World) (d : Delta) (made : Option Policies) → AreBehind w d made → applied_with w d made ≡ applied w d
+applied_as w d made are_behind = ap (λ m. record (applied w d) { definitions = m }) are_behind
+
+-- The same of the writer's log: behind what was shown it has this entry, and else what nobody sees.
+pub shows : (seat : ℕ) (v : View) (before x y : Shown) (e : Entry) (none pending : List Operation)
+    → x ≡ before → ChangeNothing none → pending ≡ none ++ Block e ∷ []
+    → IsLinkedDelta before.world e.delta → AreBehind before.world e.delta e.definitions
+    → e.front.list ≡ before.front.list ++ e.delta ∷ [] → e.front.book ≡ before.front.book
     → y ≡ fold absorbed x pending → TurnsAt IsRuled seat v x y Sees
-shows seat v before x y e none pending same empty one is_linked list book is =
-    let all : pending ≡ e ∷ [] = one ∙ ap (λ es. es ++ e ∷ []) empty in
-    let y_is : y ≡ absorbed x e = is ∙ ap (λ es. fold absorbed x es) all in
+shows seat v before x y e none pending same nothing one is_linked are_behind list book is =
+    let y_is : y ≡ absorbed x (Block e) = is ∙ one_block x e none pending nothing one in
     publishes seat v x y e.delta
-    (ap (λ s. s.world) y_is)
+    (ap (λ s. s.world) y_is ∙ applied_as x.world e.delta e.definitions (subst (λ (s : Shown). AreBehind s.world e.delta e.definitions) (sym same) are_behind))
     (ap (λ s. s.front.list) y_is ∙ (list ∙ sym (ap (λ s. s.front.list ++ e.delta ∷ []) same)))
     (ap (λ s. s.front.book) y_is ∙ (book ∙ sym (ap (λ s. s.front.book) same)))
     (subst (λ (s : Shown). IsLinkedDelta s.world e.delta) (sym same) is_linked)
 
 -- nothing more is shown
-pub shows_again : (seat : ℕ) (v : View) (x y : Shown) (none : List Entry) → none ≡ [] → y ≡ fold absorbed x none → TurnsAt IsRuled seat v x y Sees
-shows_again seat v x y none empty is = subst (λ (s : Shown). TurnsAt IsRuled seat v x s Sees) (sym (is ∙ ap (λ es. fold absorbed x es) empty)) (sees seat v x)
+pub shows_again : (seat : ℕ) (v : View) (x y : Shown) (none : List Operation) → ChangeNothing none → y ≡ fold absorbed x none → TurnsAt IsRuled seat v x y Sees
+shows_again seat v x y none nothing is = subst (λ (s : Shown). TurnsAt IsRuled seat v x s Sees) (sym (is ∙ nothing.same x)) (sees seat v x)
 
 -- whether it was shown or not, the seat stays
 pub stays : {A E : Type 0} (r : Result A E) (v w : View) (x y : Shown) → MatchResult r (λ _. Sees v x y w) (λ _. w ≡ v) → w ≡ v
 stays (Ok a) v w x y seen = seen.0
 stays (Err e) v w x y same = same
 
--- what a publish leaves behind: y is shown, and these entries are left
-module _ {A E : Type 0} (before x y : Shown) (e : Entry) (none pending left : List Entry) (same : x ≡ before) where
+-- what a publish leaves behind: y is shown, and these operations are left
+module _ {A E : Type 0} (x y : Shown) (pending left : List Operation) where
   abbrev Published : Result A E → Type 0
   Published r = MatchResult r (λ _. (y ≡ fold absorbed x pending) × (left ≡ [])) (λ _. (y ≡ x) × (left ≡ pending))
 
-  pub shows_more : (r : Result A E) → Published r → none ≡ [] → pending ≡ none ++ e ∷ [] → OnOk r (y ≡ absorbed before e)
-  shows_more (Ok a) done empty one = done.0 ∙ (ap (λ es. fold absorbed x es) (one ∙ ap (λ es. es ++ e ∷ []) empty) ∙ ap (λ s. absorbed s e) same)
-  shows_more (Err f) kept empty one = tt
+  pub shows_more : (before : Shown) (e : Entry) (none : List Operation) (r : Result A E) → Published r → x ≡ before → ChangeNothing none
+      → pending ≡ none ++ Block e ∷ [] → OnOk r (y ≡ absorbed before (Block e))
+  shows_more before e none (Ok a) done same nothing one = done.0 ∙ (one_block x e none pending nothing one ∙ ap (λ s. absorbed s (Block e)) same)
+  shows_more before e none (Err f) kept same nothing one = tt
 
-  pub shows_same : (r : Result A E) → Published r → OnErr r (y ≡ before)
-  shows_same (Ok a) done = tt
-  shows_same (Err f) kept = kept.0 ∙ same
+  pub shows_same : (before : Shown) (r : Result A E) → Published r → x ≡ before → OnErr r (y ≡ before)
+  shows_same before (Ok a) done same = tt
+  shows_same before (Err f) kept same = kept.0 ∙ same
 
--- where nothing was pending, the same is shown, and nothing is left
-pub shows_all : {A E : Type 0} (x y : Shown) (pending left : List Entry) (r : Result A E)
-    → MatchResult r (λ _. (y ≡ fold absorbed x pending) × (left ≡ [])) (λ _. (y ≡ x) × (left ≡ pending)) → pending ≡ [] → (y ≡ x) × (left ≡ [])
-shows_all x y pending left (Ok a) done empty = (done.0 ∙ ap (λ es. fold absorbed x es) empty, done.1)
-shows_all x y pending left (Err f) kept empty = (kept.0, kept.1 ∙ empty)
+  pub leaves_none : (r : Result A E) → Published r → OnOk r (ChangeNothing left)
+  leaves_none (Ok a) done = none_change_nothing left done.1
+  leaves_none (Err f) kept = tt
+
+  -- where nothing that is seen was pending, the same is shown, and nothing that is seen is left
+  pub shows_all : (r : Result A E) → Published r → ChangeNothing pending → (y ≡ x) × ChangeNothing left
+  shows_all (Ok a) done nothing = (done.0 ∙ nothing.same x, none_change_nothing left done.1)
+  shows_all (Err f) kept nothing = (kept.0, subst ChangeNothing (sym kept.1) nothing)
 
 -- the first one: what is shown becomes the writer's base
 pub begins : (seat : ℕ) (v : View) (x y : Shown) → x.front.list ≡ [] → y ≡ x → TurnsAt IsRuled seat v x y Begins
@@ -216,10 +243,11 @@ told_base v base book t = record { told = t.told; is = t.is; same_base = sym (ap
 -- what is shown after one delta more, and that the publisher's seat is still told
 module _ (old made kept : Beginning) (d : Delta) (made_is : made ≡ record { book = old.book; list = old.list ++ d ∷ [] }) (kept_is : kept ≡ made) where
   pub shown_on : (base : World) (given : Beginning) (x y : Shown) → IsShown base old x → IsLinkedDelta (applied_all base old.list) d → given ≡ made
-      → y ≡ absorbed x (record { delta = d; front = given }) → IsShown base kept y
-  shown_on base given x y s last given_is y_is =
+      → (definitions : Option Policies) → AreBehind x.world d definitions
+      → y ≡ absorbed x (Block (record { delta = d; definitions = definitions; front = given })) → IsShown base kept y
+  shown_on base given x y s last given_is definitions are_behind y_is =
       let list : kept.list ≡ old.list ++ d ∷ [] = ap (λ f. f.list) (kept_is ∙ made_is) in record {
-        world = ap (λ t. t.world) y_is ∙ (ap (λ w. applied w d) s.world ∙ (sym (applied_all-snoc base old.list d) ∙ ap (applied_all base) (sym list)));
+        world = ap (λ t. t.world) y_is ∙ (applied_as x.world d definitions are_behind ∙ ap (λ w. applied w d) s.world ∙ (sym (applied_all-snoc base old.list d) ∙ ap (applied_all base) (sym list)));
         same_front = ap (λ t. t.front) y_is ∙ (given_is ∙ sym kept_is);
         linked = subst (λ (ds : List Delta). AreLinkedDeltas base ds) (sym list) (linked-snoc base old.list d s.linked last);
       }

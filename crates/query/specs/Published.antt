@@ -1,12 +1,14 @@
 -- What is known of a publisher, of a handle and of a receipt: each knows a beginning of one list of deltas. That this list is
 -- what was published is the rule of what readers take (Rule.antt): what is shown is the world after its list, at each step.
-use Rattle.std.specs.Prelude.{◌≡◌, Bool, List, [], ◌∷◌, fold}
+use Rattle.std.specs.Prelude.{◌≡◌, Bool, true, List, [], ◌∷◌, fold}
 use mathlib.Core.List.{IsPrefix}
 use Rattle.logbook.specs.Pages.{Book}
 use Rattle.rules.specs.declared.delta.Delta.{Delta}
 use Rattle.rules.specs.World.{World}
 use Rattle.rules.specs.Delta.{applied}
 use Rattle.rules.specs.Linked.{IsLinkedDelta}
+use Rattle.query.specs.declared.fault.PublishFault.{PublishFault}
+use Rattle.query.specs.declared.fault.PublishFault.TheVariants.{Memory, Failed}
 
 -- the world after deltas, one after the other
 abbrev pub applied_all : World → List Delta → World
@@ -54,3 +56,8 @@ pub record Learns (old : Watch) (told : List Delta) (new : Watch) : Type 0 where
   pub same_base : new.base ≡ old.base
   pub no_less : IsPrefix old.list new.list
   pub knows_told : IsPrefix told new.list
+
+-- what a publish that failed leaves: a publisher as it was, or one that publishes nothing more
+abbrev pub Leaves : Publishing → PublishFault → Publishing → Type 0
+Leaves old Memory new = new ≡ old
+Leaves old Failed new = new ≡ record old { failed = true }

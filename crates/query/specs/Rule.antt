@@ -1,16 +1,17 @@
 -- The rule of what readers take: a world is what its list of deltas makes of one base. A step between the definitions and the
 -- code: no public contract cites this.
-use Rattle.std.specs.Prelude.{◌≡◌, ℕ, List, Option, Some, None}
+use Rattle.std.specs.Prelude.{◌≡◌, ℕ, List, Option, Some, None, fold}
 use mathlib.Core.Option.{some}
 use mathlib.Core.List.{IsPrefix}
 use lib.ListN.{get_elem?}
 use Rattle.std.specs.FinMap.{empty}
 use Rattle.logbook.specs.Pages.{Book}
 use Rattle.rules.specs.World.{World, empty_world}
-use Rattle.rules.specs.Delta.{applied}
+use Rattle.world.specs.Applied.{applied_with}
 use Rattle.query.specs.Published.{Beginning, applied_all, AreLinkedDeltas}
 use Rattle.query.specs.declared.shown.Shown.{Shown}
-use Rattle.query.specs.declared.shown.Entry.{Entry}
+use Rattle.query.specs.declared.shown.Operation.{Operation}
+use Rattle.query.specs.declared.shown.Operation.TheVariants.{Room, Block}
 use Rattle.query.specs.declared.shown.Told.{Told}
 
 -- what a seat was told, if it was
@@ -22,8 +23,13 @@ abbrev pub base_of : View → World
 base_of (Some told) = told.base
 base_of None = empty_world empty
 
-abbrev pub absorbed : Shown → Entry → Shown
-absorbed x e = record { world = applied x.world e.delta; front = e.front }
+abbrev pub absorbed : Shown → Operation → Shown
+absorbed x (Room r) = x
+absorbed x (Block e) = record { world = applied_with x.world e.delta e.definitions; front = e.front }
+
+-- operations that nobody sees
+pub record ChangeNothing (operations : List Operation) : Type 0 where
+  pub same : (x : Shown) → fold absorbed x operations ≡ x
 
 -- a seat was told of this base, and of the book of what is shown
 pub record Fits (x : Shown) (base : World) (told : Told) : Type 0 where

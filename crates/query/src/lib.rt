@@ -5,6 +5,7 @@
 mod answers;
 mod asking;
 mod copies;
+mod fault;
 mod front;
 mod handle;
 mod opening;
@@ -14,6 +15,7 @@ mod receipt;
 mod shown;
 
 pub use answers::{PolicyText, QueryFault, RangeRows, Reply};
+pub use fault::PublishFault;
 pub use front::Front;
 pub use handle::QueryHandle;
 pub use opening::{MAX_READERS, OpenFault, open};

@@ -1,21 +1,24 @@
 //! The one who publishes.
-ghost use Rattle.std.specs.Prelude.{◌≡◌, [], ◌∷◌, ◌++◌, false, true, drop, IfOk, OnOk, OnErr};
+ghost use Rattle.std.specs.Prelude.{◌≡◌, [], ◌∷◌, ◌++◌, false, drop, IfOk, IfErr, OnOk, OnErr};
 ghost use Rattle.left_right.specs.Sides.{view};
 ghost use Rattle.rules.specs.World.{height_of};
 ghost use Rattle.rules.specs.Linked.{IsLinkedDelta};
-ghost use Rattle.query.specs.Published.{published_world};
+ghost use Rattle.query.specs.Published.{Leaves, published_world};
 ghost use Rattle.query.specs.Counted.{counter_of};
-ghost use Rattle.query.specs.Rule.{IsTold, absorbed};
+ghost use Rattle.query.specs.Rule.{IsTold, ChangeNothing, absorbed};
+ghost use Rattle.query.specs.declared.shown.Operation.TheVariants.{Block};
+ghost use Rattle.world.specs.Applied.{AreBehind};
 
+use crate::fault::PublishFault;
 use crate::front::{Counter, Front};
 use crate::receipt::Receipt;
-use crate::shown::{Entry, Sees, ShownWriter};
+use crate::shown::{Entry, Operation, Sees, ShownWriter};
 use core::mem::replace_with;
 use rules::Delta;
 use std::alloc::{AllocError, Global};
 use std::marker::Model;
 use std::sync::Wait;
-use world::{ReadyDelta, World};
+use world::{ReadyDelta, Room, World};
 
 /// Publishes blocks, each whole. It isn't `Drop`: `close` ends it.
 ///
@@ -37,17 +40,17 @@ impl Model for Publisher {
 
     ghost coded = { publishing_code };
 
-    ghost use Rattle.std.specs.Prelude.{◌≡◌, [], false, drop};
+    ghost use Rattle.std.specs.Prelude.{◌≡◌, false, drop};
     ghost use Rattle.left_right.specs.Sides.{view as told_to};
     ghost use Rattle.query.specs.Counted.{counter_of};
-    ghost use Rattle.query.specs.Rule.{IsTold, IsShown, base_of};
+    ghost use Rattle.query.specs.Rule.{IsTold, IsShown, ChangeNothing, base_of};
 
     ghost view = { λ p. record { book = p.front.book; base = base_of (told_to p.writer.desk.place); list = p.front.list; failed = p.failed } };
 
     ghost invariant = { λ p. (p.counter ≡ counter_of p.front.book)
         × IsTold (told_to p.writer.desk.place) (base_of (told_to p.writer.desk.place)) p.front.book
         × IsShown (base_of (told_to p.writer.desk.place)) p.front p.writer.desk.shown.value
-        × (p.failed ≡ false → drop p.writer.behind p.writer.log.items ≡ []) };
+        × (p.failed ≡ false → ChangeNothing (drop p.writer.behind p.writer.log.items)) };
 }
 
 /// The writer, which shows readers one delta more.
@@ -56,16 +59,17 @@ fn shown<R: Wait>(
     rt: &R,
     entry: Entry,
 ) -> (ShownWriter, Result<(), AllocError>)
-    requires none { drop writer.behind writer.log.items ≡ [] }
+    requires none { ChangeNothing (drop writer.behind writer.log.items) }
     requires linked { IsLinkedDelta writer.desk.shown.value.world entry.delta }
+    requires definitions { AreBehind writer.desk.shown.value.world entry.delta entry.definitions }
     requires list { entry.front.list ≡ writer.desk.shown.value.front.list ++ entry.delta ∷ [] }
     requires book { entry.front.book ≡ writer.desk.shown.value.front.book }
     ensures place { view result.0.desk.place ≡ view writer.desk.place }
-    ensures ok { OnOk result.1 (result.0.desk.shown.value ≡ absorbed writer.desk.shown.value entry) }
-    ensures none { OnOk result.1 (drop result.0.behind result.0.log.items ≡ []) }
+    ensures ok { OnOk result.1 (result.0.desk.shown.value ≡ absorbed writer.desk.shown.value (Block entry)) }
+    ensures none { OnOk result.1 (ChangeNothing (drop result.0.behind result.0.log.items)) }
     ensures err { OnErr result.1 (result.0.desk.shown.value ≡ writer.desk.shown.value) }
 {
-    let Ok(()) = writer.append(entry) else {
+    let Ok(()) = writer.append(Operation::Block(entry)) else {
         return (writer, Err(AllocError));
     };
     writer.publish_as::<Sees, R>(rt)
@@ -73,13 +77,14 @@ fn shown<R: Wait>(
 
 /// Shows readers one delta more.
 fn show<R: Wait>(rt: &R, writer: &mut ShownWriter, entry: Entry) -> Result<(), AllocError>
-    requires none { drop writer.old.behind writer.old.log.items ≡ [] }
+    requires none { ChangeNothing (drop writer.old.behind writer.old.log.items) }
     requires linked { IsLinkedDelta writer.old.desk.shown.value.world entry.delta }
+    requires definitions { AreBehind writer.old.desk.shown.value.world entry.delta entry.definitions }
     requires list { entry.front.list ≡ writer.old.desk.shown.value.front.list ++ entry.delta ∷ [] }
     requires book { entry.front.book ≡ writer.old.desk.shown.value.front.book }
     ensures place { view writer.new.desk.place ≡ view writer.old.desk.place }
-    ensures ok { OnOk result (writer.new.desk.shown.value ≡ absorbed writer.old.desk.shown.value entry) }
-    ensures none { OnOk result (drop writer.new.behind writer.new.log.items ≡ []) }
+    ensures ok { OnOk result (writer.new.desk.shown.value ≡ absorbed writer.old.desk.shown.value (Block entry)) }
+    ensures none { OnOk result (ChangeNothing (drop writer.new.behind writer.new.log.items)) }
     ensures err { OnErr result (writer.new.desk.shown.value ≡ writer.old.desk.shown.value) }
 {
     replace_with(
@@ -89,24 +94,52 @@ fn show<R: Wait>(rt: &R, writer: &mut ShownWriter, entry: Entry) -> Result<(), A
     )
 }
 
-/// The writer, whose other world has absorbed what it lacked, where that needed no memory that was refused, and is shown then.
-fn caught_up<R: Wait>(writer: ShownWriter, rt: &R) -> (ShownWriter, Result<(), AllocError>)
-    requires none { drop writer.behind writer.log.items ≡ [] }
+/// The writer, whose other world has absorbed what it lacked, where memory wasn't refused, and is shown then.
+fn shown_again<R: Wait>(writer: ShownWriter, rt: &R) -> (ShownWriter, Result<(), AllocError>)
+    requires none { ChangeNothing (drop writer.behind writer.log.items) }
     ensures place { view result.0.desk.place ≡ view writer.desk.place }
     ensures same { result.0.desk.shown.value ≡ writer.desk.shown.value }
-    ensures none { drop result.0.behind result.0.log.items ≡ [] }
+    ensures none { ChangeNothing (drop result.0.behind result.0.log.items) }
 {
     let (writer, made) = writer.publish_as::<Sees, R>(rt);
     (writer, made)
 }
 
-fn bring_up<R: Wait>(rt: &R, writer: &mut ShownWriter)
-    requires none { drop writer.old.behind writer.old.log.items ≡ [] }
+fn show_again<R: Wait>(rt: &R, writer: &mut ShownWriter) -> Result<(), AllocError>
+    requires none { ChangeNothing (drop writer.old.behind writer.old.log.items) }
     ensures place { view writer.new.desk.place ≡ view writer.old.desk.place }
     ensures same { writer.new.desk.shown.value ≡ writer.old.desk.shown.value }
-    ensures none { drop writer.new.behind writer.new.log.items ≡ [] }
+    ensures none { ChangeNothing (drop writer.new.behind writer.new.log.items) }
 {
-    let _ = replace_with(writer, rt, |writer, rt| caught_up(writer, rt));
+    replace_with(writer, rt, |writer, rt| shown_again(writer, rt))
+}
+
+/// Both worlds are to have room from the next times on that they absorb something.
+fn ask_for_room(writer: &mut ShownWriter, room: Room) -> Result<(), AllocError>
+    requires none { ChangeNothing (drop writer.old.behind writer.old.log.items) }
+    ensures desk { writer.new.desk ≡ writer.old.desk }
+    ensures none { ChangeNothing (drop writer.new.behind writer.new.log.items) }
+{
+    match writer.append(Operation::Room(room)) {
+        Ok(()) => Ok(()),
+        Err(_) => Err(AllocError),
+    }
+}
+
+/// Has both worlds make room, which takes two publishes of nothing: by the first one of them catches up too.
+fn make_room<R: Wait>(rt: &R, writer: &mut ShownWriter, room: Room) -> Result<(), AllocError>
+    requires none { ChangeNothing (drop writer.old.behind writer.old.log.items) }
+    ensures place { view writer.new.desk.place ≡ view writer.old.desk.place }
+    ensures same { writer.new.desk.shown.value ≡ writer.old.desk.shown.value }
+    ensures none { ChangeNothing (drop writer.new.behind writer.new.log.items) }
+{
+    // room that was refused before: no more is asked for until it is there
+    if writer.has_pending_operations() {
+        show_again(rt, writer)?;
+    }
+    ask_for_room(writer, room)?;
+    show_again(rt, writer)?;
+    show_again(rt, writer)
 }
 
 impl Publisher {
@@ -147,11 +180,24 @@ impl Publisher {
         &self.writer.published().world
     }
 
-    /// Publishes the next block, whole: from now on queries answer from the world after it.
+    /// Has both worlds make room for a delta that comes next, the `room_for` that delta in the world that is published. By then both have
+    /// absorbed the last block too, so the next publish is spared that.
     ///
-    /// An `Err` publishes nothing, and leaves the publisher failed. Costs the delta twice, once for each world, and its batch once.
-    /// It waits for queries that began before the last publish, or before the world caught up since then.
-    pub fn publish<R: Wait>(&mut self, rt: &R, delta: Delta) -> Result<Receipt, AllocError>
+    /// An `Err` has changed nothing. It waits twice for queries that began before. Where a publish has failed it does nothing.
+    pub fn make_room<R: Wait>(&mut self, rt: &R, room: Room) -> Result<(), AllocError>
+        ensures { self.new ≡ self.old }
+    {
+        if self.failed {
+            return Ok(());
+        }
+        make_room(rt, &mut self.writer, room)
+    }
+
+    /// Publishes the next block, whole: from now on queries answer from the world after it. It makes room for it first.
+    ///
+    /// An `Err` publishes nothing. Costs the delta twice, once for each world, and its batch once. It waits for queries that began
+    /// before the last publish, and before each of the two steps that make room.
+    pub fn publish<R: Wait>(&mut self, rt: &R, delta: Delta) -> Result<Receipt, PublishFault>
         requires linked { IsLinkedDelta (published_world self.old) delta }
         requires open { self.old.failed ≡ false }
         ensures ok { OnOk result (self.new ≡ record self.old { list = self.old.list ++ delta ∷ [] }) }
@@ -159,21 +205,25 @@ impl Publisher {
         ensures height { IfOk result (λ r. r.height ≡ height_of (published_world self.new)) }
         ensures block { IfOk result (λ r. (r.header_hash ≡ delta.block.header_hash) × (r.commit_hash ≡ delta.block.commit_hash) × (r.flags ≡ delta.block.flags)) }
         ensures front { IfOk result (λ r. r.front ≡ record { book = self.new.book; list = self.new.list }) }
-        ensures err { OnErr result (self.new ≡ record self.old { failed = true }) }
+        ensures err { IfErr result (λ fault. Leaves self.old fault self.new) }
     {
         let Ok(ready) = ReadyDelta::new(self.alloc, delta) else {
-            self.failed = true;
-            return Err(AllocError);
+            return Err(PublishFault::Memory);
+        };
+        let room = ready.room_in(self.published());
+        let Ok(()) = self.make_room(rt, room) else {
+            return Err(PublishFault::Memory);
         };
         self.publish_ready(rt, ready)
     }
 
-    /// The same with a delta whose batch is made.
+    /// The same with a delta whose batch is made, and without making room. Memory for the receipt, and for policies of chaincodes where
+    /// these change; for nothing else where room was made, and so want of memory then leaves all as it was.
     pub fn publish_ready<R: Wait>(
         &mut self,
         rt: &R,
         delta: ReadyDelta,
-    ) -> Result<Receipt, AllocError>
+    ) -> Result<Receipt, PublishFault>
         requires linked { IsLinkedDelta (published_world self.old) delta }
         requires open { self.old.failed ≡ false }
         ensures ok { OnOk result (self.new ≡ record self.old { list = self.old.list ++ delta ∷ [] }) }
@@ -181,21 +231,29 @@ impl Publisher {
         ensures height { IfOk result (λ r. r.height ≡ height_of (published_world self.new)) }
         ensures block { IfOk result (λ r. (r.header_hash ≡ delta.block.header_hash) × (r.commit_hash ≡ delta.block.commit_hash) × (r.flags ≡ delta.block.flags)) }
         ensures front { IfOk result (λ r. r.front ≡ record { book = self.new.book; list = self.new.list }) }
-        ensures err { OnErr result (self.new ≡ record self.old { failed = true }) }
+        ensures err { IfErr result (λ fault. Leaves self.old fault self.new) }
     {
-        self.failed = true;
         let number = self.writer.published().world.height();
         let block = delta.delta().block.get();
         let (header_hash, commit_hash) = (block.header_hash, block.commit_hash);
-        let flags = block.flags.copy(self.alloc)?;
+        let Ok(flags) = block.flags.copy(self.alloc) else {
+            return Err(PublishFault::Memory);
+        };
+        let Ok(definitions) = self.published().definitions_behind(delta.delta()) else {
+            return Err(PublishFault::Memory);
+        };
+        self.failed = true;
         let Some(front) = self.front.with(&self.counter, delta.delta()) else {
-            return Err(AllocError);
+            return Err(PublishFault::Failed);
         };
         let entry = Entry {
             delta,
+            definitions,
             front: front.again(),
         };
-        show(rt, &mut self.writer, entry)?;
+        let Ok(()) = show(rt, &mut self.writer, entry) else {
+            return Err(PublishFault::Failed);
+        };
         self.front = front.again();
         self.failed = false;
         Ok(Receipt {
@@ -206,16 +264,6 @@ impl Publisher {
             flags,
             front,
         })
-    }
-
-    /// Has the other world absorb the last block too, and shows that one, which holds the same: a step of the next publish, which is
-    /// spared it then. Where memory is refused that one does it. It waits for queries that began before the last publish.
-    pub fn catch_up<R: Wait>(&mut self, rt: &R)
-        ensures { self.new ≡ self.old }
-    {
-        if !self.failed {
-            bring_up(rt, &mut self.writer);
-        }
     }
 
     /// Ends the publisher, and waits for queries that have begun. Handles get no entry from then on.

@@ -1,5 +1,7 @@
 //! What readers take, and the rule that ties it to its list.
-ghost use Rattle.std.specs.Prelude.{◌≡◌};
+ghost use Rattle.std.specs.Prelude.{◌≡◌, IfErr, OnOk, OnErr};
+ghost use Rattle.query.specs.declared.shown.Operation.TheVariants.{Block};
+ghost use Rattle.query.specs.Rule.{absorbed};
 
 use crate::front::Front;
 use atomic_table::{Join, Split};
@@ -7,8 +9,10 @@ use crossbeam_utils::rule::{Outcome, Protocol};
 use left_right::Absorb;
 use left_right::reader::{Reader, Reading};
 use left_right::writer::Writer;
+use policy::Definitions;
 use std::alloc::AllocError;
-use world::{ReadyDelta, World};
+use values::Shared;
+use world::{ReadyDelta, Room, World};
 
 /// A world, and the list of deltas that made it.
 #[derive(Drop)]
@@ -17,11 +21,20 @@ pub(crate) struct Shown {
     pub front: Front,
 }
 
-/// A delta with its batch, and the list that ends with it.
+/// A delta with its batch, the policies of chaincodes behind it, where these change, and the list that ends with it.
 #[derive(Drop)]
 pub(crate) struct Entry {
     pub delta: ReadyDelta,
+    pub definitions: Option<Shared<Definitions>>,
     pub front: Front,
+}
+
+/// What a world absorbs.
+#[derive(Drop)]
+pub(crate) enum Operation {
+    /// Has room for a delta that comes next, which nobody sees.
+    Room(Room),
+    Block(Entry),
 }
 
 /// What a seat was told: the world that it was opened with, and of which list. No value of it is made.
@@ -30,7 +43,40 @@ pub(crate) struct Told {
     pub front: Front,
 }
 
-impl Absorb<Entry> for Shown {
+impl Shown {
+    fn absorb_lent(&mut self, entry: &Entry) -> Result<(), AllocError>
+        ensures ok { OnOk result (self.new ≡ absorbed self.old (Block entry.now)) }
+        ensures err { OnErr result (self.new ≡ self.old) }
+    {
+        self.world.apply_ready(&entry.delta, &entry.definitions)?;
+        self.front = entry.front.again();
+        Ok(())
+    }
+
+    fn absorb_given(&mut self, entry: Entry) -> Result<(), Entry>
+        ensures ok { OnOk result (self.new ≡ absorbed self.old (Block entry)) }
+        ensures err { IfErr result (λ back. (back ≡ entry) × (self.new ≡ self.old)) }
+    {
+        let Entry {
+            delta,
+            definitions,
+            front,
+        } = entry;
+        match self.world.apply_given(delta, &definitions) {
+            Ok(()) => {
+                self.front = front;
+                Ok(())
+            }
+            Err(delta) => Err(Entry {
+                delta,
+                definitions,
+                front,
+            }),
+        }
+    }
+}
+
+impl Absorb<Operation> for Shown {
     type State = Shown;
 
     ghost use Rattle.query.specs.Rule.{absorbed};
@@ -39,20 +85,23 @@ impl Absorb<Entry> for Shown {
 
     ghost applied = { absorbed };
 
-    fn absorb_first(&mut self, operation: &Entry, _other: &Shown) -> Result<(), AllocError> {
-        self.world.apply_ready(&operation.delta)?;
-        self.front = operation.front.again();
-        Ok(())
+    fn absorb_first(&mut self, operation: &Operation, _other: &Shown) -> Result<(), AllocError> {
+        match operation {
+            Operation::Room(room) => self.world.reserve(*room),
+            Operation::Block(entry) => self.absorb_lent(entry),
+        }
     }
 
-    fn absorb_second(&mut self, operation: Entry, _other: &Shown) -> Result<(), Entry> {
-        let Entry { delta, front } = operation;
-        match self.world.apply_or_return(delta) {
-            Ok(()) => {
-                self.front = front;
-                Ok(())
-            }
-            Err(delta) => Err(Entry { delta, front }),
+    fn absorb_second(&mut self, operation: Operation, _other: &Shown) -> Result<(), Operation> {
+        match operation {
+            Operation::Room(room) => match self.world.reserve(room) {
+                Ok(()) => Ok(()),
+                Err(_) => Err(Operation::Room(room)),
+            },
+            Operation::Block(entry) => match self.absorb_given(entry) {
+                Ok(()) => Ok(()),
+                Err(entry) => Err(Operation::Block(entry)),
+            },
         }
     }
 }
@@ -107,4 +156,4 @@ pub(crate) type ShownReader = Reader<Shown, Option<Told>, IsRuled>;
 
 pub(crate) type ShownReading = Reading<Shown, Option<Told>, IsRuled>;
 
-pub(crate) type ShownWriter = Writer<Shown, Entry, Option<Told>, IsRuled>;
+pub(crate) type ShownWriter = Writer<Shown, Operation, Option<Told>, IsRuled>;

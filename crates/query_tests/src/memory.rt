@@ -1,5 +1,5 @@
 //! To be tried with memory that is refused at any one allocation, by `bench/refused_memory.py`. A query then leaves its handle
-//! as it was, a publish leaves what is published, and its publisher failed. Where memory is refused to what a test does beside,
+//! as it was; a publish leaves what is published, and its publisher as it was, or failed. Where memory is refused to what a test does beside,
 //! it ends by `?`.
 
 use crate::asking::{
@@ -8,6 +8,7 @@ use crate::asking::{
 use crate::blocks::{Drafter, first_worlds};
 use crate::opening::opened_publisher;
 use crate::publishing::publish_next;
+use block::BlockVersion;
 use failing::{Failed, Outcome, begins, is_alike};
 use query::{OpenFault, Publisher, QueryHandle, Reply, open};
 use rules::{Delta, Row};
@@ -73,26 +74,46 @@ fn are_at(handles: &mut Vec<QueryHandle>, height: u64, header_hash: Hash) -> Res
     Ok(true)
 }
 
-// Publishes the second block. Handles then answer from behind it or, where that failed, from behind the first.
-fn outcome_of_publish<R: Wait>(
+// Publishes the second block, which memory was refused to. Until then handles answer from behind the first.
+fn is_published_next<R: Wait>(
     rt: &R,
     alloc: Global,
     publisher: &mut Publisher,
     handles: &mut Vec<QueryHandle>,
     second: Delta,
     before: Hash,
+) -> Result<bool, Failed> {
+    if !are_at(handles, 1, before)? {
+        return Ok(false);
+    }
+    let receipt = publish_next(rt, alloc, publisher, second)?;
+    are_at(handles, 2, receipt.header_hash)
+}
+
+// Publishes the second block. Handles then answer from behind it or, where the publisher failed, from behind the first.
+fn outcome_of_publish<R: Wait>(
+    rt: &R,
+    alloc: Global,
+    publisher: &mut Publisher,
+    handles: &mut Vec<QueryHandle>,
+    (second, again): (Delta, Delta),
+    before: Hash,
 ) -> Result<Outcome, Failed> {
     let after = second.block.get().header_hash;
     begins(alloc)?;
-    let failed = publish_next(rt, alloc, publisher, second).err();
-    match (failed, publisher.failed()) {
-        (None, false) => outcome_if(are_at(handles, 2, after), Outcome::Done),
-        (Some(failed), true) if failed.is_memory() => {
-            outcome_if(are_at(handles, 1, before), Outcome::Stopped)
-        }
-        (Some(failed), false) => Err(failed),
-        _ => Ok(Outcome::Wrong),
+    let Some(failed) = publish_next(rt, alloc, publisher, second).err() else {
+        return outcome_if(are_at(handles, 2, after), Outcome::Done);
+    };
+    if !failed.is_memory() {
+        return Ok(Outcome::Wrong);
     }
+    if publisher.failed() {
+        return outcome_if(are_at(handles, 1, before), Outcome::Stopped);
+    }
+    outcome_if(
+        is_published_next(rt, alloc, publisher, handles, again, before),
+        Outcome::MadeGood,
+    )
 }
 
 fn publish_script<R: Wait>(
@@ -117,7 +138,8 @@ fn outcome_of_second<R: Wait>(
     let Some(before) = drafter.world().header_hash() else {
         return Err(Failed::Missing("a header hash"));
     };
-    let second = drafter.next(SECOND)?;
+    let bytes = drafter.drafted(BlockVersion::V1, SECOND)?;
+    let second = (drafter.delta(&bytes)?, drafter.delta(&bytes)?);
     outcome_of_publish(rt, alloc, publisher, handles, second, before)
 }
 

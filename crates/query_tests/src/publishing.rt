@@ -10,7 +10,7 @@ use query::{Publisher, Receipt};
 use rules::{CommittedBlock, Delta};
 use std::alloc::Global;
 use std::sync::Wait;
-use world::World;
+use world::{ReadyDelta, World};
 
 // Whether a block is kept as what it is.
 fn is_kept_of(kept: &CommittedBlock, block: &LinkedBlock<'_>) -> bool
@@ -34,7 +34,7 @@ fn is_linked(alloc: Global, world: &World, delta: &Delta) -> Result<bool, Failed
     Ok(is_kept_of(kept, &block))
 }
 
-/// Publishes the next block, behind each second one once the other world has caught up.
+/// Publishes the next block, each second one step by step.
 pub fn publish_next<R: Wait>(
     rt: &R,
     alloc: Global,
@@ -51,7 +51,10 @@ pub fn publish_next<R: Wait>(
         return Err(Failed::Missing("a linked delta"));
     }
     if publisher.published().height() % 2 == 0 {
-        publisher.catch_up(rt);
+        return Ok(publisher.publish(rt, delta)?);
     }
-    Ok(publisher.publish(rt, delta)?)
+    let ready = ReadyDelta::new(alloc, delta)?;
+    let room = ready.room_in(publisher.published());
+    publisher.make_room(rt, room)?;
+    Ok(publisher.publish_ready(rt, ready)?)
 }

@@ -1,5 +1,5 @@
 //! Changes made in pages: all memory first, then moves alone.
-ghost use Rattle.std.specs.Prelude.{◌≡◌, ◌==◌, ◌<◌, ◌≤◌, ◌+◌, ◌-◌, [], ◌∷◌, ◌++◌, true, length, get_or, IfOk, IfErr, OnOk};
+ghost use Rattle.std.specs.Prelude.{◌≡◌, ◌==◌, ◌<◌, ◌≤◌, ◌+◌, ◌-◌, [], ◌∷◌, ◌++◌, true, length, get_or, IfErr, OnOk, OnErr};
 ghost use Rattle.std.specs.Vec.{vec_capacity};
 ghost use Rattle.state_db.specs.Limits.{max_page_rows};
 ghost use Rattle.state_db.specs.Edits.{edited};
@@ -13,7 +13,7 @@ use crate::edit::Edit;
 use crate::page::{MAX_ROWS, Page};
 use crate::search::Ordered;
 use crate::slot::Slot;
-use crate::spare::{pages_needed, spare_pages};
+use crate::spare::{pages_needed, stock};
 use rules::Change;
 use state_keys::Wanted;
 use std::alloc::{AllocError, Global};
@@ -106,6 +106,7 @@ fn make_all(pages: &mut Vec<Page>, spare: &mut Vec<Page>, edits: Vec<Edit>)
     requires room { length pages.old.items + length spare.old.items ≤ vec_capacity pages.old }
     ensures open { AreOpen pages.new.items }
     ensures rows { joined pages.new.items ≡ edited (joined pages.old.items) edits.items }
+    ensures empty { AreEmpty spare.new.items }
 {
     let mut at = 0;
     for edit in edits {
@@ -142,62 +143,86 @@ fn drop_empty_last(pages: &mut Vec<Page>)
     }
 }
 
-/// All the memory that edits may want: spare pages for those that are split, and room for these.
-fn stock_for(alloc: Global, pages: &mut Vec<Page>, edits: &[Edit]) -> Result<Vec<Page>, AllocError>
+/// All the memory that edits may want: pages in stock for those that are split, and room for these.
+fn stock_for(
+    alloc: Global,
+    pages: &mut Vec<Page>,
+    spare: &mut Vec<Page>,
+    edits: &[Edit],
+) -> Result<(), AllocError>
     requires open { AreOpen pages.old.items }
     requires edits { IsSorted edits.now }
+    requires empty { AreEmpty spare.old.items }
     ensures same { pages.new.items ≡ pages.old.items }
-    ensures empty { IfOk result (λ spare. AreEmpty spare.items) }
-    ensures stock { IfOk result (λ spare. need pages.new.items edits.now ≤ length spare.items) }
-    ensures room { IfOk result (λ spare. length pages.new.items + length spare.items ≤ vec_capacity pages.new) }
+    ensures empty { AreEmpty spare.new.items }
+    ensures stock { OnOk result (need pages.new.items edits.now ≤ length spare.new.items) }
+    ensures room { OnOk result (length pages.new.items + length spare.new.items ≤ vec_capacity pages.new) }
 {
-    let needed = pages_needed(pages.as_slice(), edits);
-    let spare = spare_pages(alloc, needed)?;
-    pages.reserve(needed)?;
-    Ok(spare)
+    stock(alloc, spare, pages_needed(pages.as_slice(), edits))?;
+    pages.reserve(spare.len())
 }
 
-/// Makes edits in the order of their keys; or none, and hands them back.
+/// Makes edits in the order of their keys; or none, and hands them back. Pages in stock are taken first.
 pub(crate) fn edit_pages(
     alloc: Global,
     pages: &mut Vec<Page>,
+    spare: &mut Vec<Page>,
     edits: Vec<Edit>,
 ) -> Result<(), Vec<Edit>>
     requires open { AreOpen pages.old.items }
     requires edits { IsSorted edits.items }
+    requires empty { AreEmpty spare.old.items }
     ensures pages { OnOk result (ArePages pages.new.items) }
     ensures rows { OnOk result (joined pages.new.items ≡ edited (joined pages.old.items) edits.items) }
     ensures err { IfErr result (λ back. (back.items ≡ edits.items) × (pages.new.items ≡ pages.old.items)) }
+    ensures empty { AreEmpty spare.new.items }
 {
-    let Ok(mut spare) = stock_for(alloc, pages, edits.as_slice()) else {
+    let Ok(()) = stock_for(alloc, pages, spare, edits.as_slice()) else {
         return Err(edits);
     };
-    make_all(pages, &mut spare, edits);
+    make_all(pages, spare, edits);
     drop_empty_last(pages);
     Ok(())
 }
 
-/// A page without rows.
-fn empty_page(alloc: Global) -> Result<Vec<Page>, AllocError>
-    ensures { IfOk result (λ pages. pages.items ≡ [] ∷ []) }
+/// A page without rows, where there was none.
+fn begin(alloc: Global, pages: &mut Vec<Page>, spare: &mut Vec<Page>) -> Result<(), AllocError>
+    requires none { pages.old.items ≡ [] }
+    requires empty { AreEmpty spare.old.items }
+    ensures ok { OnOk result (pages.new.items ≡ [] ∷ []) }
+    ensures err { OnErr result (pages.new.items ≡ []) }
+    ensures empty { AreEmpty spare.new.items }
 {
-    let mut pages = Vec::new(alloc);
-    pages.push(Page::new(alloc)?)?;
-    Ok(pages)
+    pages.reserve(1)?;
+    stock(alloc, spare, 1)?;
+    let Some(page) = spare.pop() else {
+        return Err(AllocError);
+    };
+    pages.push_reserved(page);
+    Ok(())
 }
 
-/// The pages of edits in the order of their keys, where there were none; or the edits, handed back.
-pub(crate) fn first_pages(alloc: Global, edits: Vec<Edit>) -> Result<Vec<Page>, Vec<Edit>>
-    requires { IsSorted edits.items }
-    ensures pages { IfOk result (λ pages. ArePages pages.items) }
-    ensures rows { IfOk result (λ pages. joined pages.items ≡ edited [] edits.items) }
-    ensures err { IfErr result (λ back. back.items ≡ edits.items) }
+/// Makes edits in the order of their keys where there are no pages; or none, and hands them back.
+pub(crate) fn first_pages(
+    alloc: Global,
+    pages: &mut Vec<Page>,
+    spare: &mut Vec<Page>,
+    edits: Vec<Edit>,
+) -> Result<(), Vec<Edit>>
+    requires none { pages.old.items ≡ [] }
+    requires edits { IsSorted edits.items }
+    requires empty { AreEmpty spare.old.items }
+    ensures pages { OnOk result (ArePages pages.new.items) }
+    ensures rows { OnOk result (joined pages.new.items ≡ edited [] edits.items) }
+    ensures err { IfErr result (λ back. (back.items ≡ edits.items) × (pages.new.items ≡ [])) }
+    ensures empty { AreEmpty spare.new.items }
 {
-    let Ok(mut pages) = empty_page(alloc) else {
+    let Ok(()) = begin(alloc, pages, spare) else {
         return Err(edits);
     };
-    match edit_pages(alloc, &mut pages, edits) {
-        Ok(()) => Ok(pages),
-        Err(edits) => Err(edits),
+    let made = edit_pages(alloc, pages, spare, edits);
+    if made.is_err() {
+        let _ = pages.pop();
     }
+    made
 }

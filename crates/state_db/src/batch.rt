@@ -1,4 +1,4 @@
-ghost use Rattle.std.specs.Prelude.{◌≡◌, ◌≤◌, Some, None, length, IfOk, OnOk, OnErr};
+ghost use Rattle.std.specs.Prelude.{◌≡◌, ◌≤◌, [], Some, None, length, IfOk, OnOk, OnErr};
 ghost use Rattle.std.specs.FinMap.{empty, entries, from_sorted, insert};
 ghost use Rattle.std.specs.FinMap.Entries.{put};
 ghost use Rattle.rules.specs.State.{State, key_cmp, set_at, with_changes};
@@ -78,11 +78,13 @@ fn put(edits: &mut Vec<Edit>, edit: Edit) -> Result<(), AllocError>
     Ok(())
 }
 
-/// The same edits, each with one more owner of its row or key.
-fn shared(alloc: Global, edits: &[Edit]) -> Result<Vec<Edit>, AllocError>
+/// The same edits, each with one more owner of its row or key, in the room of a list that has none.
+fn shared(room: Vec<Edit>, edits: &[Edit]) -> Result<Vec<Edit>, AllocError>
+    requires { room.items ≡ [] }
     ensures { IfOk result (λ shared. shared.items ≡ edits.now) }
 {
-    let mut shared = Vec::with_capacity(alloc, edits.len())?;
+    let mut shared = room;
+    shared.reserve(edits.len())?;
     for edit in edits {
         shared.push(edit.share()?)?;
     }
@@ -164,9 +166,17 @@ impl Batch {
     pub fn share(&self) -> Result<Batch, AllocError>
         ensures { IfOk result (λ batch. batch ≡ self.now) }
     {
+        self.share_in(Vec::new(self.alloc))
+    }
+
+    /// The same, in the room of a list without edits.
+    pub(crate) fn share_in(&self, room: Vec<Edit>) -> Result<Batch, AllocError>
+        requires { room.items ≡ [] }
+        ensures { IfOk result (λ batch. batch ≡ self.now) }
+    {
         Ok(Batch {
             alloc: self.alloc,
-            edits: shared(self.alloc, self.edits.as_slice())?,
+            edits: shared(room, self.edits.as_slice())?,
         })
     }
 

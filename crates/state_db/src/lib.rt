@@ -9,6 +9,7 @@ mod directory;
 mod edit;
 mod looked_up;
 mod page;
+mod room;
 mod rows;
 mod search;
 mod slot;
@@ -18,5 +19,6 @@ mod state_db;
 mod update;
 
 pub use batch::Batch;
+pub use room::Room;
 pub use rows::Rows;
 pub use state_db::StateDb;

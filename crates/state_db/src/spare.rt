@@ -1,5 +1,5 @@
 //! Pages in stock, for those that are split.
-ghost use Rattle.std.specs.Prelude.{◌≡◌, length, IfOk};
+ghost use Rattle.std.specs.Prelude.{◌≡◌, ◌≤◌, length, OnOk};
 ghost use Rattle.state_db.specs.Need.{added, splits, need, AreOpen, AreEmpty};
 ghost use Rattle.state_db.specs.Search.{IsSorted};
 
@@ -8,20 +8,20 @@ use crate::edit::Edit;
 use crate::page::{MAX_ROWS, Page};
 use std::alloc::{AllocError, Global};
 
-/// So many empty pages.
-pub(crate) fn spare_pages(alloc: Global, count: usize) -> Result<Vec<Page>, AllocError>
-    ensures empty { IfOk result (λ pages. AreEmpty pages.items) }
-    ensures len { IfOk result (λ pages. length pages.items ≡ count) }
+/// Has at least so many empty pages in stock.
+pub(crate) fn stock(alloc: Global, spare: &mut Vec<Page>, count: usize) -> Result<(), AllocError>
+    requires empty { AreEmpty spare.old.items }
+    ensures empty { AreEmpty spare.new.items }
+    ensures len { OnOk result (count ≤ length spare.new.items) }
 {
-    let mut pages = Vec::with_capacity(alloc, count)?;
-    while pages.len() < count {
-        pages.push(Page::new(alloc)?)?;
+    while spare.len() < count {
+        spare.push(Page::new(alloc)?)?;
     }
-    Ok(pages)
+    Ok(())
 }
 
 /// How often a page of so many rows is to be split: each split of 257 leaves 128 and 129.
-fn splits(rows: usize) -> usize
+pub(crate) fn splits(rows: usize) -> usize
     ensures { result ≡ splits rows }
 {
     rows.saturating_sub(MAX_ROWS / 2 + 1) / (MAX_ROWS / 2)

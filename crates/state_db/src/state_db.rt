@@ -14,12 +14,15 @@ use crate::batch::Batch;
 use crate::directory::row_of;
 use crate::edit::Edit;
 use crate::page::Page;
+use crate::room::Room;
 use crate::rows::{Rows, rows_from};
+use crate::spare::{pages_needed, splits, stock};
 use crate::update::update_of;
 use rules::Row;
 use state_keys::{StateKey, Wanted};
 use std::alloc::{AllocError, Global};
 use std::marker::Model;
+use std::mem::replace;
 use values::{BoundRef, KeyRef, NameRef};
 
 /// The rows of a state, in pages of 1 to 256 rows: all rows of an earlier page stand before those of a later one. A
@@ -28,6 +31,10 @@ use values::{BoundRef, KeyRef, NameRef};
 pub struct StateDb {
     alloc: Global,
     pages: Vec<Page>,
+    // in stock, without rows
+    spare: Vec<Page>,
+    // room for the shares of a batch's rows
+    shares: Vec<Edit>,
 }
 
 impl Model for StateDb {
@@ -38,11 +45,13 @@ impl Model for StateDb {
 
     ghost coded = { paged_code };
 
+    ghost use Rattle.std.specs.Prelude.{◌≡◌, []};
+    ghost use Rattle.state_db.specs.Need.{AreEmpty};
     ghost use Rattle.state_db.specs.Pages.{ArePages, paged};
 
     ghost view = { λ s. paged s.pages.items };
 
-    ghost invariant = { λ s. ArePages s.pages.items };
+    ghost invariant = { λ s. ArePages s.pages.items × AreEmpty s.spare.items × (s.shares.items ≡ []) };
 }
 
 impl StateDb {
@@ -54,6 +63,8 @@ impl StateDb {
         StateDb {
             alloc,
             pages: Vec::new(alloc),
+            spare: Vec::new(alloc),
+            shares: Vec::new(alloc),
         }
     }
 
@@ -106,6 +117,31 @@ impl StateDb {
         )
     }
 
+    /// The room that the changes of a batch take. A step for each change and one pass over the pages between them.
+    pub fn room_for(&self, batch: &Batch) -> Room {
+        let edits = batch.edits();
+        let pages = if self.pages.is_empty() {
+            splits(edits.len()).saturating_add(1)
+        } else {
+            pages_needed(self.pages.as_slice(), edits)
+        };
+        Room {
+            changes: edits.len(),
+            pages,
+        }
+    }
+
+    /// Makes room. Where it is the `room_for` a batch, no `apply` of that batch asks for memory. Takes memory for pages, and for
+    /// shares of rows.
+    pub fn reserve(&mut self, room: Room) -> Result<(), AllocError>
+        ensures { self.new ≡ self.old }
+    {
+        stock(self.alloc, &mut self.spare, room.pages)?;
+        self.pages.reserve(self.spare.len())?;
+        self.shares.reserve(room.changes)?;
+        Ok(())
+    }
+
     /// Makes the changes of a batch, or none. All memory is taken first: for the shares of the batch's rows, and pages
     /// for those that the changes may split. Each change takes logarithmic time and moves up to 256 rows of its page; a
     /// page that comes or goes moves the pages behind it.
@@ -113,7 +149,8 @@ impl StateDb {
         ensures ok { OnOk result (self.new.state ≡ changed self.old.state batch.now) }
         ensures err { OnErr result (self.new ≡ self.old) }
     {
-        self.apply_owned(batch.share()?)
+        let room = replace(&mut self.shares, Vec::new(self.alloc));
+        self.apply_owned(batch.share_in(room)?)
     }
 
     /// The same with a batch that is given away, whose rows need no further owner: memory is taken for pages alone.
@@ -145,10 +182,9 @@ impl StateDb {
         ensures err { IfErr result (λ back. (back.items ≡ edits.items) × (self.new ≡ self.old)) }
     {
         if self.pages.is_empty() {
-            self.pages = first_pages(self.alloc, edits)?;
-            return Ok(());
+            return first_pages(self.alloc, &mut self.pages, &mut self.spare, edits);
         }
-        edit_pages(self.alloc, &mut self.pages, edits)
+        edit_pages(self.alloc, &mut self.pages, &mut self.spare, edits)
     }
 
     /// The rows that a batch would make differ, and changes none: how many they are, and then each with its key, in the order of the

@@ -29,7 +29,13 @@ fn give(world: &mut World, ready: ReadyDelta) -> Result<(), Failed> {
     }
 }
 
-// As a publisher does: the first is lent the delta, the second is given it.
+fn make_room(ready: &ReadyDelta, first: &mut World, second: &mut World) -> Result<(), AllocError> {
+    let room = ready.room_in(first);
+    first.reserve(room)?;
+    second.reserve(room)
+}
+
+// As a publisher does: both have room, then the first is lent the delta, and the second is given it.
 fn apply_to_both(
     alloc: Global,
     delta: Delta,
@@ -37,8 +43,13 @@ fn apply_to_both(
     second: &mut World,
 ) -> Result<(), Failed> {
     let ready = ReadyDelta::new(alloc, delta)?;
-    first.apply_ready(&ready)?;
-    give(second, ready)
+    let definitions = first.definitions_behind(ready.delta())?;
+    make_room(&ready, first, second)?;
+    first.apply_ready(&ready, &definitions)?;
+    match second.apply_given(ready, &definitions) {
+        Ok(()) => Ok(()),
+        Err(_) => Err(Failed::from(AllocError)),
+    }
 }
 
 // Where memory is refused nothing is to have changed behind block 0, and the delta is applied once more.

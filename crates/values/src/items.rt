@@ -33,6 +33,13 @@ impl<T> Items<T> {
         Items { items }
     }
 
+    /// Gives the vector of the values.
+    pub fn into_vec(self) -> Vec<T>
+        ensures { result.items ≡ self }
+    {
+        self.items
+    }
+
     pub fn as_slice(&self) -> &[T]
         ensures { result.now ≡ self.now }
     {

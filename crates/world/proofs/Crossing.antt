@@ -38,10 +38,10 @@ state_sync : IsSync state.the_row
 state_sync = search (crossing, policy_send, policy_sync) depth 40 fits 100000
 
 pub world_send : IsSend world.the_row
-world_send = search (crossing, state_send, history.the_send, ids.the_send, definitions_send, committed.the_send, committed.the_sync) depth 40 fits 100000
+world_send = search (crossing, state_send, history.the_send, ids.the_send, definitions_send, definitions_sync, committed.the_send, committed.the_sync, new_entry.the_send, new_entry.the_sync) depth 40 fits 100000
 
 pub world_sync : IsSync world.the_row
-world_sync = search (crossing, state_sync, history.the_sync, ids.the_sync, definitions_sync, committed.the_send, committed.the_sync) depth 40 fits 100000
+world_sync = search (crossing, state_sync, history.the_sync, ids.the_sync, definitions_send, definitions_sync, committed.the_send, committed.the_sync, new_entry.the_send, new_entry.the_sync) depth 40 fits 100000
 
 pub change_send : IsSend change.the_row
 change_send = search (crossing, policy_send, policy_sync) depth 40 fits 100000

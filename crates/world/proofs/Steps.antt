@@ -1,24 +1,19 @@
 -- One more of each of a delta's lists.
-use Rattle.std.proofs.Common.{◌≡◌, ℕ, ◌==◌, ◌+◌, ◌<◌, ◌≤◌, Bool, true, false, List, [], ◌∷◌, ◌++◌, length, take, get_or, Option, refl, sym, ap, ◌∙◌, arith}
+use Rattle.std.proofs.Common.{◌≡◌, ℕ, ◌==◌, ◌+◌, ◌<◌, ◌≤◌, Bool, true, false, List, [], ◌∷◌, ◌++◌, length, take, get_or, refl, sym, ap, ◌∙◌, arith}
 use Rattle.std.specs.Prelude.{if◌then◌else◌}
 use Rattle.std.proofs.lemmas.Bool.{eqb-true}
 use Rattle.std.proofs.lemmas.List.{map_more}
 use Rattle.std.proofs.lemmas.List.{nil_from_length}
-use Rattle.std.specs.FinMap.{empty, entries, insert, len-entries, len-empty}
+use Rattle.std.specs.FinMap.{insert}
 use Rattle.policy.specs.Tree.{Tree}
 use Rattle.policy.specs.Policies.{Policies}
-use Rattle.rules.specs.declared.delta.Change.{Change}
 use Rattle.rules.specs.declared.delta.NewDefinition.{NewDefinition}
 use Rattle.rules.specs.declared.delta.NewEntry.{NewEntry}
 use Rattle.rules.specs.declared.delta.NewUse.{NewUse}
-use Rattle.rules.specs.declared.row.Row.{Row}
-use Rattle.rules.specs.State.{State, key_cmp, set_at, with_changes}
 use Rattle.rules.specs.History.{History, with_entries}
 use Rattle.rules.specs.FirstUses.{FirstUses, with_uses}
 use Rattle.rules.specs.Definitions.{with_definitions}
-use Rattle.rules.specs.Delta.{change_of, changes_in, entries_in, uses_in, definitions_in}
-use Rattle.state_db.specs.Batch.{changed}
-use Rattle.rules.proofs.Changes.{with_changes-push}
+use Rattle.rules.specs.Delta.{entries_in, uses_in, definitions_in}
 use Rattle.rules.proofs.HistoryEntries.{with_entries-append, with_entries-none}
 use Rattle.rules.proofs.IdUses.{with_uses-append}
 

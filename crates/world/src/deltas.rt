@@ -1,6 +1,7 @@
-ghost use Rattle.std.specs.Prelude.{◌≡◌, ◌≤◌, ◌+◌, length, vec_len, vec_capacity, unwrap_or, IfOk, OnOk};
+ghost use Rattle.std.specs.Prelude.{◌≡◌, ◌≤◌, ◌+◌, [], ◌∷◌, ◌++◌, length, vec_len, vec_capacity, unwrap_or, IfOk, OnOk};
 ghost use Rattle.rules.specs.History.{with_entries};
 ghost use Rattle.rules.specs.FirstUses.{with_uses};
+ghost use Rattle.policy.specs.Policies.{Policies};
 ghost use Rattle.rules.specs.Definitions.{with_definitions};
 ghost use Rattle.rules.specs.Delta.{entries_in, uses_in, definitions_in};
 
@@ -11,14 +12,16 @@ use std::alloc::{AllocError, Global};
 use txid_index::TxIds;
 use values::Shared;
 
-/// The entries of a delta, with one owner more.
-pub(crate) fn share_entries(
-    alloc: Global,
+/// The entries of a delta, with one owner more, in the room of a list that has none.
+fn share_entries(
+    room: Vec<Shared<NewEntry>>,
     entries: &[Shared<NewEntry>],
 ) -> Result<Vec<Shared<NewEntry>>, AllocError>
+    requires { room.items ≡ [] }
     ensures { IfOk result (λ shared. shared.items ≡ entries.now) }
 {
-    let mut shared = Vec::with_capacity(alloc, entries.len())?;
+    let mut shared = room;
+    shared.reserve(entries.len())?;
     for entry in entries {
         shared.push(entry.share()?)?;
     }
@@ -38,12 +41,12 @@ fn add_definitions(
     Ok(())
 }
 
-/// The policies of chaincodes with those of a delta; none where it has none. A copy, so that an `Err` leaves those that stand.
+/// The policies of chaincodes with those of a delta; none where it has none. A copy, since worlds stand on those that are there.
 pub(crate) fn definitions_with(
     alloc: Global,
     definitions: &Definitions,
     more: &[NewDefinition],
-) -> Result<Option<Definitions>, AllocError>
+) -> Result<Option<Shared<Definitions>>, AllocError>
     ensures { IfOk result (λ made. unwrap_or made definitions.now ≡ with_definitions definitions.now (definitions_in more.now)) }
 {
     if more.is_empty() {
@@ -51,30 +54,36 @@ pub(crate) fn definitions_with(
     }
     let mut made = definitions.copy(alloc)?;
     add_definitions(alloc, &mut made, more)?;
-    Ok(Some(made))
+    Ok(Some(Shared::new(alloc, made)?))
 }
 
-/// What a world keeps of a delta, with one owner more; and the policies that it has behind it, where these change.
+pub(crate) fn share_definitions(
+    definitions: &Option<Shared<Definitions>>,
+) -> Result<Option<Shared<Definitions>>, AllocError>
+    ensures { IfOk result (λ shared. shared ≡ definitions.now) }
+{
+    match definitions {
+        None => Ok(None),
+        Some(definitions) => Ok(Some(definitions.share()?)),
+    }
+}
+
+/// What a world keeps of a delta; and the policies of chaincodes that it has behind it, where these change.
 #[derive(Drop)]
 pub(crate) struct Kept {
     pub(crate) entries: Vec<Shared<NewEntry>>,
-    pub(crate) definitions: Option<Definitions>,
+    pub(crate) definitions: Option<Shared<Definitions>>,
     pub(crate) block: Shared<CommittedBlock>,
 }
 
-/// Makes room for a delta, and shares what is kept of it. An `Err` changes nothing but the room.
+/// Makes room for a delta. An `Err` changes nothing but the room.
 pub(crate) fn make_room(
-    alloc: Global,
     history: &mut HistoryIndex,
     ids: &mut TxIds,
     blocks: &mut Vec<Shared<CommittedBlock>>,
-    definitions: &Definitions,
     delta: &Delta,
-) -> Result<Kept, AllocError>
+) -> Result<(), AllocError>
     ensures same { (history.new.history ≡ history.old.history) × (ids.new.uses ≡ ids.old.uses) × (blocks.new.items ≡ blocks.old.items) }
-    ensures entries { IfOk result (λ kept. kept.entries.items ≡ delta.now.entries) }
-    ensures definitions { IfOk result (λ kept. unwrap_or kept.definitions definitions.now ≡ with_definitions definitions.now (definitions_in delta.now.definitions)) }
-    ensures block { IfOk result (λ kept. kept.block ≡ delta.now.block) }
     ensures history { OnOk result (length delta.now.entries ≤ history.new.room) }
     ensures ids { OnOk result (length delta.now.uses ≤ ids.new.room) }
     ensures blocks { OnOk result (vec_len blocks.new + 1 ≤ vec_capacity blocks.new) }
@@ -82,35 +91,61 @@ pub(crate) fn make_room(
     history.reserve(delta.entries.len())?;
     ids.reserve(delta.uses.len())?;
     blocks.reserve(1)?;
-    kept_of(alloc, definitions, delta)
+    Ok(())
 }
 
-// A function of its own, so that what it owns is let go by few ways out.
-fn kept_of(alloc: Global, definitions: &Definitions, delta: &Delta) -> Result<Kept, AllocError>
+/// What a world keeps of a delta that is lent, with one owner more, in the room of a list without entries.
+pub(crate) fn share_kept(
+    room: Vec<Shared<NewEntry>>,
+    delta: &Delta,
+    definitions: &Option<Shared<Definitions>>,
+) -> Result<Kept, AllocError>
+    requires { room.items ≡ [] }
     ensures entries { IfOk result (λ kept. kept.entries.items ≡ delta.now.entries) }
-    ensures definitions { IfOk result (λ kept. unwrap_or kept.definitions definitions.now ≡ with_definitions definitions.now (definitions_in delta.now.definitions)) }
+    ensures definitions { IfOk result (λ kept. kept.definitions ≡ definitions.now) }
     ensures block { IfOk result (λ kept. kept.block ≡ delta.now.block) }
 {
     let block = delta.block.share()?;
-    let definitions = definitions_with(alloc, definitions, delta.definitions.as_slice())?;
+    let definitions = share_definitions(definitions)?;
     Ok(Kept {
-        entries: share_entries(alloc, delta.entries.as_slice())?,
+        entries: share_entries(room, delta.entries.as_slice())?,
         definitions,
         block,
     })
 }
 
-/// Takes no memory.
-pub(crate) fn replace(definitions: &mut Definitions, made: Option<Definitions>)
-    ensures { definitions.new ≡ unwrap_or made definitions.old }
+/// Keeps it, and the uses of ids. Takes no memory.
+pub(crate) fn keep(
+    history: &mut HistoryIndex,
+    ids: &mut TxIds,
+    made: &mut Option<Shared<Definitions>>,
+    blocks: &mut Vec<Shared<CommittedBlock>>,
+    kept: Kept,
+    uses: &[NewUse],
+)
+    requires history { length kept.entries.items ≤ history.old.room }
+    requires ids { length uses.now ≤ ids.old.room }
+    requires blocks { vec_len blocks.old + 1 ≤ vec_capacity blocks.old }
+    ensures history { history.new.history ≡ with_entries history.old.history (entries_in kept.entries.items) }
+    ensures ids { ids.new.uses ≡ with_uses ids.old.uses (uses_in uses.now) }
+    ensures definitions { (opened : Policies) → unwrap_or made.new opened ≡ unwrap_or kept.definitions (unwrap_or made.old opened) }
+    ensures blocks { blocks.new.items ≡ blocks.old.items ++ kept.block ∷ [] }
 {
-    if let Some(made) = made {
-        *definitions = made;
+    let Kept {
+        entries,
+        definitions,
+        block,
+    } = kept;
+    add_entries(history, entries);
+    add_uses(ids, uses);
+    if definitions.is_some() {
+        *made = definitions;
     }
+    blocks.push_reserved(block);
 }
 
 /// Takes no memory.
-pub(crate) fn add_entries(history: &mut HistoryIndex, entries: Vec<Shared<NewEntry>>)
+fn add_entries(history: &mut HistoryIndex, entries: Vec<Shared<NewEntry>>)
     requires { length entries.items ≤ history.old.room }
     ensures { history.new.history ≡ with_entries history.old.history (entries_in entries.items) }
 {
@@ -120,7 +155,7 @@ pub(crate) fn add_entries(history: &mut HistoryIndex, entries: Vec<Shared<NewEnt
 }
 
 /// Takes no memory.
-pub(crate) fn add_uses(ids: &mut TxIds, uses: &[NewUse])
+fn add_uses(ids: &mut TxIds, uses: &[NewUse])
     requires { length uses.now ≤ ids.old.room }
     ensures { ids.new.uses ≡ with_uses ids.old.uses (uses_in uses.now) }
 {

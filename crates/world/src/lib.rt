@@ -5,8 +5,10 @@
 mod deltas;
 mod range;
 mod ready;
+mod room;
 mod world;
 
 pub use range::RangeAnswer;
 pub use ready::ReadyDelta;
+pub use room::Room;
 pub use world::World;

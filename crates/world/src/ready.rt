@@ -3,6 +3,8 @@ ghost use Rattle.rules.specs.State.{State, with_changes};
 ghost use Rattle.rules.specs.Delta.{changes_in};
 ghost use Rattle.state_db.specs.Batch.{changed};
 
+use crate::room::Room;
+use crate::world::World;
 use rules::Delta;
 use state_db::Batch;
 use std::alloc::{AllocError, Global};
@@ -47,6 +49,11 @@ impl ReadyDelta {
         ensures { result.now ≡ self.now }
     {
         &self.delta
+    }
+
+    /// The room that it takes in a world.
+    pub fn room_in(&self, world: &World) -> Room {
+        world.room_for(self.delta.entries.len(), self.delta.uses.len(), &self.batch)
     }
 
     /// Makes of each state what the delta's changes make of it.

@@ -6,16 +6,19 @@ ghost use Rattle.rules.specs.World.{empty_world, height_of, last_header_hash, la
 ghost use Rattle.rules.specs.Answers.{row_answer, range_answer, history_answer, first_use_answer, block_answer};
 ghost use Rattle.state_db.specs.Batch.{changed};
 ghost use Rattle.txid_index.specs.Marks.{marks};
+ghost use Rattle.world.specs.Applied.{AreBehind, applied_with};
 
-use crate::deltas::{add_entries, add_uses, make_room, replace};
+use crate::deltas::{Kept, definitions_with, keep, make_room, share_definitions, share_kept};
 use crate::range::{RangeAnswer, up_to};
 use crate::ready::ReadyDelta;
+use crate::room::Room;
 use history_index::{Entries, HistoryIndex};
 use policy::Definitions;
-use rules::{CommittedBlock, Delta, FirstUse, Row};
+use rules::{CommittedBlock, Delta, FirstUse, NewEntry, Row};
 use state_db::{Batch, StateDb};
 use std::alloc::{AllocError, Global};
 use std::marker::Model;
+use std::mem::replace;
 use transaction::{BlockVersion, TxId};
 use txid_index::TxIds;
 use values::{BoundRef, Hash, KeyRef, NameRef, Shared};
@@ -27,8 +30,12 @@ pub struct World {
     state: StateDb,
     history: HistoryIndex,
     ids: TxIds,
-    definitions: Definitions,
+    // those that it was opened with, and those that blocks have made of them
+    opened: Definitions,
+    made: Option<Shared<Definitions>>,
     blocks: Vec<Shared<CommittedBlock>>,
+    // room for the shares of a delta's entries
+    shares: Vec<Shared<NewEntry>>,
 }
 
 impl Model for World {
@@ -39,7 +46,13 @@ impl Model for World {
 
     ghost coded = { world_code };
 
-    ghost view = { λ w. record { state = w.state.state; history = w.history.history; first_uses = w.ids.uses; definitions = w.definitions; blocks = w.blocks.items } };
+    ghost use Rattle.std.specs.Prelude.{unwrap_or};
+
+    ghost view = { λ w. record { state = w.state.state; history = w.history.history; first_uses = w.ids.uses; definitions = unwrap_or w.made w.opened; blocks = w.blocks.items } };
+
+    ghost use Rattle.std.specs.Prelude.{◌≡◌, []};
+
+    ghost invariant = { λ w. w.shares.items ≡ [] };
 }
 
 impl World {
@@ -52,8 +65,10 @@ impl World {
             state: StateDb::new(alloc),
             history: HistoryIndex::new(alloc),
             ids: TxIds::new(alloc),
-            definitions,
+            opened: definitions,
+            made: None,
             blocks: Vec::new(alloc),
+            shares: Vec::new(alloc),
         }
     }
 
@@ -108,7 +123,10 @@ impl World {
     pub fn definitions(&self) -> &Definitions
         ensures { result.now ≡ self.now.definitions }
     {
-        &self.definitions
+        match &self.made {
+            Some(made) => made.get(),
+            None => &self.opened,
+        }
     }
 
     /// The rows in their pages.
@@ -164,6 +182,39 @@ impl World {
         self.history.entries(namespace, key)
     }
 
+    /// The room that a delta takes which has so many entries and uses, and these changes. A step for each change, and one pass over
+    /// the pages between them.
+    pub fn room_for(&self, entries: usize, uses: usize, changes: &Batch) -> Room {
+        Room {
+            entries,
+            uses,
+            rows: self.state.room_for(changes),
+        }
+    }
+
+    /// Makes room. Where it is the `room_for` a delta, neither `apply_ready` nor `apply_given` of that delta asks for memory. Takes
+    /// memory for the room; lists and maps grow seldom, and then move.
+    pub fn reserve(&mut self, room: Room) -> Result<(), AllocError>
+        ensures { self.new ≡ self.old }
+    {
+        self.history.reserve(room.entries)?;
+        self.ids.reserve(room.uses)?;
+        self.blocks.reserve(1)?;
+        self.shares.reserve(room.entries)?;
+        self.state.reserve(room.rows)
+    }
+
+    /// The policies of chaincodes behind a delta, for all worlds that have those of this one; none where they don't change. Linear in
+    /// all policies, in time and memory, where they do.
+    pub fn definitions_behind(
+        &self,
+        delta: &Delta,
+    ) -> Result<Option<Shared<Definitions>>, AllocError>
+        ensures { IfOk result (λ made. AreBehind self.now delta.now made) }
+    {
+        definitions_with(self.alloc, self.definitions(), delta.definitions.as_slice())
+    }
+
     /// Applies what a block changes: all of it or, where memory is refused, nothing. Linear in the delta, each change
     /// logarithmic in the number of rows, whatever the number of blocks; but for lists and maps that grow, which they do
     /// seldom. Changes in the order of their keys go fastest.
@@ -172,60 +223,107 @@ impl World {
         ensures err { OnErr result (self.new ≡ self.old) }
     {
         let batch = Batch::of(self.alloc, delta.changes.as_slice())?;
-        match self.make(delta, batch) {
-            Ok(()) => Ok(()),
-            Err(_) => Err(AllocError),
-        }
+        let definitions = self.definitions_behind(delta)?;
+        self.apply_lent(delta, &batch, &definitions)
     }
 
-    /// The same of a delta whose batch is made: it is shared, and neither sorted nor searched.
-    pub fn apply_ready(&mut self, ready: &ReadyDelta) -> Result<(), AllocError>
-        ensures ok { OnOk result (self.new ≡ applied self.old ready.now) }
-        ensures err { OnErr result (self.new ≡ self.old) }
-    {
-        let batch = ready.batch().share()?;
-        match self.make(ready.delta(), batch) {
-            Ok(()) => Ok(()),
-            Err(_) => Err(AllocError),
-        }
-    }
-
-    /// The same of one that is given away, whose batch needs no sharing. Where memory is refused it comes back.
+    /// The same of one that is given away, no part of which needs sharing. Where memory is refused it comes back.
     pub fn apply_or_return(&mut self, ready: ReadyDelta) -> Result<(), ReadyDelta>
         ensures ok { OnOk result (self.new ≡ applied self.old ready) }
         ensures err { IfErr result (λ back. (back ≡ ready) × (self.new ≡ self.old)) }
     {
-        let (delta, batch) = ready.into_parts();
-        match self.make(&delta, batch) {
-            Ok(()) => Ok(()),
-            Err(batch) => Err(ReadyDelta::of_parts(delta, batch)),
-        }
+        let Ok(definitions) = self.definitions_behind(ready.delta()) else {
+            return Err(ready);
+        };
+        self.apply_given(ready, &definitions)
     }
 
-    /// Applies a delta by its batch; or changes nothing, and hands the batch back.
-    fn make(&mut self, delta: &Delta, batch: Batch) -> Result<(), Batch>
-        requires { (s : State) → changed s batch ≡ with_changes s (changes_in delta.now.changes) }
-        ensures ok { OnOk result (self.new ≡ applied self.old delta.now) }
-        ensures err { IfErr result (λ back. (back ≡ batch) × (self.new ≡ self.old)) }
+    /// The same of one that is lent, whose batch is made, and what is to become of the policies of chaincodes. All is shared, and
+    /// nothing is sorted.
+    pub fn apply_ready(
+        &mut self,
+        ready: &ReadyDelta,
+        definitions: &Option<Shared<Definitions>>,
+    ) -> Result<(), AllocError>
+        ensures ok { OnOk result (self.new ≡ applied_with self.old ready.now definitions.now) }
+        ensures err { OnErr result (self.new ≡ self.old) }
+    {
+        self.apply_lent(ready.delta(), ready.batch(), definitions)
+    }
+
+    fn apply_lent(
+        &mut self,
+        delta: &Delta,
+        batch: &Batch,
+        definitions: &Option<Shared<Definitions>>,
+    ) -> Result<(), AllocError>
+        requires { (s : State) → changed s batch.now ≡ with_changes s (changes_in delta.now.changes) }
+        ensures ok { OnOk result (self.new ≡ applied_with self.old delta.now definitions.now) }
+        ensures err { OnErr result (self.new ≡ self.old) }
     {
         // all that may want memory
-        let room = make_room(
-            self.alloc,
+        make_room(&mut self.history, &mut self.ids, &mut self.blocks, delta)?;
+        let room = replace(&mut self.shares, Vec::new(self.alloc));
+        let kept = share_kept(room, delta, definitions)?;
+        self.state.apply(batch)?;
+        // from here on nothing does
+        keep(
+            &mut self.history,
+            &mut self.ids,
+            &mut self.made,
+            &mut self.blocks,
+            kept,
+            delta.uses.as_slice(),
+        );
+        Ok(())
+    }
+
+    /// The same of one that is given away. Where memory is refused it comes back.
+    pub fn apply_given(
+        &mut self,
+        ready: ReadyDelta,
+        definitions: &Option<Shared<Definitions>>,
+    ) -> Result<(), ReadyDelta>
+        ensures ok { OnOk result (self.new ≡ applied_with self.old ready definitions.now) }
+        ensures err { IfErr result (λ back. (back ≡ ready) × (self.new ≡ self.old)) }
+    {
+        // all that may want memory
+        let Ok(()) = make_room(
             &mut self.history,
             &mut self.ids,
             &mut self.blocks,
-            &self.definitions,
-            delta,
-        );
-        let Ok(kept) = room else {
-            return Err(batch);
+            ready.delta(),
+        ) else {
+            return Err(ready);
         };
-        self.state.apply_or_return(batch)?;
+        let Ok(definitions) = share_definitions(definitions) else {
+            return Err(ready);
+        };
+        let (delta, batch) = ready.into_parts();
+        if let Err(batch) = self.state.apply_or_return(batch) {
+            return Err(ReadyDelta::of_parts(delta, batch));
+        }
         // from here on nothing does
-        add_entries(&mut self.history, kept.entries);
-        add_uses(&mut self.ids, delta.uses.as_slice());
-        replace(&mut self.definitions, kept.definitions);
-        self.blocks.push_reserved(kept.block);
+        let Delta {
+            changes: _changes,
+            entries,
+            uses,
+            definitions: _changed,
+            block,
+        } = delta;
+        let kept = Kept {
+            entries: entries.into_vec(),
+            definitions,
+            block,
+        };
+        keep(
+            &mut self.history,
+            &mut self.ids,
+            &mut self.made,
+            &mut self.blocks,
+            kept,
+            uses.as_slice(),
+        );
         Ok(())
     }
 }

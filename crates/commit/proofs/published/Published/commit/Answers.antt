@@ -1,9 +1,10 @@
-use Rattle.std.proofs.Common.{Err, true, [], ◌∷◌, ◌++◌, refl, sym, ap, subst, ◌∙◌}
+use Rattle.std.proofs.Common.{◌≡◌, Err, true, [], ◌∷◌, ◌++◌, refl, sym, ap, subst, ◌∙◌}
 use Rattle.std.proofs.lemmas.Result.{err_from_is_err_and}
 use Rattle.rules.specs.declared.delta.Delta.{Delta}
 use Rattle.rules.specs.Linked.{IsLinkedDelta}
 use Rattle.rules.specs.World.{World, height_of}
-use Rattle.query.specs.Published.{Publishing, published_world}
+use Rattle.query.specs.Published.{Leaves, Publishing, published_world}
+use Rattle.query.specs.declared.fault.PublishFault.{PublishFault}
 use Rattle.commit.specs.Committing.{IsCommitted, Submits}
 use Rattle.commit.specs.declared.not_committed.NotCommitted.TheVariants.{Refused}
 use Rattle.commit.specs.Running.{BelongsTo, committing}
@@ -60,9 +61,18 @@ returns-in_err-unhashed-clause-submits g c =
     let is = refused_by channel old c.published.result.now c.args.bytes.now c.in_err-unhashed.field-0.0 base c.published.ensures c.in_err-unhashed.ensures in
     rw (back.1, back.2) (subst (λ (p : Publishing). Submits accepts (committing channel p) c.args.bytes.now (Err (Refused c.in_err-unhashed.field-0.0)) (committing channel p)) c.self.view_is (going, is, refl))
 
-pub returns-in-Err-clause-belongs : goal.returns-in-Err-clause-belongs
-returns-in-Err-clause-belongs g c =
+pub returns-in-Err-Memory-clause-belongs : goal.returns-in-Err-Memory-clause-belongs
+returns-in-Err-Memory-clause-belongs g c =
     let channel = c.args.means.now.channel.now in
     let of = subst (λ (p : Publishing). BelongsTo channel p) (sym c.self.view_is) c.requires.belongs in
-    subst (λ (p : Publishing). BelongsTo channel p) (sym (c.in-Err.ensures.err ∙ (λ i. record (c.hashed.ensures.same i) { failed = true })))
+    let left : c.publish_ready.new.self ≡ c.hashed.new.publisher = subst (λ (f : PublishFault). Leaves c.hashed.new.publisher f c.publish_ready.new.self) c.in-Err-Memory.field-0-is c.in-Err-Memory.ensures.err in
+    subst (λ (p : Publishing). BelongsTo channel p) (sym (left ∙ c.hashed.ensures.same)) of
+
+pub returns-in-Err-Failed-clause-belongs : goal.returns-in-Err-Failed-clause-belongs
+returns-in-Err-Failed-clause-belongs g c =
+    let channel = c.args.means.now.channel.now in
+    let of = subst (λ (p : Publishing). BelongsTo channel p) (sym c.self.view_is) c.requires.belongs in
+    let left : c.publish_ready.new.self ≡ record c.hashed.new.publisher { failed = true } =
+    subst (λ (f : PublishFault). Leaves c.hashed.new.publisher f c.publish_ready.new.self) c.in-Err-Failed.field-0-is c.in-Err-Failed.ensures.err in
+    subst (λ (p : Publishing). BelongsTo channel p) (sym (left ∙ (λ i. record (c.hashed.ensures.same i) { failed = true })))
     (record { base = of.base; names = of.names })

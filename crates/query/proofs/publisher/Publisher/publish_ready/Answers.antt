@@ -1,7 +1,9 @@
 use Rattle.std.proofs.Common.{◌≡◌, [], ◌∷◌, ◌++◌, subst, ap, ◌∙◌, sym}
 use Rattle.left_right.specs.Sides.{view}
 use Rattle.rules.specs.World.{World}
+use Rattle.rules.specs.declared.delta.Delta.{Delta}
 use Rattle.rules.specs.Linked.{IsLinkedDelta}
+use Rattle.world.specs.Applied.{AreBehind}
 use Rattle.query.specs.Published.{Publishing, published_world}
 use Rattle.query.specs.Counted.{counter_of}
 use Rattle.query.specs.Rule.{base_of, IsShown}
@@ -15,14 +17,18 @@ invariant_of-self-2 g c =
     let made = c.in-Some.front in
     let kept = c.again-2.result in
     let given = c.again.result in
-    let shown = c.in_ok-show.ensures in
+    let shown = c.in-Ok-show.ensures in
     let seat = view was.writer.desk.place in
     let made_is : made ≡ record { book = was.front.book; list = was.front.list ++ delta ∷ [] } =
-    c.in-Some.ensures ∙ ap (λ d. record { book = was.front.book; list = was.front.list ++ d ∷ [] }) c.delta-3.ensures in
+    c.in-Some.ensures ∙ ap (λ d. record { book = was.front.book; list = was.front.list ++ d ∷ [] }) c.delta-4.ensures in
     let kept_is = c.again-2.ensures in
     let linked : IsLinkedDelta (published_world (record { book = was.front.book; base = base_of seat; list = was.front.list; failed = was.failed })) delta =
     subst (λ (p : Publishing). IsLinkedDelta (published_world p) c.args.delta) (sym c.self.view_is) c.requires.linked in
-    let on = shown_on was.front made kept delta made_is kept_is (base_of seat) given was.writer.desk.shown.value c.show.new.writer.desk.shown.value c.self.invariant.2 linked c.again.ensures shown.ok in (
+    let here : c.published-2.result.now ≡ was.writer.desk.shown.value.world = c.published-2.ensures ∙ (ap published_world (sym c.self.view_is) ∙ sym c.self.invariant.2.world) in
+    let are_behind : AreBehind was.writer.desk.shown.value.world delta c.in-Ok-definitions_behind.definitions =
+    subst (λ (w : World). AreBehind w delta c.in-Ok-definitions_behind.definitions) here
+    (subst (λ (d : Delta). AreBehind c.published-2.result.now d c.in-Ok-definitions_behind.definitions) c.delta-3.ensures c.in-Ok-definitions_behind.ensures) in
+    let on = shown_on was.front made kept delta made_is kept_is (base_of seat) given was.writer.desk.shown.value c.show.new.writer.desk.shown.value c.self.invariant.2 linked c.again.ensures c.in-Ok-definitions_behind.definitions are_behind shown.ok in (
       c.self.invariant.0 ∙ ap (λ f. counter_of f.book) (sym (kept_is ∙ made_is)),
       told_on was.front made kept delta made_is kept_is seat (view c.show.new.writer.desk.place) c.self.invariant.1 shown.place,
       subst (λ (w : World). IsShown w kept c.show.new.writer.desk.shown.value) (ap base_of (sym shown.place)) on,

@@ -12,5 +12,5 @@ returns c =
     c.row_of.ensures
     ∙ (λ i. find key_cmp (c.new-wanted.ensures i) (joined (c.as_slice-2.ensures.value i)))
     ∙ (λ i. find key_cmp (c.args.namespace.now, c.as_slice.ensures.value i) es)
-    ∙ sym (get-from_sorted key_cmp es k (told _ c.self.invariant.0))
+    ∙ sym (get-from_sorted key_cmp es k (told _ c.self.invariant.0.0))
     ∙ ap (λ (s : PagedState). get s.state k) c.self.view_is

@@ -11,4 +11,4 @@ pub returns-clause-all : goal.returns-clause-all
 returns-clause-all c =
     let ps = c.self.inside.pages.items in
     subst (λ (s : PagedState). sum s.sizes ≡ length (entries s.state)) c.self.view_is
-    (sizes_sum ps ∙ ap length (sym (entries-from_sorted key_cmp (joined ps) (told _ c.self.invariant.0))))
+    (sizes_sum ps ∙ ap length (sym (entries-from_sorted key_cmp (joined ps) (told _ c.self.invariant.0.0))))

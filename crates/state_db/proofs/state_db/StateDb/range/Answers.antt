@@ -19,6 +19,6 @@ returns c =
     c.rows_from.ensures
     ∙ (λ i. in_front (c.as_slice-3.ensures.value i) (c.as_slice-4.ensures.value i) (from_key (c.new-wanted.ensures i) (joined (c.as_slice-2.ensures.value i))))
     ∙ (λ i. in_front ns end (from_key (ns, c.as_slice.ensures.value i) es))
-    ∙ range_filter ns start end es c.self.invariant.0
-    ∙ ap (λ (l : RowList). filter (λ e. bytes_eq ns e.0.0 && is_within start end e.0.1) l) (sym (entries-from_sorted key_cmp es (told _ c.self.invariant.0)))
+    ∙ range_filter ns start end es c.self.invariant.0.0
+    ∙ ap (λ (l : RowList). filter (λ e. bytes_eq ns e.0.0 && is_within start end e.0.1) l) (sym (entries-from_sorted key_cmp es (told _ c.self.invariant.0.0)))
     ∙ ap (λ (s : PagedState). rows_where s.state ns (is_within start end)) c.self.view_is

@@ -11,5 +11,5 @@ returns c =
     let es = joined c.self.inside.pages.items in
     c.row_of.ensures
     ∙ (λ i. find key_cmp (c.wanted.ensures i) (joined (c.as_slice.ensures.value i)))
-    ∙ sym (get-from_sorted key_cmp es k (told _ c.self.invariant.0))
+    ∙ sym (get-from_sorted key_cmp es k (told _ c.self.invariant.0.0))
     ∙ ap (λ (s : PagedState). get s.state k) c.self.view_is

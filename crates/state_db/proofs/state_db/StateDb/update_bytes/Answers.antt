@@ -17,7 +17,7 @@ returns c =
     (λ v e.
     e
     ∙ (λ i. listed 4 change_bytes (changing (joined (c.as_slice.ensures.value i)) c.edits.result.now))
-    ∙ ap (listed 4 change_bytes) (changing_is rows c.edits.result.now c.self.invariant.0 c.edits.ensures.sorted)
+    ∙ ap (listed 4 change_bytes) (changing_is rows c.edits.result.now c.self.invariant.0.0 c.edits.ensures.sorted)
     ∙ (λ i. update_bytes (from_sorted {R = key_cmp} rows) (with_changes (from_sorted {R = key_cmp} rows) (c.edits.ensures.edits i)))
     ∙ ap (λ (s : State). update_bytes s (changed s c.args.batch.now)) (ap (λ s. s.state) c.self.view_is))
     c.update_of.ensures

@@ -1,7 +1,7 @@
 use Rattle.std.proofs.Common.{drop}
 use Rattle.left_right.specs.Sides.{view}
 use Rattle.query.proofs.Keeping.{shows_again, shows_all, stays}
-use Rattle.query.proofs.publisher.caught_up.Goals as goal
+use Rattle.query.proofs.publisher.shown_again.Goals as goal
 
 pub publish_as-writer-requires : goal.publish_as-writer-requires
 publish_as-writer-requires g c next is =
