@@ -57,7 +57,7 @@ use channel::{Channel, Configuration};
 use check_workers::{Checked, check_all};
 use gates::Open;
 use commit::Ledger;
-use intake::{candidates_of, take_in};
+use intake::{foreseen, take_in};
 use key_book::KeyBook;
 use key_chains::Job;
 use rules::Flag;
@@ -178,9 +178,8 @@ fn time_block<R: Clock + Print + Threads + Wait + Sync>(
     let Ok(block) = decode_block(alloc, bytes) else {
         bail!("no block");
     };
-    let used = vec![in alloc; false; block.txs.len()]?;
     let taken = take_in(alloc, channel, keys, block.version, block.txs.as_slice())?;
-    let candidates = candidates_of(alloc, taken, used.as_slice())?;
+    let (_ids, candidates) = foreseen(alloc, taken)?;
     if candidates.as_slice().len() > MAX_TXS {
         bail!("too many");
     }

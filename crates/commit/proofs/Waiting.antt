@@ -1,5 +1,5 @@
 -- Blocks that wait: taken in together, and taken out one by one.
-use Rattle.std.proofs.Common.{◌≡◌, ◌++◌, ◌∷◌, ℕ, List, Result, map, take, drop, length, [], Ok, Err, refl, ap, sym, subst, ◌∙◌}
+use Rattle.std.proofs.Common.{◌≡◌, ◌++◌, ◌∷◌, ℕ, List, Result, map, take, drop, length, [], Ok, Err, Option, Some, None, refl, ap, sym, subst, ◌∙◌}
 use Rattle.std.proofs.lemmas.List.{take-map, drop-map, length-map}
 use Rattle.std.proofs.Math.Seq.{take-append_seam, drop-append_seam}
 use Rattle.channel.specs.Configuration.{Configuration}
@@ -14,7 +14,12 @@ use Rattle.intake_workers.specs.Pieces.{txs_in, items_in, items_of_all}
 use Rattle.policy_eval.specs.Accepts.{Accepts}
 use Rattle.rules.specs.declared.answer.Refused.{Refused}
 use Rattle.transaction.specs.Items.{item_of}
-use Rattle.commit.specs.Prepared.{AreHanded, Waits}
+use Rattle.std.specs.Vec.Iter.{into_iter_items}
+use Rattle.intake_workers.specs.Pieces.{all_taken}
+use Rattle.commit.specs.declared.prepared.Ahead.{Ahead}
+use Rattle.commit.specs.declared.prepared.Prepared.{Prepared}
+use Rattle.commit.specs.declared.prepared.Waiting.{Waiting}
+use Rattle.commit.specs.Prepared.{AreBehindDrawn, AreHanded, AreWaiting, IsAhead, IsAheadBy, IsFirstPrepared, Waits}
 
 abbrev first_or : {X : Type 0} → X → List X → X
 first_or x [] = x
@@ -79,3 +84,24 @@ handed-push [] [] bytes h are is = (is, tt)
 handed-push (b ∷ blocks) (g ∷ handed) bytes h are is = (are.0, handed-push blocks handed bytes h are.1 is)
 handed-push [] (g ∷ handed) bytes h are is = absurd are
 handed-push (b ∷ blocks) [] bytes h are is = absurd are
+
+-- ---- with the first prepared, or not
+
+module _ (channel : Configuration) (accepts : Accepts) where
+  pub none_waiting : (blocks : List (List ℕ)) (waiting : Waiting) → into_iter_items waiting.blocks ≡ [] → AreWaiting channel accepts blocks waiting
+  none_waiting blocks waiting none =
+      subst (λ (rs : List (Result Hashed Refused)). Waits channel accepts blocks rs (all_taken (into_iter_items waiting.lists))) (sym none) (none_waits channel accepts blocks _)
+
+  pub none_prepared : (blocks : List (List ℕ)) (ahead : Ahead) → ahead.first ≡ None → AreWaiting channel accepts blocks ahead.waiting → IsAhead channel accepts blocks ahead
+  none_prepared blocks ahead first are = subst (λ (next : Option (Result Prepared Refused)). IsAheadBy channel accepts next blocks ahead.waiting) (sym first) are
+
+  pub none_ahead : (blocks : List (List ℕ)) (ahead : Ahead) → ahead.first ≡ None → into_iter_items ahead.waiting.blocks ≡ [] → IsAhead channel accepts blocks ahead
+  none_ahead blocks ahead first none = none_prepared blocks ahead first (none_waiting blocks ahead.waiting none)
+
+  -- what is drawn once more stands first
+  pub now_first : (next : Option (Result Prepared Refused)) (blocks : List (List ℕ)) (waiting behind : Waiting)
+      → IsFirstPrepared waiting next → AreBehindDrawn waiting behind → (next ≡ None → into_iter_items behind.blocks ≡ [])
+      → AreWaiting channel accepts blocks waiting → IsAheadBy channel accepts next blocks behind
+  now_first None blocks waiting behind first left none are = none_waiting blocks behind (none refl)
+  now_first (Some r) [] waiting behind first left none are = tt
+  now_first (Some r) (bytes ∷ blocks) waiting behind first left none are = (first channel accepts bytes blocks are, left channel accepts bytes blocks are)

@@ -1,5 +1,5 @@
 -- What was taken in of blocks before their worlds are known. No public contract cites this.
-use Rattle.std.specs.Prelude.{◌≡◌, ◌∷◌, [], ℕ, List, map, take, drop, length, Option, Result, IfSome, MatchResult}
+use Rattle.std.specs.Prelude.{◌≡◌, ◌∷◌, [], ℕ, List, map, take, drop, length, Option, Some, None, Result, IfSome, MatchResult}
 use Rattle.std.specs.Vec.Iter.{into_iter_items}
 use Rattle.block.specs.declared.block.Block.{Block}
 use Rattle.block.specs.Grammar.{bytes_of}
@@ -11,6 +11,7 @@ use Rattle.intake_workers.specs.declared.handed.Handed.{Handed}
 use Rattle.intake_workers.specs.declared.hashed.Hashed.{Hashed}
 use Rattle.intake_workers.specs.Made.{block_in}
 use Rattle.intake_workers.specs.Pieces.{txs_in, items_in, all_taken}
+use Rattle.ledger.specs.Foreseen.{AreForeseenIn}
 use Rattle.ledger.specs.NextDelta.{IsNextDelta}
 use Rattle.ledger.specs.Taken.{IsTaken}
 use Rattle.policy_eval.specs.Accepts.{Accepts}
@@ -19,11 +20,26 @@ use Rattle.rules.specs.declared.delta.Delta.{Delta}
 use Rattle.rules.specs.Linked.{IsLinked, IsRefused, IsUnlinked}
 use Rattle.rules.specs.World.{World}
 use Rattle.commit.specs.declared.prepared.Ahead.{Ahead}
+use Rattle.commit.specs.declared.prepared.Drawn.{Drawn}
 use Rattle.commit.specs.declared.prepared.Prepared.{Prepared}
+use Rattle.commit.specs.declared.prepared.Waiting.{Waiting}
 
 -- taken in by workers
-abbrev pub IsPrepared : Configuration → Accepts → List ℕ → Prepared → Type 0
-IsPrepared channel accepts bytes p = IsTaken channel accepts bytes p.hashed.block p.taken.items
+abbrev pub IsDrawn : Configuration → Accepts → List ℕ → Drawn → Type 0
+IsDrawn channel accepts bytes d = IsTaken channel accepts bytes d.hashed.block d.taken.items
+
+-- this, or why any world refuses the bytes
+abbrev pub IsDrawnOr : Configuration → Accepts → List ℕ → Result Drawn Refused → Type 0
+IsDrawnOr channel accepts bytes r = MatchResult r (IsDrawn channel accepts bytes) (λ refused. (w : World) → IsRefused w bytes refused)
+
+-- what was foreseen of what was taken in
+pub record IsPrepared (channel : Configuration) (accepts : Accepts) (bytes : List ℕ) (p : Prepared) : Type 0 where
+  pub taken : List Taken
+  pub is_taken : IsTaken channel accepts bytes p.hashed.block taken
+  pub foreseen : AreForeseenIn taken p.foreseen
+
+abbrev pub IsMadeOfDrawn : Drawn → Prepared → Type 0
+IsMadeOfDrawn d p = (channel : Configuration) (accepts : Accepts) (bytes : List ℕ) → IsDrawn channel accepts bytes d → IsPrepared channel accepts bytes p
 
 -- this, or why the bytes are refused by this world
 abbrev pub IsTakenIn : Configuration → Accepts → World → List ℕ → Result Prepared Refused → Type 0
@@ -61,8 +77,35 @@ Waits channel accepts (bytes ∷ blocks) (r ∷ waiting) taken =
     × (map shown (take (length (txs_in (block_in r))) taken) ≡ map (taken_of channel accepts) (items_in (block_in r)))
     × Waits channel accepts blocks waiting (drop (length (txs_in (block_in r))) taken)
 
+abbrev pub AreWaiting : Configuration → Accepts → List (List ℕ) → Waiting → Type 0
+AreWaiting channel accepts blocks waiting = Waits channel accepts blocks (into_iter_items waiting.blocks) (all_taken (into_iter_items waiting.lists))
+
+-- of blocks that wait the first
+abbrev pub IsFirstDrawn : Waiting → Option (Result Drawn Refused) → Type 0
+IsFirstDrawn waiting next =
+    (channel : Configuration) (accepts : Accepts) (bytes : List ℕ) (blocks : List (List ℕ)) → AreWaiting channel accepts (bytes ∷ blocks) waiting
+    → IfSome next (IsDrawnOr channel accepts bytes)
+
+-- the same, prepared, whatever the world
+abbrev pub IsFirstPrepared : Waiting → Option (Result Prepared Refused) → Type 0
+IsFirstPrepared waiting next =
+    (channel : Configuration) (accepts : Accepts) (bytes : List ℕ) (blocks : List (List ℕ)) → AreWaiting channel accepts (bytes ∷ blocks) waiting
+    → (w : World) → MayWait channel accepts w bytes next
+
+-- of blocks that wait those behind the first
+abbrev pub AreBehindDrawn : Waiting → Waiting → Type 0
+AreBehindDrawn waiting behind =
+    (channel : Configuration) (accepts : Accepts) (bytes : List ℕ) (blocks : List (List ℕ)) → AreWaiting channel accepts (bytes ∷ blocks) waiting
+    → AreWaiting channel accepts blocks behind
+
+-- the first may be prepared, and the others wait
+abbrev pub IsAheadBy : Configuration → Accepts → Option (Result Prepared Refused) → List (List ℕ) → Waiting → Type 0
+IsAheadBy channel accepts None blocks waiting = AreWaiting channel accepts blocks waiting
+IsAheadBy channel accepts (Some first) [] waiting = Unit {0}
+IsAheadBy channel accepts (Some first) (bytes ∷ blocks) waiting = ((w : World) → IsTakenIn channel accepts w bytes first) × AreWaiting channel accepts blocks waiting
+
 abbrev pub IsAhead : Configuration → Accepts → List (List ℕ) → Ahead → Type 0
-IsAhead channel accepts blocks ahead = Waits channel accepts blocks (into_iter_items ahead.blocks) (all_taken (into_iter_items ahead.lists))
+IsAhead channel accepts blocks ahead = IsAheadBy channel accepts ahead.first blocks ahead.waiting
 
 -- where these are handed in, their blocks are ahead
 abbrev pub WaitWhereHanded : Configuration → Accepts → List Handed → Ahead → Type 0
@@ -79,3 +122,7 @@ abbrev pub AreBehindFirst : Ahead → Ahead → Type 0
 AreBehindFirst ahead behind =
     (channel : Configuration) (accepts : Accepts) (bytes : List ℕ) (blocks : List (List ℕ)) → IsAhead channel accepts (bytes ∷ blocks) ahead
     → IsAhead channel accepts blocks behind
+
+-- what is ahead stays ahead
+abbrev pub StaysAhead : Ahead → Ahead → Type 0
+StaysAhead old new = (channel : Configuration) (accepts : Accepts) (blocks : List (List ℕ)) → IsAhead channel accepts blocks old → IsAhead channel accepts blocks new

@@ -16,7 +16,7 @@ use check_workers::check_all;
 use gates::Gate;
 use intake_workers::{Handed, Hashed};
 use key_chains::Job;
-use ledger::{Unhashed, job_of, unhashed_of};
+use ledger::{Unhashed, foreseen_job, unhashed_of};
 use policy_eval::Verify;
 use rules::Refused;
 use std::alloc::{AllocError, Global};
@@ -103,7 +103,7 @@ fn checked_delta<R: Threads + Wait + Sync, V, G: Gate + Sync>(
 /// What the block that was taken in would change, but for its commit hash, or why it would be refused; and how many verdicts no
 /// worker had found.
 ///
-/// Used ids and the chains of its keys are made in order; both checks are done by so many workers.
+/// Used ids are marked in order, and rows looked up; both checks are done by so many workers.
 pub(crate) fn next_delta<R: Threads + Wait + Sync, V: Verify, G: Gate + Sync>(
     means: &Means<'_, R, V, G>,
     world: &World,
@@ -117,9 +117,9 @@ pub(crate) fn next_delta<R: Threads + Wait + Sync, V: Verify, G: Gate + Sync>(
 {
     // what was taken in comes of these, which stand here for the clauses
     let _bytes = bytes;
-    let Prepared { hashed, taken } = prepared;
+    let Prepared { hashed, foreseen } = prepared;
     let (block, kept) = linked(world, hashed)?;
-    let (job, ids) = job_of(means.alloc, means.channel, world, taken)?;
+    let (job, ids) = foreseen_job(means.alloc, means.channel, world, foreseen)?;
     checked_delta(
         means,
         checkers,

@@ -8,6 +8,7 @@ ghost use Rattle.commit.specs.Committing.{Submits, Runs};
 use crate::means::Means;
 use crate::not_committed::NotCommitted;
 use crate::opening::OpenFault;
+use crate::prepared::Ahead;
 use crate::published::Published;
 use crate::running::run_all;
 use crate::workers::Workers;
@@ -108,7 +109,9 @@ impl Committer {
             gate,
         };
         let prepared = self.published.take_in_next(&means, bytes);
-        self.published.commit(&means, self.workers, bytes, prepared)
+        let mut ahead = Ahead::none(self.alloc);
+        self.published
+            .commit(&means, self.workers, bytes, prepared, &mut ahead)
     }
 
     /// Takes the bytes of blocks one after the other, and answers to all as `submit` would. An `Err` means that no block

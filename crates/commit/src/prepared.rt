@@ -3,13 +3,14 @@ ghost use Rattle.std.specs.Prelude.{◌≡◌, [], take, drop, None, IfOk, IfSom
 ghost use Rattle.std.specs.Vec.Iter.{into_iter_items};
 ghost use Rattle.block_steps.specs.OnItsWay.{IsDecoded};
 ghost use Rattle.intake_workers.specs.Pieces.{all_taken};
-ghost use Rattle.commit.specs.Prepared.{AreBehindFirst, AreHanded, IsAhead, IsFirstOf, WaitWhereHanded};
+ghost use Rattle.commit.specs.Prepared.{AreBehindDrawn, AreBehindFirst, AreHanded, IsAhead, IsFirstDrawn, IsFirstOf, IsFirstPrepared, IsMadeOfDrawn, StaysAhead, WaitWhereHanded};
 
 use crate::means::Means;
 use block_steps::DecodedBlock;
 use gates::Gate;
 use intake::Taken;
 use intake_workers::{Handed, Hashed, TakenIn, take_in_beside};
+use ledger::{Foreseen, foreseen_of};
 use policy_eval::Verify;
 use rules::Refused;
 use std::alloc::{AllocError, Global};
@@ -19,16 +20,30 @@ use values::Bytes;
 
 /// A block, hashed, and what can be said of its items without the world.
 #[derive(Drop)]
-pub(crate) struct Prepared<'b> {
+pub(crate) struct Drawn<'b> {
     pub(crate) hashed: Hashed<'b>,
     pub(crate) taken: Vec<Taken<'b>>,
 }
 
-/// Blocks that were taken in, to be committed one after the other.
+/// A block, hashed, and what its job is made of where none of its ids was used before.
 #[derive(Drop)]
-pub(crate) struct Ahead<'b> {
+pub(crate) struct Prepared<'b> {
+    pub(crate) hashed: Hashed<'b>,
+    pub(crate) foreseen: Foreseen<'b>,
+}
+
+/// Blocks that were taken in, one after the other.
+#[derive(Drop)]
+pub(crate) struct Waiting<'b> {
     blocks: vec::IntoIter<Result<Hashed<'b>, Refused>>,
     lists: vec::IntoIter<Vec<Taken<'b>>>,
+}
+
+/// Blocks that were taken in, to be committed one after the other. The first of them may be prepared before it is asked for.
+#[derive(Drop)]
+pub(crate) struct Ahead<'b> {
+    first: Option<Result<Prepared<'b>, Refused>>,
+    waiting: Waiting<'b>,
 }
 
 /// The next ones, if so many are in whole lists, and there is memory for them.
@@ -52,41 +67,40 @@ fn next_taken<'b>(
     if all.len() == count { Some(all) } else { None }
 }
 
-impl<'b> Ahead<'b> {
-    fn of(taken_in: TakenIn<'b>) -> Ahead<'b>
-        ensures blocks { into_iter_items result.blocks ≡ taken_in.entry.blocks.items }
-        ensures lists { into_iter_items result.lists ≡ taken_in.entry.taken.items }
-    {
-        let TakenIn { blocks, taken } = taken_in;
-        Ahead {
-            blocks: blocks.into_iter(),
-            lists: taken.into_iter(),
-        }
-    }
+/// What was taken in of a block, prepared to be committed.
+fn foreseen<'b>(alloc: Global, drawn: Drawn<'b>) -> Result<Prepared<'b>, AllocError>
+    ensures { IfOk result (IsMadeOfDrawn drawn.entry) }
+{
+    let Drawn { hashed, taken } = drawn;
+    let foreseen = foreseen_of(alloc, taken)?;
+    Ok(Prepared { hashed, foreseen })
+}
 
+impl<'b> Waiting<'b> {
     /// No memory was left for them.
-    fn none(alloc: Global) -> Ahead<'b>
+    fn none(alloc: Global) -> Waiting<'b>
         ensures { into_iter_items result.blocks ≡ [] }
     {
-        Ahead {
+        Waiting {
             blocks: Vec::new(alloc).into_iter(),
             lists: Vec::new(alloc).into_iter(),
         }
     }
 
     /// Drops what waits.
-    fn stop(&mut self, alloc: Global) -> Option<Result<Prepared<'b>, Refused>>
+    fn stop(&mut self, alloc: Global) -> Option<Result<Drawn<'b>, Refused>>
         ensures none { into_iter_items self.new.blocks ≡ [] }
         ensures nothing { result ≡ None }
     {
-        *self = Ahead::none(alloc);
+        *self = Waiting::none(alloc);
         None
     }
 
     /// The next one, if it waits. Where memory was refused, neither it nor those behind it do.
-    pub(crate) fn next(&mut self, alloc: Global) -> Option<Result<Prepared<'b>, Refused>>
-        ensures next { IsFirstOf self.old result }
-        ensures behind { AreBehindFirst self.old self.new }
+    fn next(&mut self, alloc: Global) -> Option<Result<Drawn<'b>, Refused>>
+        ensures next { IsFirstDrawn self.old result }
+        ensures behind { AreBehindDrawn self.old self.new }
+        ensures nothing { result ≡ None → into_iter_items self.new.blocks ≡ [] }
     {
         let Some(next) = self.blocks.next() else {
             return self.stop(alloc);
@@ -98,7 +112,75 @@ impl<'b> Ahead<'b> {
         let Some(taken) = next_taken(alloc, &mut self.lists, hashed.block.txs().len()) else {
             return self.stop(alloc);
         };
-        Some(Ok(Prepared { hashed, taken }))
+        Some(Ok(Drawn { hashed, taken }))
+    }
+
+    /// The same, prepared to be committed.
+    fn next_prepared(&mut self, alloc: Global) -> Option<Result<Prepared<'b>, Refused>>
+        ensures next { IsFirstPrepared self.old result }
+        ensures behind { AreBehindDrawn self.old self.new }
+        ensures nothing { result ≡ None → into_iter_items self.new.blocks ≡ [] }
+    {
+        let drawn = match self.next(alloc)? {
+            Ok(drawn) => drawn,
+            Err(refused) => return Some(Err(refused)),
+        };
+        match foreseen(alloc, drawn) {
+            Ok(prepared) => Some(Ok(prepared)),
+            Err(AllocError) => {
+                *self = Waiting::none(alloc);
+                None
+            }
+        }
+    }
+}
+
+impl<'b> Ahead<'b> {
+    fn of(taken_in: TakenIn<'b>) -> Ahead<'b>
+        ensures first { result.first ≡ None }
+        ensures blocks { into_iter_items result.waiting.blocks ≡ taken_in.entry.blocks.items }
+        ensures lists { into_iter_items result.waiting.lists ≡ taken_in.entry.taken.items }
+    {
+        let TakenIn { blocks, taken } = taken_in;
+        let waiting = Waiting {
+            blocks: blocks.into_iter(),
+            lists: taken.into_iter(),
+        };
+        Ahead {
+            first: None,
+            waiting,
+        }
+    }
+
+    /// None are there, or no memory was left for them.
+    pub(crate) fn none(alloc: Global) -> Ahead<'b>
+        ensures first { result.first ≡ None }
+        ensures blocks { into_iter_items result.waiting.blocks ≡ [] }
+    {
+        Ahead {
+            first: None,
+            waiting: Waiting::none(alloc),
+        }
+    }
+
+    /// The next one, if it waits. Where memory was refused, neither it nor those behind it do.
+    pub(crate) fn next(&mut self, alloc: Global) -> Option<Result<Prepared<'b>, Refused>>
+        ensures next { IsFirstOf self.old result }
+        ensures behind { AreBehindFirst self.old self.new }
+    {
+        match self.first.take() {
+            Some(first) => Some(first),
+            None => self.waiting.next_prepared(alloc),
+        }
+    }
+
+    /// Prepares the next one, if it waits, so that it is there when it is asked for.
+    pub(crate) fn prepare(&mut self, alloc: Global)
+        ensures { StaysAhead self.old self.new }
+    {
+        if self.first.is_none() {
+            self.first = self.waiting.next_prepared(alloc);
+        }
     }
 }
 

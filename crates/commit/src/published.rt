@@ -5,14 +5,14 @@ ghost use Rattle.query.specs.Limits.{max_readers};
 ghost use Rattle.query.specs.Published.{published_world};
 ghost use Rattle.query.specs.declared.opening.OpenFault.TheVariants as open_fault;
 ghost use Rattle.rules.specs.World.{empty_world};
-ghost use Rattle.commit.specs.Prepared.{IsTakenIn, MayWait};
+ghost use Rattle.commit.specs.Prepared.{IsTakenIn, MayWait, StaysAhead};
 ghost use Rattle.commit.specs.Running.{BelongsTo, SubmitsTo};
 
 use crate::by_workers::{next_delta, take_in_next};
 use crate::hashing::hashed;
 use crate::means::Means;
 use crate::not_committed::NotCommitted;
-use crate::prepared::Prepared;
+use crate::prepared::{Ahead, Prepared};
 use crate::workers::Workers;
 use gates::Gate;
 use policy::Definitions;
@@ -75,6 +75,11 @@ impl Published {
         self.gathered
     }
 
+    /// How many pages the rows take.
+    pub(crate) fn pages(&self) -> usize {
+        self.publisher.published().state().pages()
+    }
+
     pub(crate) fn has_stopped(&self) -> bool
         ensures { result ≡ self.now.failed }
     {
@@ -111,18 +116,20 @@ impl Published {
     }
 
     /// Commits and publishes the block that was taken in, which so many workers check, or refuses it and publishes nothing. Where
-    /// memory is refused while it is published, nothing more is from then on.
+    /// memory is refused while it is published, nothing more is from then on. Of what is ahead the next one may be prepared meanwhile.
     pub(crate) fn commit<R: Threads + Wait + Sync, V: Verify, G: Gate + Sync>(
         &mut self,
         means: &Means<'_, R, V, G>,
         checkers: Workers,
         bytes: &[u8],
         prepared: Result<Prepared<'_>, Refused>,
+        ahead: &mut Ahead<'_>,
     ) -> Result<Receipt, NotCommitted>
         requires taken { IsTakenIn means.now.channel.now (V.accepts means.now.verifier.now) (published_world self.old) bytes.now prepared }
         requires belongs { BelongsTo means.now.channel.now self.old }
         ensures submits { SubmitsTo means.now.channel.now (V.accepts means.now.verifier.now) self.old bytes.now result self.new }
         ensures belongs { BelongsTo means.now.channel.now self.new }
+        ensures ahead { StaysAhead ahead.old ahead.new }
     {
         if self.publisher.failed() {
             return Err(NotCommitted::Stopped);
@@ -140,6 +147,7 @@ impl Published {
             means.workers,
             &mut self.publisher,
             unhashed,
+            ahead,
         ) else {
             return Err(NotCommitted::Refused(Refused::Memory));
         };

@@ -3,7 +3,7 @@ ghost use Rattle.std.specs.Prelude.{◌≡◌, ◌+◌, ◌≤◌, ◌<◌, [], 
 ghost use Rattle.std.specs.Thread.{IsSync};
 ghost use Rattle.std.specs.Vec.{vec_len, vec_capacity};
 ghost use Rattle.rules.specs.World.{World};
-ghost use Rattle.commit.specs.Prepared.{IsAhead, MayWait};
+ghost use Rattle.commit.specs.Prepared.{IsAhead, MayWait, StaysAhead};
 ghost use Rattle.commit.specs.Running.{BelongsTo, RunsOn, RunsTo, SubmitsTo};
 
 use crate::means::Means;
@@ -56,19 +56,23 @@ fn commit_next<'b, R: Threads + Wait + Sync, V: Verify + Sync, G: Gate + Sync>(
     is_beside: bool,
     published: &mut Published,
     bytes: &'b [u8],
-    ahead: Option<Result<Prepared<'b>, Refused>>,
+    next: Option<Result<Prepared<'b>, Refused>>,
+    ahead: &mut Ahead<'b>,
 ) -> Answer
-    requires waits { (w : World) → MayWait means.now.channel.now (V.accepts means.now.verifier.now) w bytes.now ahead }
+    requires waits { (w : World) → MayWait means.now.channel.now (V.accepts means.now.verifier.now) w bytes.now next }
     requires belongs { BelongsTo means.now.channel.now published.old }
     ensures submits { SubmitsTo means.now.channel.now (V.accepts means.now.verifier.now) published.old bytes.now result published.new }
     ensures belongs { BelongsTo means.now.channel.now published.new }
+    ensures ahead { StaysAhead ahead.old ahead.new }
 {
-    let prepared = published.prepared(means, bytes, ahead);
+    let prepared = published.prepared(means, bytes, next);
     let checkers = match &prepared {
-        Ok(prepared) if is_beside => means.workers.beside_intake(prepared.taken.len()),
+        Ok(prepared) if is_beside => means
+            .workers
+            .beside_intake(prepared.foreseen.ids.len(), published.pages()),
         _ => means.workers,
     };
-    published.commit(means, checkers, bytes, prepared)
+    published.commit(means, checkers, bytes, prepared, ahead)
 }
 
 /// Commits blocks that were taken in.
@@ -91,7 +95,8 @@ fn commit_all<'b, R: Threads + Wait + Sync, V: Verify + Sync, G: Gate + Sync>(
 {
     for bytes in blocks {
         let next = ahead.next(means.alloc);
-        answers.push_reserved(commit_next(means, is_beside, published, bytes.as_slice(), next));
+        let answer = commit_next(means, is_beside, published, bytes.as_slice(), next, ahead);
+        answers.push_reserved(answer);
     }
 }
 

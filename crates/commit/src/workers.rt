@@ -7,6 +7,11 @@ pub const MAX_WORKERS: usize = 64;
 // So many transactions are checked in the time that some threads take to start.
 const WORTH_A_CHECKER: usize = 2048;
 
+// The same over a state of so many pages, whose rows lie in no cache.
+const MANY_PAGES: usize = 1024;
+
+const WORTH_A_CHECKER_OF_MANY: usize = 256;
+
 /// How many workers check a block.
 #[derive(Clone, Copy)]
 pub(crate) struct Workers {
@@ -26,11 +31,16 @@ impl Workers {
         Some(Workers { count })
     }
 
-    /// Those that check a block of so many transactions while the others take in the next one: few, for each one more is a thread
-    /// where there is no processor for it.
-    pub(crate) fn beside_intake(self, txs: usize) -> Workers {
+    /// Those that check a block of so many transactions, over a state of so many pages, while the others take in the next one: few, for
+    /// each one more is a thread where there is no processor for it.
+    pub(crate) fn beside_intake(self, txs: usize, pages: usize) -> Workers {
+        let worth = if pages < MANY_PAGES {
+            WORTH_A_CHECKER
+        } else {
+            WORTH_A_CHECKER_OF_MANY
+        };
         Workers {
-            count: self.count.min(1 + txs / WORTH_A_CHECKER),
+            count: self.count.min(1 + txs / worth),
         }
     }
 }

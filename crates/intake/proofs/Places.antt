@@ -1,5 +1,5 @@
 -- What is known before the used ids, with the marks of these, is the candidates.
-use Rattle.std.proofs.Common.{◌≡◌, ℕ, ◌==◌, Bool, true, false, not, List, [], ◌∷◌, ◌++◌, map, Option, Some, None, option_to_list, length, append-nil, ◌⊎◌, ⊎_elim, refl, sym, ap, ◌∙◌, arith}
+use Rattle.std.proofs.Common.{◌≡◌, ◌≤◌, ℕ, ◌==◌, Bool, true, false, not, List, [], ◌∷◌, ◌++◌, map, Option, Some, None, option_to_list, length, append-nil, ◌⊎◌, ⊎_elim, refl, sym, ap, ◌∙◌, arith}
 use Rattle.std.specs.Prelude.{is_none, if◌then◌else◌}
 use Rattle.std.specs.List.{zip}
 use Rattle.std.proofs.lemmas.List.{length-map}
@@ -20,6 +20,7 @@ use Rattle.candidates.specs.Seen.{seen}
 use Rattle.intake.specs.declared.taking.Taken.{Taken}
 use Rattle.intake.specs.Place.{taken_of, shown}
 use Rattle.intake.specs.Placed.{beside, placed}
+use Rattle.intake.specs.Foreseen.{AreForeseen, marked}
 
 -- ---- one place
 
@@ -114,19 +115,55 @@ same_length : (channel : Configuration) (accepts : Accepts) (taken : List Taken)
 same_length channel accepts taken items same = sym (length-map taken shown) ∙ ap length same ∙ length-map items (taken_of channel accepts)
 
 -- of a whole block
-pub all_of_block : (channel : Configuration) (accepts : Accepts) (uses : FirstUses) (items : List (Option Item)) (taken : List Taken) (used : List Bool)
+all_of_block : (channel : Configuration) (accepts : Accepts) (uses : FirstUses) (items : List (Option Item)) (taken : List Taken) (used : List Bool)
     → map shown taken ≡ map (taken_of channel accepts) items → used ≡ marks uses [] (map (λ t. t.id) taken)
     → map seen (map (λ p. placed (length taken == 1) p.0 p.1) (zip taken used)) ≡ candidates_from channel accepts (length items == 1) uses [] items
 all_of_block channel accepts uses items taken used same are =
     all_places channel accepts (length taken == 1) uses items taken [] used same are
     ∙ ap (λ (n : ℕ). candidates_from channel accepts (n == 1) uses [] items) (same_length channel accepts taken items same)
 
--- ---- places that are taken in turn
+-- ---- places that were foreseen, and then marked
 
-pub no_place_left : (alone : Bool) (done : List code.Candidate) (taken : List Taken) (used : List Bool) → (length taken ≡ 0) ⊎ (length used ≡ 0) → done ++ map (λ p. placed alone p.0 p.1) (zip taken used) ≡ done
-no_place_left alone done [] used h = append-nil done
-no_place_left alone done (t ∷ ts) [] h = append-nil done
-no_place_left alone done (t ∷ ts) (u ∷ us) h = absurd (⊎_elim (λ n. omega (arith, n)) (λ n. omega (arith, n)) h)
+marked-placed : (alone : Bool) (taken : List Taken) (used : List Bool) → marked (map (λ t. seen (placed alone t false)) taken) used ≡ map seen (map (λ p. placed alone p.0 p.1) (zip taken used))
+marked-placed alone [] used = refl
+marked-placed alone (t ∷ ts) [] = refl
+marked-placed alone (t ∷ ts) (true ∷ us) = λ i. flagged DuplicateTxId ∷ marked-placed alone ts us i
+marked-placed alone (t ∷ ts) (false ∷ us) = λ i. seen (placed alone t false) ∷ marked-placed alone ts us i
+
+pub foreseen-are : (channel : Configuration) (accepts : Accepts) (uses : FirstUses) (items : List (Option Item)) (taken : List Taken) (ids : List (Option (List ℕ))) (cs : List Candidate)
+    → AreForeseen taken ids cs → map shown taken ≡ map (taken_of channel accepts) items → marked cs (marks uses [] ids) ≡ candidates_from channel accepts (length items == 1) uses [] items
+foreseen-are channel accepts uses items taken ids cs are same =
+    ap (λ (l : List Candidate). marked l (marks uses [] ids)) are.are_candidates
+    ∙ marked-placed (length taken == 1) taken (marks uses [] ids)
+    ∙ all_of_block channel accepts uses items taken (marks uses [] ids) same (ap (marks uses []) are.are_ids)
+
+seen_all : (f : Taken → code.Candidate) (taken : List Taken) → map seen (map f taken) ≡ map (λ t. seen (f t)) taken
+seen_all f [] = refl
+seen_all f (t ∷ ts) = λ i. seen (f t) ∷ seen_all f ts i
+
+pub all_foreseen : (alone : Bool) (taken left : List Taken) (ids : List (Option (List ℕ))) (cs : List code.Candidate) → alone ≡ (length taken == 1)
+    → map (λ t. t.id) taken ≡ ids ++ map (λ t. t.id) left → map (λ t. placed alone t false) taken ≡ cs ++ map (λ t. placed alone t false) left → length left ≡ 0
+    → AreForeseen taken ids (map seen cs)
+all_foreseen alone taken [] ids cs is all_ids all_cs none = record {
+  are_ids = sym (append-nil ids) ∙ sym all_ids;
+  are_candidates =
+      ap (map seen) (sym (append-nil cs) ∙ sym all_cs)
+      ∙ seen_all (λ t. placed alone t false) taken
+      ∙ ap (λ (a : Bool). map (λ t. seen (placed a t false)) taken) is;
+}
+all_foreseen alone taken (t ∷ ts) ids cs is all_ids all_cs none = absurd (omega (arith, none))
+
+-- ---- places that are marked in turn
+
+pub none_left : (done cs : List Candidate) (used : List Bool) → (length cs ≡ 0) ⊎ (length used ≡ 0) → done ++ marked cs used ≡ done
+none_left done [] used h = append-nil done
+none_left done (c ∷ cs) [] h = append-nil done
+none_left done (c ∷ cs) (u ∷ us) h = absurd (⊎_elim (λ n. omega (arith, n)) (λ n. omega (arith, n)) h)
+
+pub few_marked : (cs : List Candidate) (used : List Bool) → length (marked cs used) ≤ length cs
+few_marked [] used = omega arith
+few_marked (c ∷ cs) [] = omega arith
+few_marked (c ∷ cs) (u ∷ us) = omega (arith, few_marked cs us)
 
 -- ---- the ids of places
 

@@ -1,2 +1,3 @@
+pub mod Foreseen
 pub mod Place
 pub mod Placed

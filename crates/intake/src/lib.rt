@@ -5,5 +5,5 @@
 mod placing;
 mod taking;
 
-pub use placing::{candidates_of, ids_of};
+pub use placing::{foreseen, foreseen_candidates_are_the_definitions, marked};
 pub use taking::{Taken, take_in, take_in_one};

@@ -1,33 +1,23 @@
-//! What items are, once it is known whose ids are used, and how many items the block has.
-ghost use Rattle.std.specs.Prelude.{◌≡◌, ◌≤◌, ◌==◌, List, [], Option, length, map, IfOk};
-ghost use Rattle.std.specs.List.{zip};
+//! What the items of a block are, once it is known how many it has, and then whose ids are used.
+ghost use Rattle.std.specs.Prelude.{◌≡◌, ◌==◌, ◌≤◌, ℕ, Bool, List, [], Option, length, map, false, IfOk, if◌then◌else◌};
 ghost use Rattle.transaction.specs.declared.item.Item.{Item};
 ghost use Rattle.policy_eval.specs.Accepts.{Accepts};
 ghost use Rattle.channel.specs.Configuration.{Configuration};
-ghost use Rattle.rules.specs.Candidate.{used_id, candidates_from};
+ghost use Rattle.rules.specs.Candidate.{candidates_from, used_id};
+ghost use Rattle.rules.specs.Candidate as by_rules;
 ghost use Rattle.rules.specs.FirstUses.{FirstUses};
 ghost use Rattle.txid_index.specs.Marks.{marks};
 ghost use Rattle.candidates.specs.Seen.{seen};
+ghost use Rattle.intake.specs.declared.taking.Taken as as_taken;
 ghost use Rattle.intake.specs.Place.{taken_of, shown};
 ghost use Rattle.intake.specs.Placed.{beside, placed};
+ghost use Rattle.intake.specs.Foreseen.{AreForeseen, mark, marked};
 
 use crate::taking::Taken;
 use candidates::Candidate;
 use rules::EarlyFlag;
 use std::alloc::{AllocError, Global};
 use transaction::TxId;
-
-/// The id that each place uses.
-pub fn ids_of(alloc: Global, taken: &[Taken<'_>]) -> Result<Vec<Option<TxId>>, AllocError>
-    ensures value { IfOk result (λ ids. ids.items ≡ map (λ t. t.id) taken.now) }
-    ensures used { IfOk result (λ ids. (channel : Configuration) (accepts : Accepts) (items : List (Option Item)) → map shown taken.now ≡ map (taken_of channel accepts) items → ids.items ≡ map (used_id channel accepts) items) }
-{
-    let mut ids = Vec::with_capacity(alloc, taken.len())?;
-    for place in taken {
-        ids.push(place.id)?;
-    }
-    Ok(ids)
-}
 
 /// An update is none beside other items.
 fn beside<'a>(candidate: Candidate<'a>) -> Candidate<'a>
@@ -39,32 +29,11 @@ fn beside<'a>(candidate: Candidate<'a>) -> Candidate<'a>
     }
 }
 
-fn placed<'a>(alone: bool, taken: Taken<'a>, used: bool) -> Candidate<'a>
-    ensures { result ≡ placed alone taken.entry used }
+/// What it is where its id is new.
+fn as_new<'a>(alone: bool, candidate: Candidate<'a>) -> Candidate<'a>
+    ensures { result ≡ (if alone then candidate.entry else beside candidate.entry) }
 {
-    if used {
-        return Candidate::Flagged(EarlyFlag::DuplicateTxId);
-    }
-    if alone {
-        taken.candidate
-    } else {
-        beside(taken.candidate)
-    }
-}
-
-fn all_placed<'a>(
-    alloc: Global,
-    alone: bool,
-    taken: Vec<Taken<'a>>,
-    used: &[bool],
-) -> Result<Vec<Candidate<'a>>, AllocError>
-    ensures { IfOk result (λ cs. cs.items ≡ map (λ p. placed alone p.0 p.1) (zip taken.entry.items used.now)) }
-{
-    let mut candidates = Vec::with_capacity(alloc, taken.len())?;
-    for (place, used) in taken.into_iter().zip(used) {
-        candidates.push(placed(alone, place, *used))?;
-    }
-    Ok(candidates)
+    if alone { candidate } else { beside(candidate) }
 }
 
 fn is_one(taken: &[Taken<'_>]) -> bool
@@ -73,16 +42,68 @@ fn is_one(taken: &[Taken<'_>]) -> bool
     taken.len() == 1
 }
 
-/// The candidates of all places of a block, whose marks say whose ids are used: in the blocks before, or at an earlier
-/// place. An update that isn't its block's only item is flagged. One pass, and a list of the candidates; none is copied.
-pub fn candidates_of<'a>(
+fn all_new<'a>(
+    alloc: Global,
+    alone: bool,
+    taken: Vec<Taken<'a>>,
+) -> Result<(Vec<Option<TxId>>, Vec<Candidate<'a>>), AllocError>
+    requires { alone ≡ (length taken.items == 1) }
+    ensures { IfOk result (λ r. AreForeseen taken.entry.items r.0.items (map seen r.1.items)) }
+{
+    let mut ids = Vec::with_capacity(alloc, taken.len())?;
+    let mut candidates = Vec::with_capacity(alloc, taken.len())?;
+    for place in taken {
+        let Taken { id, candidate } = place;
+        ids.push(id)?;
+        candidates.push(as_new(alone, candidate))?;
+    }
+    Ok((ids, candidates))
+}
+
+/// The id that each place of a block uses, and the candidates that its items are where none of these was used before, in a block or at
+/// an earlier place. An update that isn't its block's only item is flagged. One pass, and lists of both; no candidate is copied.
+pub fn foreseen<'a>(
     alloc: Global,
     taken: Vec<Taken<'a>>,
-    used: &[bool],
-) -> Result<Vec<Candidate<'a>>, AllocError>
-    ensures few { IfOk result (λ cs. length cs.items ≤ length taken.entry.items) }
-    ensures candidates { IfOk result (λ cs. (channel : Configuration) (accepts : Accepts) (uses : FirstUses) (items : List (Option Item)) → map shown taken.entry.items ≡ map (taken_of channel accepts) items → used.now ≡ marks uses [] (map (λ t. t.id) taken.entry.items) → map seen cs.items ≡ candidates_from channel accepts (length items == 1) uses [] items) }
+) -> Result<(Vec<Option<TxId>>, Vec<Candidate<'a>>), AllocError>
+    ensures { IfOk result (λ r. AreForeseen taken.entry.items r.0.items (map seen r.1.items)) }
 {
     let alone = is_one(taken.as_slice());
-    all_placed(alloc, alone, taken, used)
+    all_new(alloc, alone, taken)
 }
+
+fn mark<'a>(candidate: Candidate<'a>, used: bool) -> Candidate<'a>
+    ensures { seen result ≡ mark (seen candidate.entry, used) }
+{
+    if used {
+        Candidate::Flagged(EarlyFlag::DuplicateTxId)
+    } else {
+        candidate
+    }
+}
+
+/// Of candidates that were foreseen those of the block, whose marks say whose ids are used. One pass, and a list of them.
+pub fn marked<'a>(
+    alloc: Global,
+    candidates: Vec<Candidate<'a>>,
+    used: &[bool],
+) -> Result<Vec<Candidate<'a>>, AllocError>
+    ensures few { IfOk result (λ cs. length cs.items ≤ length candidates.entry.items) }
+    ensures marked { IfOk result (λ cs. map seen cs.items ≡ marked (map seen candidates.entry.items) used.now) }
+{
+    let mut all = Vec::with_capacity(alloc, candidates.len())?;
+    for (candidate, used) in candidates.into_iter().zip(used) {
+        all.push(mark(candidate, *used))?;
+    }
+    Ok(all)
+}
+
+/// Candidates that were foreseen, with the marks of a ledger's first uses, are those of the definitions; and the ids are those that its
+/// items use.
+pub fn foreseen_candidates_are_the_definitions()
+    ensures candidates { (channel : Configuration) (accepts : Accepts) (uses : FirstUses) (items : List (Option Item)) (taken : List as_taken.Taken) (ids : List (Option (List ℕ))) (cs : List by_rules.Candidate)
+        → AreForeseen taken ids cs → map shown taken ≡ map (taken_of channel accepts) items
+        → marked cs (marks uses [] ids) ≡ candidates_from channel accepts (length items == 1) uses [] items }
+    ensures ids { (channel : Configuration) (accepts : Accepts) (items : List (Option Item)) (taken : List as_taken.Taken) (ids : List (Option (List ℕ))) (cs : List by_rules.Candidate)
+        → AreForeseen taken ids cs → map shown taken ≡ map (taken_of channel accepts) items → ids ≡ map (used_id channel accepts) items }
+{}

@@ -13,6 +13,7 @@ ghost use Rattle.key_chains.specs.Operations.{operations};
 ghost use Rattle.key_chains.specs.PolicyWriters.{policy_writers};
 ghost use Rattle.state_db.specs.Batch.{changed};
 
+use crate::chained::Chained;
 use crate::chains::{Chains, newest_on};
 use crate::links::{Operations, PolicyWriters};
 use candidates::{Candidate, OpenTx, StateKey};
@@ -67,8 +68,8 @@ fn item_of<T: Copy>(items: &[T], firsts: &[usize], i: u32, item: usize) -> T
 }
 
 impl<'a> Job<'a> {
-    /// The job of a block's candidates, over the state before the block. A sort of the keys that they write, a search for
-    /// the row of each, and one pass over what they read and write, with a search for each key.
+    /// The job of a block's candidates, over the state before the block: what [`Chained::build`] does of them, and a search for the row of
+    /// each key that they write.
     pub fn build(
         alloc: Global,
         number: u64,
@@ -80,7 +81,23 @@ impl<'a> Job<'a> {
         requires { length candidates.items ≤ max_txs }
         ensures { IfOk result (λ j. j ≡ record { number = number; state = state.entry.now.state; definitions = definitions.entry.now; admin = option_copied admin.entry; candidates = map seen candidates.entry.items }) }
     {
-        let chains = Chains::build(alloc, candidates.as_slice())?;
+        let chained = Chained::build(alloc, candidates)?;
+        Job::over(alloc, number, state, definitions, admin, chained)
+    }
+
+    /// The same of candidates whose operations are linked. A search for the row of each key that they write.
+    pub fn over(
+        alloc: Global,
+        number: u64,
+        state: &'a StateDb,
+        definitions: &'a Definitions,
+        admin: Option<&'a Policy>,
+        chained: Chained<'a>,
+    ) -> Result<Job<'a>, AllocError>
+        requires { length chained ≤ max_txs }
+        ensures { IfOk result (λ j. j ≡ record { number = number; state = state.entry.now.state; definitions = definitions.entry.now; admin = option_copied admin.entry; candidates = chained.entry }) }
+    {
+        let Chained { candidates, chains } = chained;
         let rows = state.rows_of(alloc, chains.keys.as_slice())?;
         Ok(Job {
             number,

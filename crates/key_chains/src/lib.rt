@@ -2,6 +2,7 @@
 #![tactic(auto)]
 
 mod board;
+mod chained;
 mod chains;
 mod decision;
 mod job;
@@ -12,6 +13,7 @@ mod plain_board;
 
 pub use board::Board;
 pub use candidates::{Candidate, OpenTx, StateKey, WrittenKey};
+pub use chained::Chained;
 pub use decision::Decision;
 pub use job::Job;
 pub use links::{Chain, Operations, PolicyWriters};

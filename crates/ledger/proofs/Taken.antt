@@ -1,16 +1,32 @@
 -- A block that was taken in has no more transactions than a block may have.
-use Rattle.std.proofs.Common.{◌≤◌, ◌∙◌, ℕ, List, length, ap, sym, arith}
+use Rattle.std.proofs.Common.{◌≡◌, ◌≤◌, ◌∙◌, ℕ, List, Option, length, ap, sym, subst, arith}
 use Rattle.std.proofs.lemmas.List.{length-map}
 use Rattle.block.specs.declared.block.Block.{Block}
 use Rattle.block.specs.Limits.{max_txs}
 use Rattle.channel.specs.Configuration.{Configuration}
 use Rattle.intake.specs.declared.taking.Taken.{Taken}
+use Rattle.intake.specs.Foreseen.{AreForeseen}
 use Rattle.intake.specs.Place.{taken_of, shown}
 use Rattle.policy_eval.specs.Accepts.{Accepts}
+use Rattle.rules.specs.Candidate.{Candidate}
 use Rattle.rules.specs.Commit.{items_of}
+use Rattle.ledger.specs.declared.foreseen.Foreseen.{Foreseen}
+use Rattle.ledger.specs.Foreseen.{AreForeseenIn}
 use Rattle.ledger.specs.Taken.{IsTaken}
 
 pub few : (channel : Configuration) (accepts : Accepts) (bytes : List ℕ) (b : Block) (taken : List Taken) → IsTaken channel accepts bytes b taken → length taken ≤ max_txs
 few channel accepts bytes b taken is =
     let same = sym (length-map taken shown) ∙ ap length is.taken ∙ length-map (items_of b) (taken_of channel accepts) ∙ length-map b.txs _ in
     omega (arith, same, is.spelled.count)
+
+-- ---- what was foreseen of it
+
+as_many-ids : (taken : List Taken) (ids : List (Option (List ℕ))) (cs : List Candidate) → AreForeseen taken ids cs → length ids ≡ length taken
+as_many-ids taken ids cs are = ap length are.are_ids ∙ length-map taken _
+
+pub as_many : (taken : List Taken) (f : Foreseen) → AreForeseenIn taken f → length f.chained ≡ length f.ids.items
+as_many taken f are =
+    ap length are.are_candidates ∙ length-map taken _ ∙ sym (as_many-ids taken f.ids.items f.chained are)
+
+pub few-foreseen : (taken : List Taken) (f : Foreseen) → length taken ≤ max_txs → AreForeseenIn taken f → length f.ids.items ≤ max_txs
+few-foreseen taken f few are = subst (λ n. n ≤ max_txs) (sym (as_many-ids taken f.ids.items f.chained are)) few

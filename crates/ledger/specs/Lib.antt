@@ -1,5 +1,6 @@
 pub mod Changes
 pub mod Contents
+pub mod Foreseen
 pub mod NextDelta
 pub mod NextReasons
 pub mod Submissions

@@ -2,11 +2,13 @@
 #![tactic(auto)]
 
 mod explaining;
+mod foreseen;
 mod ledger;
 mod next_delta;
 mod serial;
 mod unhashed;
 
+pub use foreseen::{Foreseen, foreseen_of};
 pub use ledger::Ledger;
-pub use next_delta::{delta_of, job_of, unhashed_of};
+pub use next_delta::{delta_of, foreseen_job, unhashed_of};
 pub use unhashed::Unhashed;

@@ -1,5 +1,6 @@
 //! What the next block of a ledger makes of it, as a delta.
-ghost use Rattle.std.specs.Prelude.{◌≡◌, ◌≤◌, length, IfOk};
+ghost use Rattle.std.specs.Prelude.{◌≡◌, ◌≤◌, List, length, IfOk};
+ghost use Rattle.intake.specs.declared.taking.Taken as as_taken;
 ghost use Rattle.block.specs.Limits.{max_txs};
 ghost use Rattle.rules.specs.Delta.{AreRealChanges, changes_in, definitions_in};
 ghost use Rattle.rules.specs.Fold as fold;
@@ -7,14 +8,16 @@ ghost use Rattle.rules.specs.Fold.{final_state, definitions_to};
 ghost use Rattle.rules.specs.State.{State, with_changes};
 ghost use Rattle.state_db.specs.Batch.{changed};
 ghost use Rattle.ledger.specs.Changes.{AddEntriesOf};
+ghost use Rattle.ledger.specs.Foreseen.{AreForeseenIn};
 ghost use Rattle.ledger.specs.NextDelta.{AreIdsOfTaken, IsDeltaOfJob, IsJobOfTaken};
 
+use crate::foreseen::{Foreseen, foreseen_of, with_marks};
 use crate::unhashed::{Place, Unhashed};
 use block_steps::{LinkedBlock, uses_of};
 use channel::Configuration;
 use effects::{Effects, effects_of};
 use header_hash::header_hash;
-use intake::{Taken, candidates_of, ids_of};
+use intake::{Taken, foreseen_candidates_are_the_definitions};
 use key_chains::Job;
 use rules::Flag;
 use state_db::Batch;
@@ -26,11 +29,38 @@ use world::{ReadyDelta, World};
 // how many bytes tell how long a transaction is
 const TX_COUNT: usize = 4;
 
-/// The job of the next block, of what was taken in of its transactions, and the id that each of them uses.
+/// The job of the next block, of what was foreseen of it, and the id that each of its transactions uses.
 ///
-/// One pass over its places, and then a sort of the keys that they write and a search for each that they write or read.
-/// Memory for lists of ids, marks and candidates, and for what the job has of their keys.
-pub fn job_of<'a>(
+/// One pass over its ids, and a search for the row of each key that it writes. Memory for lists of marks and rows; where an id is used,
+/// for what was foreseen once more.
+pub fn foreseen_job<'a>(
+    alloc: Global,
+    channel: &'a Configuration,
+    world: &'a World,
+    foreseen: Foreseen<'a>,
+) -> Result<(Job<'a>, Vec<Option<TxId>>), AllocError>
+    requires count { length foreseen.chained ≡ length foreseen.ids.items }
+    requires few { length foreseen.ids.items ≤ max_txs }
+    ensures job { IfOk result (λ r. (taken : List as_taken.Taken) → AreForeseenIn taken foreseen.entry → IsJobOfTaken channel.entry.now world.entry.now taken r.0) }
+    ensures ids { IfOk result (λ r. (taken : List as_taken.Taken) → AreForeseenIn taken foreseen.entry → AreIdsOfTaken channel.entry.now taken r.1.items) }
+{
+    foreseen_candidates_are_the_definitions();
+    let Foreseen { ids, chained } = foreseen;
+    let used = world.mark(alloc, ids.as_slice())?;
+    let chained = with_marks(alloc, chained, used.as_slice())?;
+    let job = Job::over(
+        alloc,
+        world.height(),
+        world.state(),
+        world.definitions(),
+        channel.admin(),
+        chained,
+    )?;
+    Ok((job, ids))
+}
+
+/// The same of what was taken in of it.
+pub(crate) fn job_of<'a>(
     alloc: Global,
     channel: &'a Configuration,
     world: &'a World,
@@ -40,18 +70,8 @@ pub fn job_of<'a>(
     ensures job { IfOk result (λ r. IsJobOfTaken channel.entry.now world.entry.now taken.entry.items r.0) }
     ensures ids { IfOk result (λ r. AreIdsOfTaken channel.entry.now taken.entry.items r.1.items) }
 {
-    let ids = ids_of(alloc, taken.as_slice())?;
-    let used = world.mark(alloc, ids.as_slice())?;
-    let candidates = candidates_of(alloc, taken, used.as_slice())?;
-    let job = Job::build(
-        alloc,
-        world.height(),
-        world.state(),
-        world.definitions(),
-        channel.admin(),
-        candidates,
-    )?;
-    Ok((job, ids))
+    let foreseen = foreseen_of(alloc, taken)?;
+    foreseen_job(alloc, channel, world, foreseen)
 }
 
 /// Where the transactions of a block begin in its bytes, of which there are so many. No clause speaks of it: what is looked for

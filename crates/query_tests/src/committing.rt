@@ -53,7 +53,7 @@ fn is_same(answer: &Result<Receipt, NotCommitted>, of_ledger: &Result<Accepted, 
     }
 }
 
-fn are_same(
+pub fn are_same(
     answers: &[Result<Receipt, NotCommitted>],
     of_ledger: &[Result<Accepted, Refused>],
 ) -> bool {

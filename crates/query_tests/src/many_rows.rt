@@ -2,10 +2,11 @@
 //! some. They are so long that each block's commit hash is made beside other work.
 
 use crate::blocks::{bound, name};
+use crate::committing::are_same;
 use crate::opening::{opened, submit_next};
 use crate::story::Story;
 use block::BlockVersion;
-use commit::{Committer, Flag, QueryHandle};
+use commit::{Accepted, Committer, Flag, QueryHandle, Refused};
 use failing::Failed;
 use gates::Open;
 use rules::KeyedRow;
@@ -196,5 +197,49 @@ fn is_so<R: Threads + Wait + Sync>(rt: &R, alloc: Global) -> Result<bool, Failed
 #[test]
 fn ranges_of_600_rows(rt: HostRuntime) -> Result<(), Failed> {
     assert!(rt; is_so(&rt, rt.alloc())?);
+    Ok(())
+}
+
+// The second block has the id of the first one.
+fn add_with_a_used_id(story: &mut Story) -> Result<(), Failed> {
+    add(story, "first", "write", ROWS, VALUE)?;
+    add(story, "first", "write", ROWS, VALUE)?;
+    add(story, "again", "write", ROWS, VALUE)?;
+    add(story, "last", "delete", DELETED, "")
+}
+
+fn is_used(answer: Option<&Result<Accepted, Refused>>) -> bool {
+    match answer {
+        Some(Ok(accepted)) => accepted.flags.as_slice() == [Flag::DuplicateTxId].as_slice(),
+        _ => false,
+    }
+}
+
+fn are_answered_as_by_ledger<R: Threads + Wait + Sync>(
+    rt: &R,
+    committer: &mut Committer,
+    story: &Story,
+) -> Result<bool, Failed> {
+    let answers = committer.run(rt, story.blocks_from(0), story.drafter.keys(), &Open)?;
+    Ok(are_same(answers.as_slice(), story.answers.as_slice()) && is_used(story.answers.get(1)))
+}
+
+fn is_foreseen_by<R: Threads + Wait + Sync>(rt: &R, story: &mut Story) -> Result<bool, Failed> {
+    add_with_a_used_id(story)?;
+    let (mut committer, _handles) = opened(rt, story.alloc, 2, 0)?;
+    let is_so = are_answered_as_by_ledger(rt, &mut committer, story);
+    committer.close(rt);
+    is_so
+}
+
+fn is_foreseen<R: Threads + Wait + Sync>(rt: &R, alloc: Global) -> Result<bool, Failed> {
+    let mut story = Story::open(alloc, 0)?;
+    is_foreseen_by(rt, &mut story)
+}
+
+// In one run each block is foreseen while the commit hash of the one before it is made.
+#[test]
+fn a_foreseen_block_has_a_used_id(rt: HostRuntime) -> Result<(), Failed> {
+    assert!(rt; is_foreseen(&rt, rt.alloc())?);
     Ok(())
 }

@@ -1,9 +1,6 @@
-use Rattle.std.proofs.Common.{sym, subst}
 use Rattle.std.proofs.lemmas.Result.{IfOk-at_ok}
-use Rattle.std.specs.Vec.Iter.{into_iter_items}
 use Rattle.intake_workers.specs.Pieces.{all_taken}
-use Rattle.commit.specs.Prepared.{Waits}
-use Rattle.commit.proofs.Waiting.{none_waits, all_wait}
+use Rattle.commit.proofs.Waiting.{none_ahead, none_prepared, all_wait}
 use Rattle.commit.proofs.prepared.take_in.Goals as goal
 
 pub returns-in-Ok-clause-ahead : goal.returns-in-Ok-clause-ahead
@@ -11,13 +8,10 @@ returns-in-Ok-clause-ahead g c blocks are =
     let channel = c.args.means.now.channel.now in
     let accepts = g.V.Verify.accepts c.args.means.now.verifier.now in
     let told = c.take_in_beside-taken_in.ensures in
-    rw (c.of.ensures.blocks, c.of.ensures.lists)
+    none_prepared channel accepts blocks c.of.result c.of.ensures.first
+    (rw (c.of.ensures.blocks, c.of.ensures.lists)
     (all_wait channel accepts blocks c.args.handed.items c.in-Ok.taken_in.blocks.items (all_taken c.in-Ok.taken_in.taken.items) are
-    (IfOk-at_ok _ c.in-Ok.is told.blocks) (IfOk-at_ok _ c.in-Ok.is told.taken))
+    (IfOk-at_ok _ c.in-Ok.is told.blocks) (IfOk-at_ok _ c.in-Ok.is told.taken)))
 
 pub returns-in-Err-clause-ahead : goal.returns-in-Err-clause-ahead
-returns-in-Err-clause-ahead g c blocks are =
-    let channel = c.args.means.now.channel.now in
-    let accepts = g.V.Verify.accepts c.args.means.now.verifier.now in
-    let taken = all_taken (into_iter_items c.none.result.lists) in
-    subst (λ waiting. Waits channel accepts blocks waiting taken) (sym c.none.ensures) (none_waits channel accepts blocks taken)
+returns-in-Err-clause-ahead g c blocks are = none_ahead c.args.means.now.channel.now (g.V.Verify.accepts c.args.means.now.verifier.now) blocks c.none.result c.none.ensures.first c.none.ensures.blocks

@@ -13,8 +13,8 @@ first_of : (channel : Configuration) (accepts : Accepts) (blocks : List (List �
 first_of channel accepts blocks i item ahead lt at waits =
     subst (λ (bs : List (List ℕ)). IsAhead channel accepts bs ahead) (drop_more blocks i item lt ∙ ap (λ (x : List ℕ). x ∷ drop (i + 1) blocks) (sym at)) waits
 
-pub commit_next-requires-clause-waits : goal.commit_next-requires-clause-waits
-commit_next-requires-clause-waits g c κs within w =
+pub commit_next-answer-requires-clause-waits : goal.commit_next-answer-requires-clause-waits
+commit_next-answer-requires-clause-waits g c κs within w =
     let channel = c.args.means.now.channel.now in
     let accepts = g.V.Verify.accepts c.args.means.now.verifier.now in
     let waits = first_of channel accepts c.args.blocks.now c.loop-bytes.bytes-index c.bytes-item.result c.loop-bytes.ahead (omega (arith, c.loop-bytes-test.true)) c.bytes-item.is c.loop-bytes.invariant.ahead in
@@ -32,12 +32,12 @@ loop-bytes-preserved g c =
     let lt = c.loop-bytes-test.true in
     let waits = first_of channel accepts blocks i item c.loop-bytes.ahead (omega (arith, lt)) c.bytes-item.is before.ahead in
     record {
-      runs = λ old earlier so_far. Runs-more accepts old (committing channel c.loop-bytes.published) (committing channel c.commit_next.new.published) earlier blocks i item c.loop-bytes.answers.items c.push_reserved.new.self.items c.commit_next.result
+      runs = λ old earlier so_far. Runs-more accepts old (committing channel c.loop-bytes.published) (committing channel c.commit_next-answer.new.published) earlier blocks i item c.loop-bytes.answers.items c.push_reserved.new.self.items c.commit_next-answer.result
           (omega (arith, lt)) c.bytes-item.is (before.runs old earlier so_far)
-          (subst (λ (b : List ℕ). SubmitsTo channel accepts c.loop-bytes.published b c.commit_next.result c.commit_next.new.published) c.as_slice.ensures c.commit_next.ensures.submits)
+          (subst (λ (b : List ℕ). SubmitsTo channel accepts c.loop-bytes.published b c.commit_next-answer.result c.commit_next-answer.new.published) c.as_slice.ensures c.commit_next-answer.ensures.submits)
           c.push_reserved.ensures.items;
-      ahead = c.next-next.ensures.behind channel accepts item (drop (i + 1) blocks) waits;
+      ahead = c.commit_next-answer.ensures.ahead channel accepts (drop (i + 1) blocks) (c.next-next.ensures.behind channel accepts item (drop (i + 1) blocks) waits);
       count = omega (arith, before.count, c.push_reserved.ensures.len);
       room = omega (arith, before.room, c.push_reserved.ensures.capacity);
-      belongs = c.commit_next.ensures.belongs;
+      belongs = c.commit_next-answer.ensures.belongs;
     }

@@ -1,22 +1,11 @@
-use Rattle.std.proofs.Common.{sym, subst}
-use Rattle.std.specs.Vec.Iter.{into_iter_items}
-use Rattle.block_steps.specs.OnItsWay.{IsDecoded}
-use Rattle.intake_workers.specs.Made.{block_in}
-use Rattle.intake_workers.specs.Pieces.{all_taken}
-use Rattle.commit.specs.Prepared.{Waits}
-use Rattle.commit.proofs.Waiting.{none_waits, taken_out}
+use Rattle.std.proofs.Common.{◌≡◌, ◌∷◌, Option, Result, Some, sym, subst, ◌∙◌}
+use Rattle.rules.specs.declared.answer.Refused.{Refused}
+use Rattle.commit.specs.declared.prepared.Prepared.{Prepared}
+use Rattle.commit.specs.Prepared.{IsAheadBy}
 use Rattle.commit.proofs.prepared.Ahead.next.Goals as goal
 
-pub returns-in_default-clause-behind : goal.returns-in_default-clause-behind
-returns-in_default-clause-behind c channel accepts bytes blocks ahead =
-    subst (λ waiting. Waits channel accepts blocks waiting (all_taken (into_iter_items c.stop.new.self.lists))) (sym c.stop.ensures.none) (none_waits channel accepts blocks _)
-
-pub returns-in_default-next_taken-clause-behind : goal.returns-in_default-next_taken-clause-behind
-returns-in_default-next_taken-clause-behind c channel accepts bytes blocks ahead =
-    let ended = c.stop-in_default-next_taken in
-    subst (λ waiting. Waits channel accepts blocks waiting (all_taken (into_iter_items ended.new.self.lists))) (sym ended.ensures.none) (none_waits channel accepts blocks _)
-
-pub returns-in-Err-clause-next : goal.returns-in-Err-clause-next
-returns-in-Err-clause-next c channel accepts bytes blocks ahead w =
-    let here = taken_out channel accepts bytes blocks c.in-Some.next _ _ _ c.in-Some.ensures.items ahead in
-    subst (λ r. IsDecoded bytes (block_in r)) c.in-Err.is here.0 w
+pub returns-in-Some-clause-next : goal.returns-in-Some-clause-next
+returns-in-Some-clause-next c channel accepts bytes blocks ahead w =
+    let old = c.args.self.now in
+    let is : old.first ≡ Some c.in-Some.first = sym c.take.ensures.value ∙ c.in-Some.is in
+    (subst (λ (next : Option (Result Prepared Refused)). IsAheadBy channel accepts next (bytes ∷ blocks) old.waiting) is ahead).0 w
