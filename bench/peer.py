@@ -18,6 +18,7 @@ Each transaction has two endorsements, which its policy asks for; values are of 
 - `history`: 100 blocks of 500 transactions, all of which write the same 10 keys.
 - `ranges`: 20 blocks of 500 transactions that read a range of 10 keys and write a key elsewhere.
 - `policies`: 20 blocks of 500 transactions that write two keys with policies of their own.
+- `writes`: 40 blocks of 500 transactions that write eight of 20,000 keys, so that the thread that commits sets the pace.
 - `written`: a block whose first 2,048 transactions write one key, which 2,048 behind them read.
 - `overruled`: the same where no writer is valid, so that each reader passes all of them.
 
@@ -551,6 +552,12 @@ def policies(blocks, count, size):
         blocks.add([blocks.tx(writes=[draw(), draw()]) for _ in range(size)])
 
 
+def writes(blocks, count, size):
+    blocks.fill()
+    for _ in range(count):
+        blocks.add([blocks.tx(writes=[key(blocks.random.randrange(blocks.state)) for _ in range(8)]) for _ in range(size)])
+
+
 def written(blocks, size):
     blocks.fill()
     last = (key(0), (blocks.number, size - 1))
@@ -576,6 +583,7 @@ WORKLOADS = {
     "history": (10, history, 100, 500),
     "ranges": (2000, ranges, 20, 500),
     "policies": (2000, policies, 20, 500),
+    "writes": (20_000, writes, 40, 500),
     "written": (10, written, 2048),
     "overruled": (10, overruled, 2048),
 }

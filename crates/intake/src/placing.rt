@@ -1,5 +1,5 @@
 //! What the items of a block are, once it is known how many it has, and then whose ids are used.
-ghost use Rattle.std.specs.Prelude.{◌≡◌, ◌==◌, ◌≤◌, ℕ, Bool, List, [], Option, length, map, false, IfOk, if◌then◌else◌};
+ghost use Rattle.std.specs.Prelude.{◌≡◌, ◌==◌, ◌≤◌, ℕ, List, [], Option, length, map, IfOk, if◌then◌else◌};
 ghost use Rattle.transaction.specs.declared.item.Item.{Item};
 ghost use Rattle.policy_eval.specs.Accepts.{Accepts};
 ghost use Rattle.channel.specs.Configuration.{Configuration};
@@ -10,7 +10,7 @@ ghost use Rattle.txid_index.specs.Marks.{marks};
 ghost use Rattle.candidates.specs.Seen.{seen};
 ghost use Rattle.intake.specs.declared.taking.Taken as as_taken;
 ghost use Rattle.intake.specs.Place.{taken_of, shown};
-ghost use Rattle.intake.specs.Placed.{beside, placed};
+ghost use Rattle.intake.specs.Placed.{beside};
 ghost use Rattle.intake.specs.Foreseen.{AreForeseen, mark, marked};
 
 use crate::taking::Taken;

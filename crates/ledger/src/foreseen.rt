@@ -1,5 +1,5 @@
 //! What of a block's job needs no world.
-ghost use Rattle.std.specs.Prelude.{◌≡◌, ◌==◌, ◌<◌, ◌^◌, true, length, map, IfOk};
+ghost use Rattle.std.specs.Prelude.{◌≡◌, ◌<◌, ◌^◌, length, IfOk};
 ghost use Rattle.std.specs.List.{list_any};
 ghost use Rattle.intake.specs.Foreseen.{marked};
 ghost use Rattle.ledger.specs.Foreseen.{AreForeseenIn};
