@@ -237,7 +237,7 @@ fn is_foreseen<R: Threads + Wait + Sync>(rt: &R, alloc: Global) -> Result<bool, 
     is_foreseen_by(rt, &mut story)
 }
 
-// In one run each block is foreseen while the commit hash of the one before it is made.
+// In this run the second block is foreseen while the commit hash of the first, whose id it has, is made.
 #[test]
 fn a_foreseen_block_has_a_used_id(rt: HostRuntime) -> Result<(), Failed> {
     assert!(rt; is_foreseen(&rt, rt.alloc())?);
