@@ -1,5 +1,5 @@
 -- The changes to the rows that the state after a block has.
-use Rattle.std.proofs.Common.{◌≡◌, ◌⊎◌, ⊎_elim, ℕ, zero, suc, ◌<◌, Bool, true, false, cond, ◌||◌, ◌&&◌, List, [], ◌∷◌, ◌++◌, map, length, get_or, Option, Some, None, refl, sym, ap, subst, ◌∙◌, arith}
+use Rattle.std.proofs.Common.{◌≡◌, ℕ, zero, suc, ◌<◌, Bool, true, false, cond, ◌||◌, ◌&&◌, List, [], ◌∷◌, ◌++◌, map, length, get_or, Option, Some, None, refl, sym, ap, subst, ◌∙◌, arith}
 use Rattle.std.specs.Prelude.{unwrap_or, slice_get, flat_map}
 use Rattle.std.specs.FinMap.{get, same_map}
 use Rattle.std.specs.List.{zip, list_all, AllByRecursion}
@@ -45,7 +45,7 @@ changed_rise (k ∷ ks) [] h = tt
 changed_rise (k ∷ ks) (None ∷ rows) h = changed_rise ks rows h.1
 changed_rise (k ∷ ks) (Some row ∷ rows) h = (changed_above (λ y. key_cmp k y ≡ Less) ks rows h.0, changed_rise ks rows h.1)
 
-changes-cons : (k : StateKey) (ks : List StateKey) (row : Option (Option Row)) (rows : List (Option (Option Row))) → changes_at (k ∷ ks) (row ∷ rows) ≡ change_at k row ++ changes_at ks rows
+pub changes-cons : (k : StateKey) (ks : List StateKey) (row : Option (Option Row)) (rows : List (Option (Option Row))) → changes_at (k ∷ ks) (row ∷ rows) ≡ change_at k row ++ changes_at ks rows
 changes-cons k ks row rows = flat_map-cons (λ p. change_at p.1 p.0) (row, k) (zip rows ks)
 
 no_keys : (rows : List (Option (Option Row))) → changes_at [] rows ≡ []
@@ -136,9 +136,3 @@ changes_make keep j rows many h =
     by : (q : StateKey) (b : Bool) → is_among q (changed (keys_of j) rows) ≡ b → cond b (get (final_state j) q) (get j.state q) ≡ get (final_state j) q
     by q true e = refl
     by q false e = left q e (is_among q (keys_of j)) refl
-
--- where rows or keys are at their end, no change is left
-pub no_change_left : (ks : List StateKey) (rows : List (Option (Option Row))) → (length rows ≡ 0) ⊎ (length ks ≡ 0) → changes_at ks rows ≡ []
-no_change_left [] rows h = no_keys rows
-no_change_left (k ∷ ks) [] h = refl
-no_change_left (k ∷ ks) (row ∷ rows) h = absurd (⊎_elim (λ n. omega (arith, n)) (λ n. omega (arith, n)) h)

@@ -13,7 +13,7 @@ use crate::keeping::Keeping;
 use crate::writing::write_block;
 use candidates::keys_have_one_order;
 use key_chains::Job;
-use rules::{Change, Flag, NewDefinition, NewEntry};
+use rules::{Change, Flag, KeptEntry, NewDefinition};
 use std::alloc::{AllocError, Global};
 use values::{Bytes, Shared};
 
@@ -25,7 +25,7 @@ pub struct Effects {
     pub changes: Vec<Change>,
     /// One for each value write or delete of a valid transaction: transaction by transaction, and in each in the keys'
     /// order.
-    pub entries: Vec<Shared<NewEntry>>,
+    pub entries: Vec<KeptEntry>,
     /// One for each valid update, in their order.
     pub definitions: Vec<NewDefinition>,
 }

@@ -1,39 +1,40 @@
 //! The changes of the state to the rows that a block leaves.
 ghost use Rattle.std.specs.Prelude.{◌≡◌, ◌++◌, IfOk, OnOk};
 ghost use Rattle.rules.specs.Delta.{change_of, changes_in};
-ghost use Rattle.effects.specs.Rows.{change_at, changes_at};
+ghost use Rattle.effects.specs.Rows.{change_to, kept_change_at, kept_changes_at};
 
 use crate::keeping::Keeping;
 use crate::writing::WrittenRow;
-use block_steps::change_to;
 use candidates::StateKey;
-use rules::{Change, Row};
+use rules::{Change, KeyedRow};
 use std::alloc::{AllocError, Global};
+use values::Shared;
 
 fn key_change(
-    alloc: Global,
     keeping: &Keeping<'_>,
     number: u32,
     key: &StateKey<'_>,
-    row: Option<Row>,
+    row: Option<Shared<KeyedRow>>,
 ) -> Result<Change, AllocError>
-    ensures { IfOk result (λ c. change_of c ≡ (key.now, row)) }
+    ensures { IfOk result (λ c. change_of c ≡ change_to key.now row) }
 {
-    change_to(alloc, keeping.key(number, key)?, row)
+    match row {
+        Some(row) => Ok(Change::Put(row)),
+        None => Ok(Change::Remove(keeping.key(number, key)?)),
+    }
 }
 
 fn add_change(
-    alloc: Global,
     keeping: &Keeping<'_>,
     changes: &mut Vec<Change>,
     number: u32,
     key: &StateKey<'_>,
     written: WrittenRow,
 ) -> Result<(), AllocError>
-    ensures { OnOk result (changes_in changes.new.items ≡ changes_in changes.old.items ++ change_at key.now written) }
+    ensures { OnOk result (changes_in changes.new.items ≡ changes_in changes.old.items ++ kept_change_at key.now written) }
 {
     if let Some(row) = written {
-        changes.push(key_change(alloc, keeping, number, key, row)?)?;
+        changes.push(key_change(keeping, number, key, row)?)?;
     }
     Ok(())
 }
@@ -45,12 +46,12 @@ pub(crate) fn changes_to_rows(
     keys: &[StateKey<'_>],
     rows: Vec<WrittenRow>,
 ) -> Result<Vec<Change>, AllocError>
-    ensures { IfOk result (λ changes. changes_in changes.items ≡ changes_at keys.now rows.items) }
+    ensures { IfOk result (λ changes. changes_in changes.items ≡ kept_changes_at keys.now rows.items) }
 {
-    let mut changes = Vec::new(alloc);
+    let mut changes = Vec::with_capacity(alloc, keys.len())?;
     let mut number = 0u32;
     for (row, key) in rows.into_iter().zip(keys) {
-        add_change(alloc, keeping, &mut changes, number, key, row)?;
+        add_change(keeping, &mut changes, number, key, row)?;
         number = number.wrapping_add(1);
     }
     Ok(changes)

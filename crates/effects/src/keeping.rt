@@ -2,9 +2,13 @@
 ghost use Rattle.std.specs.Prelude.{◌≡◌, IfOk};
 
 use candidates::{Spots, StateKey, WrittenKey, WrittenValue};
-use rules::KeptKey;
+use rules::{KeptId, KeptKey};
 use std::alloc::{AllocError, Global};
+use transaction::Tx;
 use values::{Bytes, Part, Shared};
+
+// how many bytes tell how long the channel's name is, behind which the id stands
+const NAME_COUNT: usize = 1;
 
 /// The bytes of a block, where its transactions may begin there, and where each of its keys may stand, as it was written last.
 #[derive(Drop)]
@@ -41,6 +45,19 @@ impl<'k> Keeping<'k> {
             None => 0,
             Some(start) => *start,
         }
+    }
+
+    /// The id of candidate i, to be kept. Takes memory where it isn't found.
+    pub fn id(&self, i: u32, tx: &Tx<'_>) -> Result<KeptId, AllocError>
+        ensures { IfOk result (λ kept. kept ≡ tx.now.id) }
+    {
+        let place = NAME_COUNT.wrapping_add(tx.channel.len());
+        KeptId::kept(
+            self.alloc,
+            self.bytes,
+            self.start_of(i).wrapping_add(place),
+            &tx.id,
+        )
     }
 
     /// Notes where candidate i writes a key, which has this number: where it writes a value, for else there is no row, or one with

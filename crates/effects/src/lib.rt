@@ -6,6 +6,7 @@ mod block_effects;
 mod changes;
 mod defining;
 mod keeping;
+mod left;
 mod writing;
 mod written_row;
 

@@ -1,51 +1,53 @@
 //! What a block writes, transaction by transaction: the rows of its keys, and the history entries.
-ghost use Rattle.std.specs.Prelude.{◌≡◌, ◌<◌, ◌+◌, ◌++◌, ℕ, None, Some, length, replicate, IfOk, OnOk, unwrap_or, slice_get};
+ghost use Rattle.std.specs.Prelude.{◌≡◌, ◌<◌, ◌+◌, ◌++◌, ℕ, Option, None, Some, length, replicate, IfOk, OnOk, option_map, option_to_list, unwrap_or, slice_get};
 ghost use Rattle.std.specs.Option.{option_copied};
 ghost use Rattle.std.specs.List.Sorted.{IsStrictlySortedBy};
-ghost use Rattle.rules.specs.State.{State, key_cmp};
+ghost use Rattle.rules.specs.declared.row.Row as as_row;
+ghost use Rattle.rules.specs.State.{StateKey, State, key_cmp};
 ghost use Rattle.rules.specs.Delta.{entries_in};
 ghost use Rattle.rules.specs.Job.{version_of};
 ghost use Rattle.rules.specs.Fold as fold;
 ghost use Rattle.rules.specs.Fold.{running, final_state};
 ghost use Rattle.key_chains.specs.Job.{IsOpened, keys_of};
-ghost use Rattle.effects.specs.Entries.{entry_at, entry_written, entries_written, MakeHistory};
-ghost use Rattle.effects.specs.Rows.{ShowRows, AreRealRows, change_of_row};
+ghost use Rattle.effects.specs.Entries.{entry_written, entries_written, MakeHistory};
+ghost use Rattle.effects.specs.Rows.{ShowRows, AreRealRows, HaveKeys, change_of_row, row_in, rows_in};
 ghost use Rattle.effects.specs.WrittenRow.{with_write, with_writes};
 
 use crate::keeping::Keeping;
-use crate::written_row::row_after;
-use block_steps::new_entry;
-use candidates::{OpenTx, StateKey, WrittenKey, keys_have_one_order};
+use crate::left::{Left, left_by};
+use candidates::{OpenTx, WrittenKey, keys_have_one_order};
 use key_chains::Job;
-use rules::{Flag, NewEntry, Row};
+use rules::{Flag, KeptEntry, KeptId, KeyedRow, Row};
 use std::alloc::{AllocError, Global};
-use transaction::{TxId, Version};
-use values::{Part, Shared};
+use transaction::Version;
+use values::Shared;
 
 /// What the valid transactions so far made of a key's row, `Some(None)` where they removed it; `None` where none of them wrote
 /// the key, or where it has no row now as before the block.
-pub(crate) type WrittenRow = Option<Option<Row>>;
+pub(crate) type WrittenRow = Option<Option<Shared<KeyedRow>>>;
 
 /// What the valid transactions of a block write.
 #[derive(Drop)]
 pub(crate) struct Written {
     /// Those of the keys that the block writes, each at its key's place.
     pub(crate) rows: Vec<WrittenRow>,
-    pub(crate) entries: Vec<Shared<NewEntry>>,
+    pub(crate) entries: Vec<KeptEntry>,
 }
 
 fn row_now<'r>(written: &'r WrittenRow, before: Option<&'r Row>) -> Option<&'r Row>
-    ensures { option_copied result ≡ unwrap_or written.now (option_copied before.entry) }
+    ensures { option_copied result ≡ unwrap_or (row_in written.now) (option_copied before.entry) }
 {
     match written {
-        Some(row) => row.as_ref(),
+        Some(Some(row)) => Some(row.get().row()),
+        Some(None) => None,
         None => before,
     }
 }
 
 /// What a row is to the one before the block: no change, where there is none and was none.
-fn change_of_row(before: Option<&Row>, row: Option<Row>) -> WrittenRow
-    ensures { result ≡ change_of_row (option_copied before.entry) row }
+fn change_of_row(before: Option<&Row>, row: Option<Shared<KeyedRow>>) -> WrittenRow
+    ensures row { row_in result ≡ change_of_row (option_copied before.entry) (option_map (λ p. p.1) row) }
+    ensures kept { (x : Option (StateKey × Row)) → result ≡ Some x → x ≡ row }
 {
     match (before, &row) {
         (None, None) => None,
@@ -53,37 +55,12 @@ fn change_of_row(before: Option<&Row>, row: Option<Row>) -> WrittenRow
     }
 }
 
-/// What is written at the value of the key of this number, kept once for the row and the history.
-fn new_value(
-    keeping: &Keeping<'_>,
-    number: u32,
-    written: &WrittenKey<'_>,
-) -> Result<Option<Option<Part>>, AllocError>
-    ensures { IfOk result (λ value. value ≡ written.now.value) }
+/// Adds the entry, if there is one.
+fn add_entry(entries: &mut Vec<KeptEntry>, entry: Option<KeptEntry>) -> Result<(), AllocError>
+    ensures { OnOk result (entries_in entries.new.items ≡ entries_in entries.old.items ++ entries_in (option_to_list entry)) }
 {
-    match &written.value {
-        None => Ok(None),
-        Some(None) => Ok(Some(None)),
-        Some(Some(value)) => Ok(Some(Some(keeping.value(number, value)?))),
-    }
-}
-
-/// Adds the history entry of the key of this number, where its value is written.
-fn add_entry(
-    alloc: Global,
-    keeping: &Keeping<'_>,
-    entries: &mut Vec<Shared<NewEntry>>,
-    version: Version,
-    id: TxId,
-    number: u32,
-    key: &StateKey<'_>,
-    value: Option<Option<Part>>,
-) -> Result<(), AllocError>
-    ensures { OnOk result (entries_in entries.new.items ≡ entries_in entries.old.items ++ entry_at version id key.now value) }
-{
-    if let Some(value) = value {
-        let key = keeping.key(number, key)?;
-        entries.push(new_entry(alloc, version, id, key, value)?)?;
+    if let Some(entry) = entry {
+        entries.push(entry)?;
     }
     Ok(())
 }
@@ -93,37 +70,29 @@ fn write_one(
     alloc: Global,
     keeping: &mut Keeping<'_>,
     rows: &mut Vec<WrittenRow>,
-    entries: &mut Vec<Shared<NewEntry>>,
+    entries: &mut Vec<KeptEntry>,
     job: &Job<'_>,
     version: Version,
-    id: TxId,
+    id: &KeptId,
     number: u32,
     written: &WrittenKey<'_>,
 ) -> Result<(), AllocError>
     requires rising { IsStrictlySortedBy key_cmp (keys_of job.now) }
     requires place { slice_get (keys_of job.now) number ≡ Some written.now.key }
     requires count { length rows.old.items ≡ length (keys_of job.now) }
-    ensures rows { OnOk result ((s : State) → ShowRows job.now rows.old.items s → ShowRows job.now rows.new.items (with_write version s written.now)) }
-    ensures real { OnOk result (AreRealRows job.now rows.old.items → AreRealRows job.now rows.new.items) }
+    ensures rows { OnOk result ((s : State) → ShowRows job.now (rows_in rows.old.items) s → ShowRows job.now (rows_in rows.new.items) (with_write version s written.now)) }
+    ensures real { OnOk result (AreRealRows job.now (rows_in rows.old.items) → AreRealRows job.now (rows_in rows.new.items)) }
+    ensures keys { OnOk result (HaveKeys (keys_of job.now) rows.old.items → HaveKeys (keys_of job.now) rows.new.items) }
     ensures count { OnOk result (length rows.new.items ≡ length rows.old.items) }
-    ensures entries { OnOk result (entries_in entries.new.items ≡ entries_in entries.old.items ++ entry_written version id written.now) }
+    ensures entries { OnOk result (entries_in entries.new.items ≡ entries_in entries.old.items ++ entry_written version id.now written.now) }
 {
     keeping.note(version.tx, number, written);
-    let value = new_value(keeping, number, written)?;
     let before = job.row_of(number);
     let now = row_now(&rows[number as usize], before);
-    let row = row_after(version, &value, &written.policy, now)?;
+    let left = left_by(alloc, keeping, version, id, number, written, now)?;
+    let Left { row, entry } = left;
     rows[number as usize] = change_of_row(before, row);
-    add_entry(
-        alloc,
-        keeping,
-        entries,
-        version,
-        id,
-        number,
-        &written.key,
-        value,
-    )?;
+    add_entry(entries, entry)?;
     Ok(())
 }
 
@@ -132,7 +101,7 @@ fn write_all(
     alloc: Global,
     keeping: &mut Keeping<'_>,
     rows: &mut Vec<WrittenRow>,
-    entries: &mut Vec<Shared<NewEntry>>,
+    entries: &mut Vec<KeptEntry>,
     job: &Job<'_>,
     i: u32,
     open_tx: &OpenTx<'_>,
@@ -140,8 +109,9 @@ fn write_all(
     requires rising { IsStrictlySortedBy key_cmp (keys_of job.now) }
     requires opened { IsOpened job.now i open_tx.now }
     requires count { length rows.old.items ≡ length (keys_of job.now) }
-    ensures rows { OnOk result ((s : State) → ShowRows job.now rows.old.items s → ShowRows job.now rows.new.items (with_writes (version_of job.now i) s open_tx.now.written.items)) }
-    ensures real { OnOk result (AreRealRows job.now rows.old.items → AreRealRows job.now rows.new.items) }
+    ensures rows { OnOk result ((s : State) → ShowRows job.now (rows_in rows.old.items) s → ShowRows job.now (rows_in rows.new.items) (with_writes (version_of job.now i) s open_tx.now.written.items)) }
+    ensures real { OnOk result (AreRealRows job.now (rows_in rows.old.items) → AreRealRows job.now (rows_in rows.new.items)) }
+    ensures keys { OnOk result (HaveKeys (keys_of job.now) rows.old.items → HaveKeys (keys_of job.now) rows.new.items) }
     ensures count { OnOk result (length rows.new.items ≡ length rows.old.items) }
     ensures entries { OnOk result (entries_in entries.new.items ≡ entries_in entries.old.items ++ entries_written (version_of job.now i) open_tx.now.tx.id open_tx.now.written.items) }
 {
@@ -149,6 +119,7 @@ fn write_all(
         block: job.number(),
         tx: i,
     };
+    let id = keeping.id(i, &open_tx.tx)?;
     for (place, written) in open_tx.written.as_slice().iter().enumerate() {
         let number = job.key_number_of(i, place);
         write_one(
@@ -158,7 +129,7 @@ fn write_all(
             entries,
             job,
             version,
-            open_tx.tx.id,
+            &id,
             number,
             written,
         )?;
@@ -171,7 +142,7 @@ fn take(
     alloc: Global,
     keeping: &mut Keeping<'_>,
     rows: &mut Vec<WrittenRow>,
-    entries: &mut Vec<Shared<NewEntry>>,
+    entries: &mut Vec<KeptEntry>,
     job: &Job<'_>,
     i: u32,
     flag: Flag,
@@ -179,8 +150,9 @@ fn take(
     requires place { i < length job.now.candidates }
     requires flag { flag ≡ fold.flag job.now i }
     requires count { length rows.old.items ≡ length (keys_of job.now) }
-    ensures rows { OnOk result (ShowRows job.now rows.old.items (running job.now i).state → ShowRows job.now rows.new.items (running job.now (i + 1)).state) }
-    ensures real { OnOk result (AreRealRows job.now rows.old.items → AreRealRows job.now rows.new.items) }
+    ensures rows { OnOk result (ShowRows job.now (rows_in rows.old.items) (running job.now i).state → ShowRows job.now (rows_in rows.new.items) (running job.now (i + 1)).state) }
+    ensures real { OnOk result (AreRealRows job.now (rows_in rows.old.items) → AreRealRows job.now (rows_in rows.new.items)) }
+    ensures keys { OnOk result (HaveKeys (keys_of job.now) rows.old.items → HaveKeys (keys_of job.now) rows.new.items) }
     ensures count { OnOk result (length rows.new.items ≡ length rows.old.items) }
     ensures entries { OnOk result (MakeHistory job.now entries.old.items i → MakeHistory job.now entries.new.items (i + 1)) }
 {
@@ -214,13 +186,15 @@ pub(crate) fn write_block(
     flags: &[Flag],
 ) -> Result<Written, AllocError>
     requires { flags.now ≡ fold.flags job.now }
-    ensures rows { IfOk result (λ w. ShowRows job.now w.rows.items (final_state job.now)) }
-    ensures real { IfOk result (λ w. AreRealRows job.now w.rows.items) }
+    ensures rows { IfOk result (λ w. ShowRows job.now (rows_in w.rows.items) (final_state job.now)) }
+    ensures real { IfOk result (λ w. AreRealRows job.now (rows_in w.rows.items)) }
+    ensures keys { IfOk result (λ w. HaveKeys (keys_of job.now) w.rows.items) }
     ensures count { IfOk result (λ w. length w.rows.items ≡ length (keys_of job.now)) }
     ensures entries { IfOk result (λ w. MakeHistory job.now w.entries.items (length job.now.candidates)) }
 {
-    let mut rows = unwritten(alloc, job.keys().len())?;
-    let mut entries = Vec::new(alloc);
+    let count = job.keys().len();
+    let mut rows = unwritten(alloc, count)?;
+    let mut entries = Vec::with_capacity(alloc, count)?;
     for i in 0..job.len() {
         take(
             alloc,

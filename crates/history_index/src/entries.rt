@@ -1,5 +1,5 @@
 use crate::log::{Logged, newest_of};
-use rules::HistoryEntry;
+use rules::KeptEntry;
 use std::marker::Model;
 use values::{KeyRef, NameRef};
 
@@ -28,20 +28,20 @@ impl<'a> Model for Entries<'a> {
 impl<'a> Iterator for Entries<'a> {
     ghost use Rattle.std.specs.Iterator.{YieldsFirstBy, item_count};
 
-    type Item = &'a HistoryEntry;
+    type Item = &'a KeptEntry;
 
-    ghost next_gives = { YieldsFirstBy (λ e. e.now) (λ left. left) };
+    ghost next_gives = { YieldsFirstBy (λ e. e.now.entry) (λ left. left) };
 
     ghost remaining = { item_count (λ left. left) };
 
-    fn next(&mut self) -> Option<&'a HistoryEntry> {
+    fn next(&mut self) -> Option<&'a KeptEntry> {
         let place = newest_of(self.log, self.place, &self.namespace, &self.key);
         if place == 0 {
             self.place = 0;
             return None;
         }
         let logged = &self.log[place - 1];
-        self.place = logged.older;
-        Some(&logged.entry.get().entry)
+        self.place = logged.older as usize;
+        Some(&logged.entry)
     }
 }

@@ -4,12 +4,15 @@ ghost use Rattle.history_index.specs.Hash.{key_hash};
 use std::hash::{FoldHasher, Hasher};
 use values::{KeyRef, NameRef};
 
+// so many hashes there are
+const HASHES: u64 = 1 << 32;
+
 /// By which entries are found.
-pub(crate) fn key_hash(namespace: &NameRef<'_>, key: &KeyRef<'_>) -> u64
+pub(crate) fn key_hash(namespace: &NameRef<'_>, key: &KeyRef<'_>) -> u32
     ensures { result ≡ key_hash (namespace.now, key.now) }
 {
     let mut hasher = FoldHasher::default();
     hasher.write(namespace.as_slice());
     hasher.write(key.as_slice());
-    hasher.finish()
+    (hasher.finish() % HASHES) as u32
 }

@@ -2,22 +2,21 @@ ghost use Rattle.std.specs.Prelude.{◌≡◌, ◌≤◌};
 ghost use Rattle.rules.specs.State.{is_same_key};
 ghost use Rattle.history_index.specs.Links.{key_of, entries_before, AreLinked, IsChain, IsPlace};
 
-use rules::NewEntry;
-use values::{KeyRef, NameRef, Shared};
+use rules::KeptEntry;
+use values::{KeyRef, NameRef};
 
 /// An entry, and the place of the last one before it whose key has the same hash. Places count from 1, 0 is none.
 #[derive(Drop)]
 pub(crate) struct Logged {
-    pub entry: Shared<NewEntry>,
-    pub older: usize,
+    pub entry: KeptEntry,
+    pub older: u32,
 }
 
 impl Logged {
     fn is_of(&self, namespace: &NameRef<'_>, key: &KeyRef<'_>) -> bool
         ensures { result ≡ is_same_key (namespace.now, key.now) (key_of self.now) }
     {
-        let entry = self.entry.get();
-        namespace.is_same(&entry.key.namespace()) && key.is_same(&entry.key.key())
+        namespace.is_same(&self.entry.namespace()) && key.is_same(&self.entry.key())
     }
 }
 
@@ -40,7 +39,7 @@ pub(crate) fn newest_of(
         if logged.is_of(namespace, key) {
             return place;
         }
-        place = logged.older;
+        place = logged.older as usize;
     }
     0
 }

@@ -20,7 +20,7 @@ impl Question for HistoryOf {
         world: &World,
     ) -> Result<(), Fault<'a>> {
         for entry in world.history(&self.0.namespace.lend(), &self.0.key.lend()) {
-            write_entry(out, entry)?;
+            write_entry(out, &entry.entry()?)?;
         }
         Ok(())
     }

@@ -202,15 +202,20 @@ fn shared(alloc: Global, bytes: &[u8]) -> Result<Shared<Bytes>, AllocError> {
     Shared::new(alloc, bytes)
 }
 
-fn is_history(world: &World, namespace: &Name, at: &Key, wanted: &[&HistoryEntry]) -> bool {
+fn is_history(
+    world: &World,
+    namespace: &Name,
+    at: &Key,
+    wanted: &[&HistoryEntry],
+) -> Result<bool, AllocError> {
     let mut left = wanted.iter();
     for entry in world.history(&namespace.lend(), &at.lend()) {
         match left.next() {
-            Some(other) if is_same_entry(entry, other) => {}
-            _ => return false,
+            Some(other) if is_same_entry(&entry.entry()?, other) => {}
+            _ => return Ok(false),
         }
     }
-    left.next().is_none()
+    Ok(left.next().is_none())
 }
 
 impl Pair {
@@ -344,7 +349,7 @@ impl Pair {
         at: &Key,
     ) -> Result<bool, AllocError> {
         let wanted = self.plain.world.history(alloc, namespace, at)?;
-        Ok(is_history(self.world(), namespace, at, &wanted))
+        is_history(self.world(), namespace, at, &wanted)
     }
 
     // Whether the row and the history are the same.

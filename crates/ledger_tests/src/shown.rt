@@ -115,7 +115,7 @@ fn show_history(shown: &mut Vec<u8>, world: &World, left: &Left) -> Result<(), F
     let namespace = lent_name(left.namespace)?;
     let at = lent_key(left.key)?;
     for entry in world.history(&namespace, &at) {
-        show_entry(shown, entry)?;
+        show_entry(shown, &entry.entry()?)?;
     }
     Ok(())
 }

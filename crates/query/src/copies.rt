@@ -6,7 +6,7 @@ use block_steps::share_policy;
 use history_index::Entries;
 use rules::{CommittedBlock, HistoryEntry, KeyedRow, Row};
 use std::alloc::{AllocError, Global};
-use values::{Items, Part};
+use values::Items;
 
 fn copied_row(keyed: &KeyedRow) -> Result<KeyedRow, AllocError>
     ensures { IfOk result (λ copied. copied ≡ keyed.now) }
@@ -31,25 +31,6 @@ pub(crate) fn copied_rows(alloc: Global, rows: &[&KeyedRow]) -> Result<Items<Key
     Ok(Items::from_vec(copied))
 }
 
-fn share_value(value: &Option<Part>) -> Result<Option<Part>, AllocError>
-    ensures { IfOk result (λ shared. shared ≡ value.now) }
-{
-    match value {
-        None => Ok(None),
-        Some(value) => Ok(Some(value.share()?)),
-    }
-}
-
-fn share_entry(entry: &HistoryEntry) -> Result<HistoryEntry, AllocError>
-    ensures { IfOk result (λ shared. shared ≡ entry.now) }
-{
-    Ok(HistoryEntry {
-        version: entry.version,
-        id: entry.id,
-        value: share_value(&entry.value)?,
-    })
-}
-
 /// Linear in the number of entries.
 pub(crate) fn copied_entries(
     alloc: Global,
@@ -59,7 +40,7 @@ pub(crate) fn copied_entries(
 {
     let mut copied = Vec::new(alloc);
     for entry in entries {
-        copied.push(share_entry(entry)?)?;
+        copied.push(entry.entry()?)?;
     }
     Ok(Items::from_vec(copied))
 }

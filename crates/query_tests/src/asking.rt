@@ -47,15 +47,15 @@ fn are_entries_alike(
     world: &World,
     namespace: &NameRef<'_>,
     key: &KeyRef<'_>,
-) -> bool {
+) -> Result<bool, AllocError> {
     let mut left = entries.iter();
     for entry in world.history(namespace, key) {
         match left.next() {
-            Some(other) if is_same_entry(entry, other) => {}
-            _ => return false,
+            Some(other) if is_same_entry(&entry.entry()?, other) => {}
+            _ => return Ok(false),
         }
     }
-    left.next().is_none()
+    Ok(left.next().is_none())
 }
 
 fn check_history(
@@ -67,7 +67,7 @@ fn check_history(
 ) -> Result<(), Failed> {
     let reply = handle.history(alloc, namespace, key)?;
     let entries = reply.answer.as_slice();
-    check(is_of(&reply, world) && are_entries_alike(entries, world, namespace, key))
+    check(is_of(&reply, world) && are_entries_alike(entries, world, namespace, key)?)
 }
 
 /// Wants row and history of a key answered alike.

@@ -17,6 +17,7 @@ use Rattle.policy.specs.contracts.definitions.Definitions as definitions
 use Rattle.policy.specs.contracts.policy.Policy as policy
 use Rattle.rules.proofs.flag.Flag.TheSendSync as flag
 use Rattle.rules.specs.contracts.delta.NewDefinition as new_definition
+use Rattle.rules.specs.contracts.kept_entry.KeptEntry as kept_entry
 
 pub ruleset crossing = (
   sendable,
@@ -61,3 +62,9 @@ new_definition_send = search (crossing, policy_send, policy_sync) depth 40 fits 
 
 pub new_definition_sync : IsSync new_definition.the_row
 new_definition_sync = search (crossing, policy_send, policy_sync) depth 40 fits 100000
+
+pub kept_entry_send : IsSend kept_entry.the_row
+kept_entry_send = search (crossing, policy_send, policy_sync) depth 40 fits 100000
+
+pub kept_entry_sync : IsSync kept_entry.the_row
+kept_entry_sync = search (crossing, policy_send, policy_sync) depth 40 fits 100000

@@ -17,6 +17,7 @@ pub mod Linked
 pub mod Differing
 pub mod CommitBytes
 pub mod Commit
+pub mod KeptEntry
 pub mod Delta
 pub mod Listings
 pub mod Step

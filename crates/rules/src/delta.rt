@@ -5,6 +5,7 @@ ghost use Rattle.rules.specs.Delta.{change_of};
 use crate::committed::CommittedBlock;
 use crate::first_use::FirstUse;
 use crate::history::HistoryEntry;
+use crate::kept_entry::KeptEntry;
 use crate::kept_key::KeptKey;
 use crate::keyed_row::KeyedRow;
 use crate::row::Row;
@@ -85,7 +86,7 @@ pub struct NewDefinition {
 #[derive(Drop)]
 pub struct Delta {
     pub changes: Items<Change>,
-    pub entries: Items<Shared<NewEntry>>,
+    pub entries: Items<KeptEntry>,
     pub uses: Items<NewUse>,
     pub definitions: Items<NewDefinition>,
     pub block: Shared<CommittedBlock>,

@@ -9,6 +9,8 @@ mod event;
 mod first_use;
 mod flag;
 mod history;
+mod kept_entry;
+mod kept_id;
 mod kept_key;
 mod keyed_row;
 mod laws;
@@ -23,6 +25,8 @@ pub use event::Event;
 pub use first_use::FirstUse;
 pub use flag::Flag;
 pub use history::HistoryEntry;
+pub use kept_entry::KeptEntry;
+pub use kept_id::KeptId;
 pub use kept_key::KeptKey;
 pub use keyed_row::KeyedRow;
 pub use laws::{

@@ -7,7 +7,7 @@ use crate::noted::{
 use failing::Failed;
 use policy::Policy;
 use random_numbers::Random;
-use rules::{Change, CommittedBlock, Delta, KeyedRow, NewDefinition, NewEntry, NewUse, Row};
+use rules::{Change, CommittedBlock, Delta, KeptEntry, KeyedRow, NewDefinition, NewUse, Row};
 use std::alloc::Global;
 use transaction::BlockVersion;
 use values::{Bytes, Items, Part, Shared};
@@ -88,7 +88,7 @@ fn drawn_entry(
     alloc: Global,
     drawing: &mut Drawing,
     noted: &mut Noted,
-) -> Result<Shared<NewEntry>, Failed> {
+) -> Result<KeptEntry, Failed> {
     let at = drawing.key();
     let number = drawing.number();
     noted.entries.push((at, number))?;

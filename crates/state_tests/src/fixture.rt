@@ -1,10 +1,10 @@
 //! Names and keys, and the rows and history entries at them.
 
 use failing::Failed;
-use rules::{HistoryEntry, KeptKey, NewEntry, Row};
+use rules::{KeptEntry, KeptId, KeptKey, Row};
 use std::alloc::Global;
-use transaction::Version;
-use values::{BoundRef, Hash, KeyRef, NameRef, Part, Shared, is_bound, is_key, is_name};
+use transaction::{TxId, Version};
+use values::{Bytes, BoundRef, Hash, KeyRef, NameRef, Part, Shared, is_bound, is_key, is_name};
 
 pub fn name(bytes: &[u8]) -> Result<NameRef<'_>, Failed> {
     if !is_name(bytes) {
@@ -63,20 +63,20 @@ pub fn numbered(number: u32) -> [u8; 4] {
     [b'k', digit(number / 100), digit(number / 10), digit(number)]
 }
 
+/// An id that stands in no other bytes.
+pub fn kept_id(alloc: Global, id: TxId) -> Result<KeptId, Failed> {
+    let no_bytes = Shared::new(alloc, Bytes::from_vec(Vec::new(alloc)))?;
+    Ok(KeptId::kept(alloc, &no_bytes, 0, &id)?)
+}
+
 /// A delete at a place of block 0.
 pub fn entry(
     alloc: Global,
     namespace: &[u8],
     at: &[u8],
     place: u32,
-) -> Result<Shared<NewEntry>, Failed> {
-    let entry = NewEntry {
-        key: kept_key(alloc, namespace, at)?,
-        entry: HistoryEntry {
-            version: version_of(place),
-            id: [0; 64],
-            value: None,
-        },
-    };
-    Ok(Shared::new(alloc, entry)?)
+) -> Result<KeptEntry, Failed> {
+    let key = kept_key(alloc, namespace, at)?;
+    let id = kept_id(alloc, [0; 64])?;
+    Ok(KeptEntry::deleted(alloc, key, version_of(place), id)?)
 }

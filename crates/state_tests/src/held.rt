@@ -8,7 +8,7 @@ use failing::Failed;
 use history_index::Entries;
 use policy::Policy;
 use rules::Row;
-use std::alloc::Global;
+use std::alloc::{AllocError, Global};
 use world::{RangeAnswer, World};
 
 /// The header hash that a block is given.
@@ -34,16 +34,20 @@ fn is_put(row: Option<&Row>, number: Option<u32>) -> bool {
 }
 
 // Whether the entries are those that were noted of a key, the newest first.
-fn are_entries(mut entries: Entries<'_>, noted: &Noted, at: usize) -> bool {
+fn are_entries(
+    mut entries: Entries<'_>,
+    noted: &Noted,
+    at: usize,
+) -> Result<bool, AllocError> {
     for (key, number) in noted.entries.iter().rev() {
         if *key == at {
             match entries.next() {
-                Some(entry) if entry.version == version_of(*number) => {}
-                _ => return false,
+                Some(entry) if entry.entry()?.version == version_of(*number) => {}
+                _ => return Ok(false),
             }
         }
     }
-    entries.next().is_none()
+    Ok(entries.next().is_none())
 }
 
 /// Whether the key has the row and the history that were noted.
@@ -52,7 +56,7 @@ pub fn key_is_noted(world: &World, noted: &Noted, at: usize) -> Result<bool, Fai
     let key = key(key_of(at))?;
     Ok(
         is_put(world.row(&namespace, &key), noted.row(at))
-            && are_entries(world.history(&namespace, &key), noted, at),
+            && are_entries(world.history(&namespace, &key), noted, at)?,
     )
 }
 

@@ -3,7 +3,7 @@
 use crate::fixture::{entry, key, name};
 use failing::Failed;
 use history_index::{Entries, HistoryIndex};
-use std::alloc::Global;
+use std::alloc::{AllocError, Global};
 
 // A key in its namespace, and the places of its entries.
 type Places = (&'static [u8], &'static [u8], &'static [u32]);
@@ -22,20 +22,20 @@ fn add(
     Ok(())
 }
 
-fn are_at(entries: Entries<'_>, places: &[u32]) -> bool {
+fn are_at(entries: Entries<'_>, places: &[u32]) -> Result<bool, AllocError> {
     let mut left = places.iter();
     for entry in entries {
-        if left.next().copied() != Some(entry.version.tx) {
-            return false;
+        if left.next().copied() != Some(entry.entry()?.version.tx) {
+            return Ok(false);
         }
     }
-    left.next().is_none()
+    Ok(left.next().is_none())
 }
 
 // Whether each key has its entries at these places, and no other ones.
 fn are_places(index: &HistoryIndex, keys: &[Places]) -> Result<bool, Failed> {
     for &(namespace, at, places) in keys {
-        if !are_at(index.entries(&name(namespace)?, &key(at)?), places) {
+        if !are_at(index.entries(&name(namespace)?, &key(at)?), places)? {
             return Ok(false);
         }
     }

@@ -7,16 +7,16 @@ ghost use Rattle.rules.specs.Delta.{entries_in, uses_in, definitions_in};
 
 use history_index::HistoryIndex;
 use policy::Definitions;
-use rules::{CommittedBlock, Delta, NewDefinition, NewEntry, NewUse};
+use rules::{CommittedBlock, Delta, KeptEntry, NewDefinition, NewUse};
 use std::alloc::{AllocError, Global};
 use txid_index::TxIds;
 use values::Shared;
 
 /// The entries of a delta, with one owner more, in the room of a list that has none.
 fn share_entries(
-    room: Vec<Shared<NewEntry>>,
-    entries: &[Shared<NewEntry>],
-) -> Result<Vec<Shared<NewEntry>>, AllocError>
+    room: Vec<KeptEntry>,
+    entries: &[KeptEntry],
+) -> Result<Vec<KeptEntry>, AllocError>
     requires { room.items ≡ [] }
     ensures { IfOk result (λ shared. shared.items ≡ entries.now) }
 {
@@ -71,7 +71,7 @@ pub(crate) fn share_definitions(
 /// What a world keeps of a delta; and the policies of chaincodes that it has behind it, where these change.
 #[derive(Drop)]
 pub(crate) struct Kept {
-    pub(crate) entries: Vec<Shared<NewEntry>>,
+    pub(crate) entries: Vec<KeptEntry>,
     pub(crate) definitions: Option<Shared<Definitions>>,
     pub(crate) block: Shared<CommittedBlock>,
 }
@@ -96,7 +96,7 @@ pub(crate) fn make_room(
 
 /// What a world keeps of a delta that is lent, with one owner more, in the room of a list without entries.
 pub(crate) fn share_kept(
-    room: Vec<Shared<NewEntry>>,
+    room: Vec<KeptEntry>,
     delta: &Delta,
     definitions: &Option<Shared<Definitions>>,
 ) -> Result<Kept, AllocError>
@@ -145,7 +145,7 @@ pub(crate) fn keep(
 }
 
 /// Takes no memory.
-fn add_entries(history: &mut HistoryIndex, entries: Vec<Shared<NewEntry>>)
+fn add_entries(history: &mut HistoryIndex, entries: Vec<KeptEntry>)
     requires { length entries.items ≤ history.old.room }
     ensures { history.new.history ≡ with_entries history.old.history (entries_in entries.items) }
 {

@@ -14,7 +14,7 @@ use crate::ready::ReadyDelta;
 use crate::room::Room;
 use history_index::{Entries, HistoryIndex};
 use policy::Definitions;
-use rules::{CommittedBlock, Delta, FirstUse, NewEntry, Row};
+use rules::{CommittedBlock, Delta, FirstUse, KeptEntry, Row};
 use state_db::{Batch, StateDb};
 use std::alloc::{AllocError, Global};
 use std::marker::Model;
@@ -35,7 +35,7 @@ pub struct World {
     made: Option<Shared<Definitions>>,
     blocks: Vec<Shared<CommittedBlock>>,
     // room for the shares of a delta's entries
-    shares: Vec<Shared<NewEntry>>,
+    shares: Vec<KeptEntry>,
 }
 
 impl Model for World {

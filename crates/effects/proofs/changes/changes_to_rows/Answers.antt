@@ -3,7 +3,7 @@ use Rattle.std.specs.Iterator.Adapters.{zip_second}
 use Rattle.std.specs.Slice.Iter.{iter_rest}
 use Rattle.std.specs.Vec.Iter.{into_iter_items}
 use Rattle.rules.specs.Delta.{changes_in}
-use Rattle.effects.proofs.FinalChanges.{no_change_left}
+use Rattle.effects.proofs.Kept.{no_change_left}
 use Rattle.effects.proofs.changes.changes_to_rows.Goals as goal
 
 pub returns : goal.returns

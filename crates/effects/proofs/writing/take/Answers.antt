@@ -1,21 +1,22 @@
 use Rattle.std.proofs.Common.{sym, ap, ◌∙◌}
 use Rattle.std.proofs.lemmas.Result.{IfOk-weaker}
 use Rattle.rules.specs.Flags.{is_valid}
+use Rattle.effects.specs.Rows.{rows_in}
 use Rattle.effects.proofs.NextStates.{shows-invalid, shows-nothing, shows-opened, makes-invalid, makes-nothing, makes-opened}
 use Rattle.effects.proofs.writing.take.Goals as goal
 
 pub returns-then-not-is_valid-clause-rows : goal.returns-then-not-is_valid-clause-rows
 returns-then-not-is_valid-clause-rows c =
-    shows-invalid c.args.job.now c.args.i c.args.rows.now.items (ap is_valid (sym c.requires.flag) ∙ sym c.is_valid.ensures ∙ c.if-not-is_valid.true)
+    shows-invalid c.args.job.now c.args.i (rows_in c.args.rows.now.items) (ap is_valid (sym c.requires.flag) ∙ sym c.is_valid.ensures ∙ c.if-not-is_valid.true)
 
 pub returns-in-None-clause-rows : goal.returns-in-None-clause-rows
 returns-in-None-clause-rows c =
-    shows-nothing c.args.job.now c.args.i c.args.rows.now.items (ap is_valid (sym c.requires.flag) ∙ sym c.is_valid.ensures ∙ c.if-not-is_valid.false) c.in-None.ensures.tx
+    shows-nothing c.args.job.now c.args.i (rows_in c.args.rows.now.items) (ap is_valid (sym c.requires.flag) ∙ sym c.is_valid.ensures ∙ c.if-not-is_valid.false) c.in-None.ensures.tx
 
 pub returns-in-Some-clause-rows : goal.returns-in-Some-clause-rows
 returns-in-Some-clause-rows c =
     IfOk-weaker c.write_all.result _ _
-    (λ _ step. shows-opened c.args.job.now c.args.i c.args.rows.now.items c.write_all.new.rows.items c.in-Some.open_tx.now c.keys_have_one_order.ensures.members (ap is_valid (sym c.requires.flag) ∙ sym c.is_valid.ensures ∙ c.if-not-is_valid.false) c.in-Some.ensures.tx step)
+    (λ _ step. shows-opened c.args.job.now c.args.i (rows_in c.args.rows.now.items) (rows_in c.write_all.new.rows.items) c.in-Some.open_tx.now c.keys_have_one_order.ensures.members (ap is_valid (sym c.requires.flag) ∙ sym c.is_valid.ensures ∙ c.if-not-is_valid.false) c.in-Some.ensures.tx step)
     c.write_all.ensures.rows
 
 pub returns-then-not-is_valid-clause-entries : goal.returns-then-not-is_valid-clause-entries

@@ -1,4 +1,4 @@
-use Rattle.std.proofs.Common.{List, ◌++◌, take, refl, sym, ap, ◌∙◌, append-nil}
+use Rattle.std.proofs.Common.{ℕ, List, ◌++◌, take, refl, sym, ap, ◌∙◌, append-nil}
 use Rattle.std.specs.FinMap.{get}
 use Rattle.std.proofs.lemmas.List.{take_all}
 use Rattle.transaction.specs.declared.transaction.Version.{Version}
@@ -15,6 +15,7 @@ pub loop-place-init : goal.loop-place-init
 loop-place-init c = record {
   rows = λ s shows n k at. shows n k at ∙ ap (λ (t : State). get t k) (sym (with_writes-none (version_of c.args.job.now c.args.i) s));
   real = λ h. h;
+  keys = λ h. h;
   count = refl;
   entries = sym (append-nil (entries_in c.args.entries.now.items));
 }
@@ -34,9 +35,11 @@ loop-place-preserved c = record {
       (next_written (record { block = c.number.result; tx = c.args.i }) v s ws c.as_slice-written-items.result.now c.loop-place.place c.written-item.result
       (λ m. record { block = c.number.ensures m; tx = c.args.i }) c.as_slice-written-items.ensures.value c.loop-place-test.true c.written-item.is);
   real = λ h. c.in_ok-write_one.ensures.real (c.loop-place.invariant.real h);
+  keys = λ h. c.in_ok-write_one.ensures.keys (c.loop-place.invariant.keys h);
   count = c.in_ok-write_one.ensures.count ∙ c.loop-place.invariant.count;
   entries =
-      c.in_ok-write_one.ensures.entries ∙ ap (λ l. l ++ entry_written (record { block = c.number.result; tx = c.args.i }) c.args.open_tx.now.tx.id c.written-item.result) c.loop-place.invariant.entries
+      c.in_ok-write_one.ensures.entries ∙ ap (λ (id : List ℕ). entries_in c.loop-place.entries.items ++ entry_written (record { block = c.number.result; tx = c.args.i }) id c.written-item.result) c.in_ok-id.ensures
+      ∙ ap (λ l. l ++ entry_written (record { block = c.number.result; tx = c.args.i }) c.args.open_tx.now.tx.id c.written-item.result) c.loop-place.invariant.entries
       ∙ next_entries (record { block = c.number.result; tx = c.args.i }) (version_of c.args.job.now c.args.i) c.args.open_tx.now.tx.id (entries_in c.args.entries.now.items) c.args.open_tx.now.written.items c.as_slice-written-items.result.now c.loop-place.place
       c.written-item.result (λ m. record { block = c.number.ensures m; tx = c.args.i }) c.as_slice-written-items.ensures.value c.loop-place-test.true c.written-item.is;
 }

@@ -1,5 +1,4 @@
 use Rattle.std.proofs.Common.{◌≡◌, ℕ, ◌-◌, ◌≤◌, List, [], ◌∷◌, length, get_or, sym, ap, subst, ◌∙◌, arith}
-use Rattle.rules.specs.declared.delta.NewEntry.{NewEntry}
 use Rattle.rules.specs.State.{StateKey}
 use Rattle.history_index.specs.declared.log.Logged.{Logged}
 use Rattle.history_index.specs.Links.{entries_before, AreLinked, IsPlace}
@@ -33,7 +32,6 @@ returns-clause-steps c =
     sym c.self.view_is ∙ sym c.newest_of-place.ensures.entries
     ∙ (read_twice c.self.inside.log.now (c.self.inside.namespace, c.self.inside.key) c.newest_of-place.result c.index-self-place.result c.self.invariant.0
     (omega (arith, c.newest_of-place.ensures.bound, c.self.invariant.1.0)) c.if-place-eq0.false c.newest_of-place.ensures.place c.index-self-place.is).rest
-    ∙ ap (λ (e : NewEntry). e.entry ∷ entries_before c.self.inside.log.now (c.self.inside.namespace, c.self.inside.key) (get_or c.self.inside.log.now (c.newest_of-place.result - 1) c.index-self-place.result).older) (sym c.get.ensures)
 
 pub returns-clause-goes : goal.returns-clause-goes
 returns-clause-goes c =
