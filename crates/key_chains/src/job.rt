@@ -3,7 +3,8 @@ ghost use Rattle.std.specs.Option.{option_copied};
 ghost use Rattle.std.specs.FinMap.{get};
 ghost use Rattle.block.specs.Limits.{max_txs};
 ghost use Rattle.rules.specs.CommitBytes.{update_bytes};
-ghost use Rattle.rules.specs.State.{StateKey, is_among};
+ghost use Rattle.rules.specs.Delta.{changes_in};
+ghost use Rattle.rules.specs.State.{State, StateKey, is_among, with_changes};
 ghost use Rattle.rules.specs.Ranges.{is_within, rows_where};
 ghost use Rattle.rules.specs.Job.{candidate_at, flag_by};
 ghost use Rattle.key_chains.specs.Job.{IsOpened, IsOpen, IsNoOpenTx, read_by, written_by, keys_of, keys_where};
@@ -18,8 +19,8 @@ use crate::chains::{Chains, newest_on};
 use crate::links::{Operations, PolicyWriters};
 use candidates::{Candidate, OpenTx, StateKey};
 use policy::{Definitions, Policy};
-use rules::{EarlyFlag, Flag, ReadVerdict, Row};
-use state_db::{Batch, Rows, StateDb};
+use rules::{Change, EarlyFlag, Flag, ReadVerdict, Row};
+use state_db::{Batch, FoundRows, Rows, StateDb};
 use std::alloc::{AllocError, Global};
 use std::marker::Model;
 use values::{BoundRef, NameRef};
@@ -35,7 +36,7 @@ pub struct Job<'a> {
     candidates: Vec<Candidate<'a>>,
     chains: Chains<'a>,
     /// The row before the block of each key that it writes, in the keys' order.
-    rows: Vec<Option<&'a Row>>,
+    found: FoundRows<'a>,
 }
 
 impl<'a> Model for Job<'a> {
@@ -55,7 +56,7 @@ impl<'a> Model for Job<'a> {
 
     ghost view = { λ j. record { number = j.number; state = j.state.now.state; definitions = j.definitions.now; admin = option_copied j.admin; candidates = map seen j.candidates.items } };
 
-    ghost invariant = { λ j. ((length j.candidates.items ≤ max_txs) × AreRows j.state.now.state j.chains.keys j.rows.items) × IsBuilt (map seen j.candidates.items) (length j.candidates.items) (length j.candidates.items) 0 j.chains };
+    ghost invariant = { λ j. ((length j.candidates.items ≤ max_txs) × AreRows j.state.now.state j.chains.keys j.found.rows.items) × IsBuilt (map seen j.candidates.items) (length j.candidates.items) (length j.candidates.items) 0 j.chains };
 }
 
 /// An item of candidate i, whose items begin at the place that `firsts` has for it.
@@ -98,7 +99,7 @@ impl<'a> Job<'a> {
         ensures { IfOk result (λ j. j ≡ record { number = number; state = state.entry.now.state; definitions = definitions.entry.now; admin = option_copied admin.entry; candidates = chained.entry }) }
     {
         let Chained { candidates, chains } = chained;
-        let rows = state.rows_of(alloc, chains.keys.as_slice())?;
+        let found = state.rows_of(alloc, chains.keys.as_slice())?;
         Ok(Job {
             number,
             state,
@@ -106,7 +107,7 @@ impl<'a> Job<'a> {
             admin,
             candidates,
             chains,
-            rows,
+            found,
         })
     }
 
@@ -187,7 +188,7 @@ impl<'a> Job<'a> {
         requires { number < length (keys_of self.now) }
         ensures { (k : StateKey) → slice_get (keys_of self.now) number ≡ Some k → option_copied result ≡ get self.now.state k }
     {
-        self.rows[number as usize]
+        self.found.rows[number as usize]
     }
 
     /// The rows of a namespace before the block, from a start to before an end, an empty end being no bound.
@@ -202,13 +203,20 @@ impl<'a> Job<'a> {
         self.state.range(namespace, start, end)
     }
 
+    /// The batch of these changes, with guesses of the places of keys that the block writes. Takes memory for it.
+    pub fn batch_of(&self, alloc: Global, changes: &[Change]) -> Result<Batch, AllocError>
+        ensures { IfOk result (λ batch. (s : State) → changed s batch ≡ with_changes s (changes_in changes.now)) }
+    {
+        Batch::of_looked_up(alloc, changes, self.chains.keys.as_slice(), &self.found)
+    }
+
     /// The rows that a batch would make differ from those before the block, spelled (`StateDb::update_bytes`). A change of a key that
     /// the block writes needs no look-up.
     pub fn update_bytes(&self, batch: &Batch) -> Result<Vec<u8>, AllocError>
         ensures { IfOk result (λ bytes. bytes.items ≡ update_bytes self.now.state (changed self.now.state batch.now)) }
     {
         self.state
-            .update_bytes(batch, self.chains.keys.as_slice(), self.rows.as_slice())
+            .update_bytes(batch, self.chains.keys.as_slice(), self.found.rows.as_slice())
     }
 
     /// The policy of a chaincode.

@@ -108,7 +108,7 @@ fn effects_in(
 {
     let starts = starts_of(alloc, bytes.get().len(), txs)?;
     let effects = effects_of(alloc, job, flags, bytes, starts.as_slice())?;
-    let batch = Batch::of(alloc, effects.changes.as_slice())?;
+    let batch = job.batch_of(alloc, effects.changes.as_slice())?;
     Ok((effects, batch))
 }
 

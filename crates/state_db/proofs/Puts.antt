@@ -2,13 +2,14 @@
 use Rattle.std.proofs.Common.{◌≡◌, ℕ, zero, suc, ◌<◌, ◌≤◌, Bool, true, false, List, [], ◌∷◌, ◌++◌, ◌&&◌, length, get_or, refl, sym, ap, ◌∙◌, arith}
 use Rattle.std.specs.Prelude.{if◌then◌else◌, slice_set}
 use Rattle.std.specs.declared.cmp.Ordering.{Ordering}
-use Rattle.std.specs.Ordering.{is_eq, ordering_reverse}
+use Rattle.std.specs.Ordering.{is_lt, is_eq, ordering_reverse}
 use Rattle.std.specs.List.{list_all, insert}
-use Rattle.std.specs.FinMap.Entries.{put, by_order}
+use Rattle.std.specs.FinMap.{is_sorted}
+use Rattle.std.specs.FinMap.Entries.{put, by_order, below_all}
 use Rattle.rules.specs.State.{StateKey, key_cmp}
 use Rattle.rules.proofs.Booleans.{both_true}
 use Rattle.rules.proofs.Keys.{key_cmp_total, key_cmp-IsAntisymmetric}
-use Rattle.state_db.specs.Search.{Keyed, is_below, ties_at, leading}
+use Rattle.state_db.specs.Search.{Keyed, IsSorted, is_below, ties_at, leading}
 use Rattle.state_db.proofs.Tests.{is_Less, is_Greater}
 use Rattle.state_keys.proofs.Answers.{is_Equal}
 
@@ -29,6 +30,22 @@ module _ {X : Type 0} where
   ties_in k [] n h = absurd cc
   ties_in k (e ∷ es) zero h = omega arith
   ties_in k (e ∷ es) (suc n) h = let rest = ties_in k es n h in omega arith
+
+  -- what has the key, in a list in order, stands behind as many as stand before the key
+  before_tied : (k : StateKey) (a : Keyed X) (es : List (Keyed X)) (n : ℕ) → below_all key_cmp a.0 es ≡ true → ties_at k es n ≡ true → is_below k a ≡ true
+  before_tied k a [] n h t = absurd cc
+  before_tied k a (e ∷ es) zero h t =
+      let parts = both_true (is_lt (key_cmp a.0 e.0)) (below_all key_cmp a.0 es) h in
+      ap (λ (q : StateKey). is_lt (key_cmp a.0 q)) (sym (key_cmp-IsAntisymmetric e.0 k (is_Equal (key_cmp e.0 k) t))) ∙ parts.0
+  before_tied k a (e ∷ es) (suc n) h t = before_tied k a es n ((both_true (is_lt (key_cmp a.0 e.0)) (below_all key_cmp a.0 es) h).1) t
+
+  pub tied_leads : (k : StateKey) (es : List (Keyed X)) (n : ℕ) → IsSorted es → ties_at k es n ≡ true → n ≡ leading (is_below k) es
+  tied_leads k [] n h t = absurd cc
+  tied_leads k (a ∷ es) zero h t = ap (λ (o : Ordering). if is_lt o then suc (leading (is_below k) es) else 0) (sym (is_Equal (key_cmp a.0 k) t))
+  tied_leads k (a ∷ es) (suc n) h t =
+      let parts = both_true (below_all key_cmp a.0 es) (is_sorted key_cmp es) h in
+      ap suc (tied_leads k es n parts.1 t)
+      ∙ ap (λ (b : Bool). if b then suc (leading (is_below k) es) else 0) (sym (before_tied k a es n parts.0 t))
 
 module _ {X : Type 0} (k : StateKey) (v : X) where
   abbrev pub put_ : List (Keyed X) → List (Keyed X)

@@ -42,13 +42,20 @@ fn begin_page(pages: &mut Vec<Page>, spare: &mut Vec<Page>, slot: Slot)
     ensures room { length pages.new.items + length spare.new.items ≤ vec_capacity pages.new }
 {
     if let Some(mut page) = spare.pop() {
-        page.put(slot);
+        page.put(slot, 0);
         pages.push_reserved(page);
     }
 }
 
-/// Puts a row, whose page is at or behind a place. Answers where that page is, or its first part. Takes no memory.
-fn put(pages: &mut Vec<Page>, spare: &mut Vec<Page>, from: usize, slot: Slot) -> usize
+/// Puts a row, whose page is at or behind a place, and its place there guessed. Answers where that page is, or its first part. Takes
+/// no memory.
+fn put(
+    pages: &mut Vec<Page>,
+    spare: &mut Vec<Page>,
+    from: usize,
+    slot: Slot,
+    guess: usize,
+) -> usize
     requires open { AreOpen pages.old.items }
     requires from { from ≤ home slot.0 pages.old.items }
     requires empty { AreEmpty spare.old.items }
@@ -65,7 +72,7 @@ fn put(pages: &mut Vec<Page>, spare: &mut Vec<Page>, from: usize, slot: Slot) ->
         return at;
     }
     let page = &mut pages[at];
-    page.put(slot);
+    page.put(slot, guess);
     if page.len() > MAX_ROWS {
         if let Some(mut upper) = spare.pop() {
             page.split(&mut upper);
@@ -111,8 +118,9 @@ fn make_all(pages: &mut Vec<Page>, spare: &mut Vec<Page>, edits: Vec<Edit>)
     let mut at = 0;
     for edit in edits {
         let head = edit.head();
+        let guess = edit.place();
         at = match edit.into_change() {
-            Change::Put(row) => put(pages, spare, at, Slot::with_head(head, row)),
+            Change::Put(row) => put(pages, spare, at, Slot::with_head(head, row), guess),
             Change::Remove(kept) => {
                 let key = kept.key();
                 remove(

@@ -7,9 +7,10 @@ ghost use Rattle.state_db.specs.Batch.{changed};
 ghost use Rattle.state_db.specs.Search.{IsSorted, is_below, ties_at, leading};
 
 use crate::edit::Edit;
+use crate::looked_up::{FoundRows, passed};
 use crate::search::{Ordered, count_below};
 use rules::{Change, KeptKey, KeyedRow, Row};
-use state_keys::Wanted;
+use state_keys::{StateKey, Wanted};
 use std::alloc::{AllocError, Global};
 use std::marker::Model;
 use values::{Key, Name, Shared};
@@ -124,12 +125,55 @@ impl Batch {
         Ok(batch)
     }
 
+    /// The same, where the rows of keys were looked up: what is put there has a guess of its place. Where the keys are in their order
+    /// that takes a step more for each.
+    pub fn of_looked_up(
+        alloc: Global,
+        changes: &[Change],
+        keys: &[StateKey<'_>],
+        found: &FoundRows<'_>,
+    ) -> Result<Batch, AllocError>
+        ensures { IfOk result (λ batch. (s : State) → changed s batch ≡ with_changes s (changes_in changes.now)) }
+    {
+        let mut batch = Batch::with_capacity(alloc, changes.len())?;
+        let mut from = 0;
+        for change in changes {
+            from = batch.add_guessed(change, keys, found, from)?;
+        }
+        Ok(batch)
+    }
+
+    /// Makes a change, with a guess of its place by keys at or behind a place. Answers where its key is looked for among them.
+    fn add_guessed(
+        &mut self,
+        change: &Change,
+        keys: &[StateKey<'_>],
+        found: &FoundRows<'_>,
+        from: usize,
+    ) -> Result<usize, AllocError>
+        ensures made { OnOk result ((s : State) → changed s self.new ≡ set_at (changed s self.old) (change_of change.now).0 (change_of change.now).1) }
+    {
+        let mut edit = Edit::new(change.share()?);
+        let at = passed(keys, from, &edit);
+        edit.guess(found.place(at));
+        self.set_edit(edit)?;
+        Ok(at)
+    }
+
+    fn set_edit(&mut self, edit: Edit) -> Result<(), AllocError>
+        ensures ok { OnOk result (self.new ≡ insert self.old edit.0 edit.1) }
+        ensures err { OnErr result (self.new ≡ self.old) }
+        ensures made { OnOk result ((s : State) → changed s self.new ≡ set_at (changed s self.old) edit.0 edit.1) }
+    {
+        put(&mut self.edits, edit)
+    }
+
     fn set(&mut self, change: Change) -> Result<(), AllocError>
         ensures ok { OnOk result (self.new ≡ insert self.old (change_of change).0 (change_of change).1) }
         ensures err { OnErr result (self.new ≡ self.old) }
         ensures made { OnOk result ((s : State) → changed s self.new ≡ set_at (changed s self.old) (change_of change).0 (change_of change).1) }
     {
-        put(&mut self.edits, Edit::new(change))
+        self.set_edit(Edit::new(change))
     }
 
     /// The key has this row from now on. Takes memory for the key, the row and the change.

@@ -35,14 +35,25 @@ pub(crate) fn home_from(pages: &[Page], from: usize, wanted: &Wanted<'_>) -> usi
     from + count_few_below(behind, wanted)
 }
 
+/// The row of a key, if it has one, and the place in its page where it is or would be. Logarithmic.
+pub(crate) fn row_and_place_of<'a>(
+    pages: &'a [Page],
+    wanted: &Wanted<'_>,
+) -> (Option<&'a Row>, usize)
+    requires { ArePages pages.now }
+    ensures { option_copied result.0 ≡ find key_cmp wanted.now (joined pages.now) }
+{
+    if pages.is_empty() {
+        return (None, 0);
+    }
+    let page = &pages[home_of(pages, wanted)];
+    page.row(wanted)
+}
+
 /// The row of a key, if it has one. Logarithmic.
 pub(crate) fn row_of<'a>(pages: &'a [Page], wanted: &Wanted<'_>) -> Option<&'a Row>
     requires { ArePages pages.now }
     ensures { option_copied result ≡ find key_cmp wanted.now (joined pages.now) }
 {
-    if pages.is_empty() {
-        return None;
-    }
-    let page = &pages[home_of(pages, wanted)];
-    page.row(wanted)
+    row_and_place_of(pages, wanted).0
 }

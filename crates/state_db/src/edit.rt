@@ -20,6 +20,8 @@ use values::{KeyRef, NameRef};
 #[derive(Drop)]
 pub(crate) struct Edit {
     head: Head,
+    // where in its page the key's row may stand: who goes there compares the key
+    place: u32,
     change: Change,
 }
 
@@ -49,7 +51,23 @@ impl Edit {
         let namespace = change.namespace();
         let key = change.key();
         let head = head_of(namespace.as_slice(), key.as_slice());
-        Edit { head, change }
+        Edit {
+            head,
+            place: 0,
+            change,
+        }
+    }
+
+    /// Guesses its place in a page.
+    pub fn guess(&mut self, place: u32)
+        ensures { self.new ≡ self.old }
+    {
+        self.place = place;
+    }
+
+    /// Where in its page the key's row may stand. No clause speaks of it.
+    pub fn place(&self) -> usize {
+        self.place as usize
     }
 
     pub fn head(&self) -> Head
@@ -100,6 +118,7 @@ impl Edit {
     {
         Ok(Edit {
             head: self.head,
+            place: self.place,
             change: self.change.share()?,
         })
     }

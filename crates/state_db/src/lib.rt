@@ -19,6 +19,7 @@ mod state_db;
 mod update;
 
 pub use batch::Batch;
+pub use looked_up::FoundRows;
 pub use room::Room;
 pub use rows::Rows;
 pub use state_db::StateDb;

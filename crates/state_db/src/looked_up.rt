@@ -12,9 +12,24 @@ use crate::page::Page;
 use rules::Row;
 use state_keys::StateKey;
 
+/// The rows of keys, each at its key's place; beside each the place in its page where it was found, or would be. No clause speaks of
+/// the places: they are guesses of where the rows of the same keys are put later.
+#[derive(Drop)]
+pub struct FoundRows<'a> {
+    pub rows: Vec<Option<&'a Row>>,
+    pub(crate) places: Vec<u32>,
+}
+
+impl FoundRows<'_> {
+    /// A guess for the key at this place.
+    pub(crate) fn place(&self, at: usize) -> u32 {
+        self.places.get(at).copied().unwrap_or(0)
+    }
+}
+
 /// The place of the first key, from a place on, that doesn't stand before an edit's. No clause speaks of it: which key stands there is
 /// compared.
-fn passed(keys: &[StateKey<'_>], from: usize, edit: &Edit) -> usize {
+pub(crate) fn passed(keys: &[StateKey<'_>], from: usize, edit: &Edit) -> usize {
     let mut at = from;
     while at < keys.len() && edit.order(&keys[at].wanted()).is_gt() {
         at += 1;

@@ -75,21 +75,21 @@ impl Page {
         self.rows.as_slice()
     }
 
-    /// The row of a key, if it has one. Logarithmic.
-    pub fn row(&self, wanted: &Wanted<'_>) -> Option<&Row>
+    /// The row of a key, if it has one, and the place where it is or would be. Logarithmic.
+    pub fn row(&self, wanted: &Wanted<'_>) -> (Option<&Row>, usize)
         requires { IsSorted self.now }
-        ensures { option_copied result ≡ find key_cmp wanted.now self.now }
+        ensures { option_copied result.0 ≡ find key_cmp wanted.now self.now }
     {
         slots::row_in(self.rows.as_slice(), wanted)
     }
 
-    /// Puts a row in its place, in the place of one with its key. Takes no memory.
-    pub fn put(&mut self, slot: Slot)
+    /// Puts a row in its place, which may be guessed, in the place of one with its key. Takes no memory.
+    pub fn put(&mut self, slot: Slot, guess: usize)
         requires sorted { IsSorted self.old }
         requires room { length self.old ≤ max_page_rows }
         ensures { self.new ≡ put key_cmp slot.0 slot.1 self.old }
     {
-        slots::put(&mut self.rows, slot);
+        slots::put(&mut self.rows, slot, guess);
         self.last = slots::last_head(self.rows.as_slice());
     }
 

@@ -7,7 +7,7 @@ ghost use Rattle.std.specs.Vec.{vec_capacity};
 ghost use Rattle.rules.specs.State.{key_cmp};
 ghost use Rattle.state_db.specs.Edits.{without};
 ghost use Rattle.state_db.specs.Pages.{last_head};
-ghost use Rattle.state_db.specs.Search.{IsSorted, ties_at};
+ghost use Rattle.state_db.specs.Search.{IsSorted, is_below, leading, ties_at};
 
 use crate::search::count_below;
 use crate::slot::Slot;
@@ -24,15 +24,25 @@ pub(crate) fn last_head(rows: &[Slot]) -> Head
     }
 }
 
-/// The row of a key among rows in order. Logarithmic.
-pub(crate) fn row_in<'a>(rows: &'a [Slot], wanted: &Wanted<'_>) -> Option<&'a Row>
-    requires { IsSorted rows.now }
+/// The row at a place, if there is one and it has the key.
+fn row_at<'a>(rows: &'a [Slot], place: usize, wanted: &Wanted<'_>) -> Option<&'a Row>
+    requires sorted { IsSorted rows.now }
+    requires place { place ≡ leading (is_below wanted.now) rows.now }
     ensures { option_copied result ≡ find key_cmp wanted.now rows.now }
 {
-    match rows.get(count_below(rows, wanted)) {
+    match rows.get(place) {
         None => None,
         Some(slot) => slot.row_of(wanted),
     }
+}
+
+/// The row of a key among rows in order, and the place where it is or would be. Logarithmic.
+pub(crate) fn row_in<'a>(rows: &'a [Slot], wanted: &Wanted<'_>) -> (Option<&'a Row>, usize)
+    requires { IsSorted rows.now }
+    ensures { option_copied result.0 ≡ find key_cmp wanted.now rows.now }
+{
+    let place = count_below(rows, wanted);
+    (row_at(rows, place, wanted), place)
 }
 
 /// Whether the row at a place, if there is one, has the key.
@@ -45,15 +55,27 @@ fn is_at(rows: &[Slot], place: usize, wanted: &Wanted<'_>) -> bool
     }
 }
 
-/// Puts a row in its place, in the place of one with its key. Takes no memory.
-pub(crate) fn put(rows: &mut Vec<Slot>, slot: Slot)
+/// How many rows stand before the key: as many as was guessed, where it stands there. Else a search.
+fn place_from(rows: &[Slot], guess: usize, wanted: &Wanted<'_>) -> usize
+    requires { IsSorted rows.now }
+    ensures place { result ≡ leading (is_below wanted.now) rows.now }
+    ensures bound { result ≤ length rows.now }
+{
+    if is_at(rows, guess, wanted) {
+        return guess;
+    }
+    count_below(rows, wanted)
+}
+
+/// Puts a row in its place, which may be guessed, in the place of one with its key. Takes no memory.
+pub(crate) fn put(rows: &mut Vec<Slot>, slot: Slot, guess: usize)
     requires sorted { IsSorted rows.old.items }
     requires room { length rows.old.items < vec_capacity rows.old }
     ensures items { rows.new.items ≡ put key_cmp slot.0 slot.1 rows.old.items }
     ensures capacity { vec_capacity rows.old ≤ vec_capacity rows.new }
 {
     let wanted = slot.wanted();
-    let place = count_below(rows.as_slice(), &wanted);
+    let place = place_from(rows.as_slice(), guess, &wanted);
     if is_at(rows.as_slice(), place, &wanted) {
         rows[place] = slot;
     } else {

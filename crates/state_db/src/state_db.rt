@@ -11,9 +11,10 @@ ghost use Rattle.state_db.specs.Search.{IsSorted};
 
 use crate::apply::{edit_pages, first_pages};
 use crate::batch::Batch;
-use crate::directory::row_of;
+use crate::directory::{row_and_place_of, row_of};
 use crate::edit::Edit;
-use crate::page::Page;
+use crate::looked_up::FoundRows;
+use crate::page::{MAX_ROWS, Page};
 use crate::room::Room;
 use crate::rows::{Rows, rows_from};
 use crate::spare::{pages_needed, splits, stock};
@@ -80,22 +81,32 @@ impl StateDb {
     pub fn row(&self, key: &StateKey<'_>) -> Option<&Row>
         ensures { option_copied result ≡ get self.now.state key.now }
     {
-        row_of(self.pages.as_slice(), &key.wanted())
+        self.row_and_place(key).0
     }
 
-    /// The rows of keys, each at its key's place. A look-up for each; memory for a list of them.
+    fn row_and_place(&self, key: &StateKey<'_>) -> (Option<&Row>, usize)
+        ensures { option_copied result.0 ≡ get self.now.state key.now }
+    {
+        row_and_place_of(self.pages.as_slice(), &key.wanted())
+    }
+
+    /// The rows of keys, each at its key's place. A look-up for each; memory for lists of them.
     pub fn rows_of<'a>(
         &'a self,
         alloc: Global,
         keys: &[StateKey<'_>],
-    ) -> Result<Vec<Option<&'a Row>>, AllocError>
-        ensures { IfOk result (λ rows. AreRows self.now.state keys.now rows.items) }
+    ) -> Result<FoundRows<'a>, AllocError>
+        ensures { IfOk result (λ found. AreRows self.now.state keys.now found.rows.items) }
     {
         let mut rows = Vec::with_capacity(alloc, keys.len())?;
+        let mut places = Vec::with_capacity(alloc, keys.len())?;
         for key in keys {
-            rows.push(self.row(key))?;
+            let (row, place) = self.row_and_place(key);
+            rows.push(row)?;
+            // a page has few rows
+            places.push(place.min(MAX_ROWS) as u32)?;
         }
-        Ok(rows)
+        Ok(FoundRows { rows, places })
     }
 
     /// The rows of a namespace from a start to before an end, an empty end being no bound, in the order of their keys.

@@ -157,8 +157,8 @@ fn is_spelled_knowing(
     bytes: &[u8],
 ) -> Result<bool, Failed> {
     let batch = batch_of(alloc, edits)?;
-    let rows = state.rows_of(alloc, keys)?;
-    let spelled = state.update_bytes(&batch, keys, rows.as_slice())?;
+    let found = state.rows_of(alloc, keys)?;
+    let spelled = state.update_bytes(&batch, keys, found.rows.as_slice())?;
     Ok(spelled.as_slice() == bytes)
 }
 

@@ -3,7 +3,7 @@ use Rattle.std.specs.FinMap.{find}
 use Rattle.rules.specs.State.{key_cmp}
 use Rattle.state_db.specs.Search.{IsSorted}
 use Rattle.state_db.proofs.PageOrder.{sized_filled, page_sorted, find_home}
-use Rattle.state_db.proofs.directory.row_of.Goals as goal
+use Rattle.state_db.proofs.directory.row_and_place_of.Goals as goal
 
 pub home_of-requires-clause-pages : goal.home_of-requires-clause-pages
 home_of-requires-clause-pages c = (c.requires.0, sized_filled c.args.pages.now c.requires.1)
