@@ -21,12 +21,7 @@ pub(crate) struct Left {
 }
 
 /// Of a value write that leaves this row.
-fn left_of_value(
-    alloc: Global,
-    id: &KeptId,
-    key: KeptKey,
-    row: Row,
-) -> Result<Left, AllocError>
+fn left_of_value(alloc: Global, id: &KeptId, key: KeptKey, row: Row) -> Result<Left, AllocError>
     ensures row { IfOk result (λ left. left.row ≡ Some (key, row)) }
     ensures entry { IfOk result (λ left. entries_in (option_to_list left.entry) ≡ entry_at row.version id.now key (Some (Some row.value))) }
 {

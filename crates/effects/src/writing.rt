@@ -123,15 +123,7 @@ fn write_all(
     for (place, written) in open_tx.written.as_slice().iter().enumerate() {
         let number = job.key_number_of(i, place);
         write_one(
-            alloc,
-            keeping,
-            rows,
-            entries,
-            job,
-            version,
-            &id,
-            number,
-            written,
+            alloc, keeping, rows, entries, job, version, &id, number, written,
         )?;
     }
     Ok(())

@@ -10,20 +10,19 @@ use Rattle.rules.specs.State.{StateKey, is_same_key, key_cmp}
 use Rattle.rules.specs.History.{History, entries_at, with_entries}
 use Rattle.rules.proofs.Keys.{key_cmp_total, key_ties, same_key_is, same_as_itself}
 use Rattle.rules.proofs.HistoryEntries.{with_entries-none, with_entries-push, entries_at-with_entries, newest_first}
-use Rattle.history_index.specs.declared.log.Logged.{Logged}
 use Rattle.history_index.specs.Hash.{key_hash}
-use Rattle.history_index.specs.Links.{key_of, keyed, history_of, entries_before, has_hash, newest, AreLinked, IsChain}
+use Rattle.history_index.specs.Links.{Linked, key_of, keyed, history_of, entries_before, has_hash, newest, AreLinked, IsChain}
 use Rattle.history_index.proofs.Places.{before-bound, before-still, before-filter, before-hit}
 
-abbrev is_of : StateKey → Logged → Bool
+abbrev is_of : StateKey → Linked → Bool
 is_of k l = is_same_key k (key_of l)
 
 -- ---- the entries of a key, by a filter
 
-abbrev listed : StateKey → List Logged → List HistoryEntry
+abbrev listed : StateKey → List Linked → List HistoryEntry
 listed k log = reverse (map (λ e. e.1) (map keyed (filter (is_of k) log)))
 
-filter_keyed : (k : StateKey) (log : List Logged) → filter (λ e. is_same_key k e.0) (map keyed log) ≡ map keyed (filter (is_of k) log)
+filter_keyed : (k : StateKey) (log : List Linked) → filter (λ e. is_same_key k e.0) (map keyed log) ≡ map keyed (filter (is_of k) log)
 filter_keyed k [] = refl
 filter_keyed k (l ∷ log) = by (is_of k l) (filter_keyed k log)
   where
@@ -32,18 +31,18 @@ filter_keyed k (l ∷ log) = by (is_of k l) (filter_keyed k log)
     by true rest = ap (λ es. keyed l ∷ es) rest
     by false rest = rest
 
-as_listed : (k : StateKey) (log : List Logged) → entries_at (history_of log) k ≡ listed k log
+as_listed : (k : StateKey) (log : List Linked) → entries_at (history_of log) k ≡ listed k log
 as_listed k log =
     entries_at-with_entries empty (map keyed log) k
     ∙ ap (λ o. newest_first k (map keyed log) ++ unwrap_or o []) (get-empty {X = List HistoryEntry} key_cmp k)
     ∙ append-nil (newest_first k (map keyed log))
     ∙ ap (λ es. reverse (map (λ e. e.1) es)) (filter_keyed k log)
 
-own_hash : (k : StateKey) (l : Logged) → is_of k l ≡ true → has_hash (key_hash k) l ≡ true
+own_hash : (k : StateKey) (l : Linked) → is_of k l ≡ true → has_hash (key_hash k) l ≡ true
 own_hash k l e = eq-eqb (key_hash (key_of l)) (key_hash k) (ap key_hash (sym (same_key_is k (key_of l) e)))
 
 -- those before the last place of the hash are all
-pub jumped : (log : List Logged) (k : StateKey) (n : ℕ) → n ≤ length log → entries_before log k (newest (key_hash k) (take n log)) ≡ entries_before log k n
+pub jumped : (log : List Linked) (k : StateKey) (n : ℕ) → n ≤ length log → entries_before log k (newest (key_hash k) (take n log)) ≡ entries_before log k n
 jumped log k n h =
     as_listed k (take (newest (key_hash k) (take n log)) log)
     ∙ ap (λ l. reverse (map (λ e. e.1) (map keyed l))) (before-filter (has_hash (key_hash k)) log (is_of k) (own_hash k) n h)
@@ -60,7 +59,7 @@ inserted h k x q =
     by true = refl
     by false = refl
 
-one_more : (log : List Logged) (k : StateKey) (n : ℕ) (l : Logged) → n < length log → l ≡ get_or log n l
+one_more : (log : List Linked) (k : StateKey) (n : ℕ) (l : Linked) → n < length log → l ≡ get_or log n l
     → entries_before log k (suc n) ≡ cond (is_of k l) (l.entry.entry ∷ entries_before log (key_of l) n) (entries_before log k n)
 one_more log k n l lt is =
     ap (λ xs. entries_at (history_of xs) k) (take-suc log n l lt ∙ ap (λ y. take n log ++ y ∷ []) (sym is))
@@ -70,27 +69,27 @@ one_more log k n l lt is =
 
 -- ---- along the places
 
-pub chained : (log : List Logged) (k : StateKey) (n : ℕ) → n ≤ length log → IsChain k log (newest (key_hash k) (take n log))
+pub chained : (log : List Linked) (k : StateKey) (n : ℕ) → n ≤ length log → IsChain k log (newest (key_hash k) (take n log))
 chained log k n h =
     let bound : newest (key_hash k) (take n log) ≤ n = before-bound (has_hash (key_hash k)) log n h in
     (omega (arith, bound, h), before-still (has_hash (key_hash k)) log n h)
 
-same_hash : (log : List Logged) (k : StateKey) (p : ℕ) (l : Logged) → IsChain k log (suc p) → l ≡ get_or log p l → key_hash (key_of l) ≡ key_hash k
+same_hash : (log : List Linked) (k : StateKey) (p : ℕ) (l : Linked) → IsChain k log (suc p) → l ≡ get_or log p l → key_hash (key_of l) ≡ key_hash k
 same_hash log k p l chain is =
     eqb-true (key_hash (key_of l)) (key_hash k)
     (ap (has_hash (key_hash k)) is ∙ before-hit (has_hash (key_hash k)) log p l (omega (arith, chain.0)) chain.1)
 
-older_is : (log : List Logged) (k : StateKey) (p : ℕ) (l : Logged) → AreLinked log → p < length log → l ≡ get_or log p l → key_hash (key_of l) ≡ key_hash k
+older_is : (log : List Linked) (k : StateKey) (p : ℕ) (l : Linked) → AreLinked log → p < length log → l ≡ get_or log p l → key_hash (key_of l) ≡ key_hash k
     → l.older ≡ newest (key_hash k) (take p log)
 older_is log k p l links lt is same = links p l lt is ∙ ap (λ h. newest h (take p log)) same
 
 -- what a place leads to
-pub record Leads (k : StateKey) (log : List Logged) (place older : ℕ) (entries : List HistoryEntry) : Type 0 where
+pub record Leads (k : StateKey) (log : List Linked) (place older : ℕ) (entries : List HistoryEntry) : Type 0 where
   pub chain : IsChain k log older
   pub rest : entries_before log k place ≡ entries ++ entries_before log k older
   pub below : older < place
 
-leads : (log : List Logged) (k : StateKey) (p : ℕ) (l : Logged) → AreLinked log → p < length log → l ≡ get_or log p l → key_hash (key_of l) ≡ key_hash k
+leads : (log : List Linked) (k : StateKey) (p : ℕ) (l : Linked) → AreLinked log → p < length log → l ≡ get_or log p l → key_hash (key_of l) ≡ key_hash k
     → (entries : List HistoryEntry) → entries_before log k (suc p) ≡ entries ++ entries_before log k p → Leads k log (suc p) l.older entries
 leads log k p l links lt is same entries e =
     let o : l.older ≡ newest (key_hash k) (take p log) = older_is log k p l links lt is same in
@@ -102,7 +101,7 @@ leads log k p l links lt is same entries e =
     }
 
 -- an entry of another key is passed over
-pub passed_over : (log : List Logged) (k : StateKey) (place : ℕ) (l : Logged) → AreLinked log → IsChain k log place → 0 < place → l ≡ get_or log (place - 1) l → is_same_key k (key_of l) ≡ false
+pub passed_over : (log : List Linked) (k : StateKey) (place : ℕ) (l : Linked) → AreLinked log → IsChain k log place → 0 < place → l ≡ get_or log (place - 1) l → is_same_key k (key_of l) ≡ false
     → Leads k log place l.older []
 passed_over log k place l links chain some is differs =
     let e : suc (place - 1) ≡ place = omega arith in
@@ -113,7 +112,7 @@ passed_over log k place l links chain some is differs =
     (one_more log k (place - 1) l lt is ∙ ap (λ (b : Bool). cond b (l.entry.entry ∷ entries_before log (key_of l) (place - 1)) (entries_before log k (place - 1))) differs))
 
 -- one of the key is the first
-pub found : (log : List Logged) (k : StateKey) (place : ℕ) (l : Logged) → AreLinked log → place ≤ length log → 0 < place → l ≡ get_or log (place - 1) l → key_of l ≡ k
+pub found : (log : List Linked) (k : StateKey) (place : ℕ) (l : Linked) → AreLinked log → place ≤ length log → 0 < place → l ≡ get_or log (place - 1) l → key_of l ≡ k
     → Leads k log place l.older (l.entry.entry ∷ [])
 found log k place l links bound some is own =
     let e : suc (place - 1) ≡ place = omega arith in
@@ -124,5 +123,5 @@ found log k place l links bound some is own =
     ∙ ap (λ (b : Bool). cond b (l.entry.entry ∷ entries_before log (key_of l) (place - 1)) (entries_before log k (place - 1))) (ap (λ q. is_same_key q (key_of l)) (sym own) ∙ same_as_itself (key_of l))
     ∙ ap (λ q. l.entry.entry ∷ entries_before log q (place - 1)) own))
 
-pub no_entries : (log : List Logged) (k : StateKey) → entries_before log k 0 ≡ []
+pub no_entries : (log : List Linked) (k : StateKey) → entries_before log k 0 ≡ []
 no_entries log k = ap (λ h. entries_at h k) (with_entries-none empty) ∙ ap (λ (o : Option (List HistoryEntry)). unwrap_or o []) (get-empty {X = List HistoryEntry} key_cmp k)

@@ -1,3 +1,4 @@
 mod Places
 mod Chains
 mod Adding
+mod Lists

@@ -1,4 +1,4 @@
-use crate::log::{Logged, newest_of};
+use crate::log::{Logged, SharedList, newest_of};
 use rules::KeptEntry;
 use std::marker::Model;
 use values::{KeyRef, NameRef};
@@ -6,6 +6,7 @@ use values::{KeyRef, NameRef};
 /// The entries of a key, lent newest first. A contract sees the list of those that are left.
 #[derive(Drop)]
 pub struct Entries<'a> {
+    pub(crate) lists: &'a [SharedList],
     pub(crate) log: &'a [Logged],
     pub(crate) place: usize,
     pub(crate) namespace: NameRef<'a>,
@@ -18,11 +19,11 @@ impl<'a> Model for Entries<'a> {
 
     ghost Value = { List HistoryEntry };
 
-    ghost use Rattle.history_index.specs.Links.{entries_before, AreLinked, IsChain};
+    ghost use Rattle.history_index.specs.Links.{links_in, entries_before, AreLinked, AreThere, IsChain};
 
-    ghost view = { λ e. entries_before e.log.now (e.namespace, e.key) e.place };
+    ghost view = { λ e. entries_before (links_in e.lists.now e.log.now) (e.namespace, e.key) e.place };
 
-    ghost invariant = { λ e. AreLinked e.log.now × IsChain (e.namespace, e.key) e.log.now e.place };
+    ghost invariant = { λ e. AreThere e.lists.now e.log.now × AreLinked (links_in e.lists.now e.log.now) × IsChain (e.namespace, e.key) (links_in e.lists.now e.log.now) e.place };
 }
 
 impl<'a> Iterator for Entries<'a> {
@@ -35,13 +36,13 @@ impl<'a> Iterator for Entries<'a> {
     ghost remaining = { item_count (λ left. left) };
 
     fn next(&mut self) -> Option<&'a KeptEntry> {
-        let place = newest_of(self.log, self.place, &self.namespace, &self.key);
+        let place = newest_of(self.lists, self.log, self.place, &self.namespace, &self.key);
         if place == 0 {
             self.place = 0;
             return None;
         }
         let logged = &self.log[place - 1];
         self.place = logged.older as usize;
-        Some(&logged.entry)
+        Some(logged.entry(self.lists))
     }
 }

@@ -215,8 +215,11 @@ impl<'a> Job<'a> {
     pub fn update_bytes(&self, batch: &Batch) -> Result<Vec<u8>, AllocError>
         ensures { IfOk result (λ bytes. bytes.items ≡ update_bytes self.now.state (changed self.now.state batch.now)) }
     {
-        self.state
-            .update_bytes(batch, self.chains.keys.as_slice(), self.found.rows.as_slice())
+        self.state.update_bytes(
+            batch,
+            self.chains.keys.as_slice(),
+            self.found.rows.as_slice(),
+        )
     }
 
     /// The policy of a chaincode.

@@ -148,7 +148,7 @@ impl Unhashed {
         };
         let delta = Delta {
             changes: Items::from_vec(effects.changes),
-            entries: Items::from_vec(effects.entries),
+            entries: Shared::new(alloc, Items::from_vec(effects.entries))?,
             uses: Items::from_vec(uses),
             definitions: Items::from_vec(effects.definitions),
             block: Shared::new(alloc, block)?,

@@ -86,7 +86,7 @@ pub struct NewDefinition {
 #[derive(Drop)]
 pub struct Delta {
     pub changes: Items<Change>,
-    pub entries: Items<KeptEntry>,
+    pub entries: Shared<Items<KeptEntry>>,
     pub uses: Items<NewUse>,
     pub definitions: Items<NewDefinition>,
     pub block: Shared<CommittedBlock>,

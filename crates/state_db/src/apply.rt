@@ -49,13 +49,7 @@ fn begin_page(pages: &mut Vec<Page>, spare: &mut Vec<Page>, slot: Slot)
 
 /// Puts a row, whose page is at or behind a place, and its place there guessed. Answers where that page is, or its first part. Takes
 /// no memory.
-fn put(
-    pages: &mut Vec<Page>,
-    spare: &mut Vec<Page>,
-    from: usize,
-    slot: Slot,
-    guess: usize,
-) -> usize
+fn put(pages: &mut Vec<Page>, spare: &mut Vec<Page>, from: usize, slot: Slot, guess: usize) -> usize
     requires open { AreOpen pages.old.items }
     requires from { from ≤ home slot.0 pages.old.items }
     requires empty { AreEmpty spare.old.items }

@@ -95,6 +95,19 @@ fn drawn_entry(
     entry(alloc, NAMESPACE, key_of(at), number)
 }
 
+fn drawn_entries(
+    alloc: Global,
+    drawing: &mut Drawing,
+    noted: &mut Noted,
+    most: u8,
+) -> Result<Items<KeptEntry>, Failed> {
+    let mut entries = Items::new(alloc);
+    for _ in 0..drawing.up_to(most) {
+        entries.push(drawn_entry(alloc, drawing, noted)?)?;
+    }
+    Ok(entries)
+}
+
 fn drawn_use(drawing: &mut Drawing, noted: &mut Noted) -> NewUse {
     let id = drawing.id();
     let number = drawing.number();
@@ -143,7 +156,7 @@ fn block_of(alloc: Global, hash: [u8; 32]) -> Result<Shared<CommittedBlock>, Fai
 fn empty(alloc: Global, hash: [u8; 32]) -> Result<Delta, Failed> {
     Ok(Delta {
         changes: Items::new(alloc),
-        entries: Items::new(alloc),
+        entries: Shared::new(alloc, Items::new(alloc))?,
         uses: Items::new(alloc),
         definitions: Items::new(alloc),
         block: block_of(alloc, hash)?,
@@ -175,9 +188,7 @@ fn fill(
     for _ in 0..drawing.up_to(most) {
         delta.changes.push(change(alloc, drawing, noted)?)?;
     }
-    for _ in 0..drawing.up_to(most) {
-        delta.entries.push(drawn_entry(alloc, drawing, noted)?)?;
-    }
+    delta.entries = Shared::new(alloc, drawn_entries(alloc, drawing, noted, most)?)?;
     for _ in 0..drawing.up_to(most) {
         delta.uses.push(drawn_use(drawing, noted))?;
     }

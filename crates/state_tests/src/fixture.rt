@@ -4,7 +4,7 @@ use failing::Failed;
 use rules::{KeptEntry, KeptId, KeptKey, Row};
 use std::alloc::Global;
 use transaction::{TxId, Version};
-use values::{Bytes, BoundRef, Hash, KeyRef, NameRef, Part, Shared, is_bound, is_key, is_name};
+use values::{BoundRef, Bytes, Hash, KeyRef, NameRef, Part, Shared, is_bound, is_key, is_name};
 
 pub fn name(bytes: &[u8]) -> Result<NameRef<'_>, Failed> {
     if !is_name(bytes) {
@@ -70,12 +70,7 @@ pub fn kept_id(alloc: Global, id: TxId) -> Result<KeptId, Failed> {
 }
 
 /// A delete at a place of block 0.
-pub fn entry(
-    alloc: Global,
-    namespace: &[u8],
-    at: &[u8],
-    place: u32,
-) -> Result<KeptEntry, Failed> {
+pub fn entry(alloc: Global, namespace: &[u8], at: &[u8], place: u32) -> Result<KeptEntry, Failed> {
     let key = kept_key(alloc, namespace, at)?;
     let id = kept_id(alloc, [0; 64])?;
     Ok(KeptEntry::deleted(alloc, key, version_of(place), id)?)

@@ -34,11 +34,7 @@ fn is_put(row: Option<&Row>, number: Option<u32>) -> bool {
 }
 
 // Whether the entries are those that were noted of a key, the newest first.
-fn are_entries(
-    mut entries: Entries<'_>,
-    noted: &Noted,
-    at: usize,
-) -> Result<bool, AllocError> {
+fn are_entries(mut entries: Entries<'_>, noted: &Noted, at: usize) -> Result<bool, AllocError> {
     for (key, number) in noted.entries.iter().rev() {
         if *key == at {
             match entries.next() {

@@ -3,22 +3,29 @@
 use crate::fixture::{entry, key, name};
 use failing::Failed;
 use history_index::{Entries, HistoryIndex};
+use rules::KeptEntry;
 use std::alloc::{AllocError, Global};
+use values::{Items, Shared};
 
 // A key in its namespace, and the places of its entries.
 type Places = (&'static [u8], &'static [u8], &'static [u32]);
 
-fn add(
-    alloc: Global,
-    index: &mut HistoryIndex,
-    namespace: &[u8],
-    at: &[u8],
-    place: u32,
-) -> Result<(), Failed> {
-    if index.room() == 0 {
-        return Err(Failed::Missing("room"));
+// A key in its namespace, and the place of an entry.
+type Added<'a> = (&'a [u8], &'a [u8], u32);
+
+fn entries_of(alloc: Global, added: &[Added<'_>]) -> Result<Items<KeptEntry>, Failed> {
+    let mut entries = Items::new(alloc);
+    for &(namespace, at, place) in added {
+        entries.push(entry(alloc, namespace, at, place)?)?;
     }
-    index.add(entry(alloc, namespace, at, place)?);
+    Ok(entries)
+}
+
+// Adds entries in one list.
+fn add(alloc: Global, index: &mut HistoryIndex, added: &[Added<'_>]) -> Result<(), Failed> {
+    let entries = Shared::new(alloc, entries_of(alloc, added)?)?;
+    index.reserve(entries.get().len())?;
+    index.add(entries);
     Ok(())
 }
 
@@ -42,17 +49,16 @@ fn are_places(index: &HistoryIndex, keys: &[Places]) -> Result<bool, Failed> {
     Ok(true)
 }
 
-fn added() -> &'static [(&'static [u8], &'static [u8], u32)] {
+fn added() -> &'static [&'static [Added<'static>]] {
     &ADDED
 }
 
-// Keys in their namespaces, and the places of entries, in the order in which they are added.
-static ADDED: [(&[u8], &[u8], u32); 5] = [
-    (b"cc", b"k", 1),
-    (b"cc", b"l", 2),
-    (b"c", b"ck", 3),
-    (b"cc", b"k", 4),
-    (b"cc", b"k", 5),
+// Lists of entries, in the order in which they are added.
+static ADDED: [&[Added<'static>]; 4] = [
+    &[(b"cc", b"k", 1), (b"cc", b"l", 2)],
+    &[],
+    &[(b"c", b"ck", 3)],
+    &[(b"cc", b"k", 4), (b"cc", b"k", 5)],
 ];
 
 fn places_of_each() -> &'static [Places] {
@@ -67,12 +73,8 @@ static PLACES_OF_EACH: [Places; 4] = [
 ];
 
 fn is_each_apart(alloc: Global, index: &mut HistoryIndex) -> Result<bool, Failed> {
-    index.reserve(6)?;
-    for &(namespace, at, place) in added() {
-        add(alloc, index, namespace, at, place)?;
-    }
-    if index.room() != 1 {
-        return Ok(false);
+    for list in added() {
+        add(alloc, index, list)?;
     }
     are_places(index, places_of_each())
 }
@@ -89,8 +91,11 @@ static PLACES_OF_MANY: [Places; 2] = [
 // Of 1,000 entries at 300 keys, one key after the other.
 fn are_many(alloc: Global, index: &mut HistoryIndex) -> Result<bool, Failed> {
     for place in 0..1000u32 {
-        index.reserve(1)?;
-        add(alloc, index, b"cc", &(place % 300).to_be_bytes(), place)?;
+        add(
+            alloc,
+            index,
+            &[(b"cc", &(place % 300).to_be_bytes(), place)],
+        )?;
     }
     are_places(index, places_of_many())
 }

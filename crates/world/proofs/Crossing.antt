@@ -38,16 +38,16 @@ state_sync : IsSync state.the_row
 state_sync = search (crossing, policy_send, policy_sync) depth 40 fits 100000
 
 history_send : IsSend history.the_row
-history_send = search (crossing, maps.crosses, kept_entry_send) depth 40 fits 100000
+history_send = search (crossing, maps.crosses, kept_entry_send, kept_entry_sync) depth 40 fits 100000
 
 history_sync : IsSync history.the_row
-history_sync = search (crossing, maps.crosses, kept_entry_sync) depth 40 fits 100000
+history_sync = search (crossing, maps.crosses, kept_entry_send, kept_entry_sync) depth 40 fits 100000
 
 pub world_send : IsSend world.the_row
-world_send = search (crossing, state_send, history_send, ids.the_send, definitions_send, definitions_sync, committed.the_send, committed.the_sync, kept_entry_send) depth 40 fits 100000
+world_send = search (crossing, state_send, history_send, ids.the_send, definitions_send, definitions_sync, committed.the_send, committed.the_sync, kept_entry_send, kept_entry_sync) depth 40 fits 100000
 
 pub world_sync : IsSync world.the_row
-world_sync = search (crossing, state_sync, history_sync, ids.the_sync, definitions_send, definitions_sync, committed.the_send, committed.the_sync, kept_entry_sync) depth 40 fits 100000
+world_sync = search (crossing, state_sync, history_sync, ids.the_sync, definitions_send, definitions_sync, committed.the_send, committed.the_sync, kept_entry_send, kept_entry_sync) depth 40 fits 100000
 
 pub change_send : IsSend change.the_row
 change_send = search (crossing, policy_send, policy_sync) depth 40 fits 100000
@@ -56,10 +56,10 @@ change_sync : IsSync change.the_row
 change_sync = search (crossing, policy_send, policy_sync) depth 40 fits 100000
 
 pub delta_send : IsSend delta.the_row
-delta_send = search (crossing, change_send, kept_entry_send, new_use.the_send, new_definition_send, committed.the_send, committed.the_sync) depth 40 fits 100000
+delta_send = search (crossing, change_send, kept_entry_send, kept_entry_sync, new_use.the_send, new_definition_send, committed.the_send, committed.the_sync) depth 40 fits 100000
 
 pub delta_sync : IsSync delta.the_row
-delta_sync = search (crossing, change_sync, kept_entry_sync, new_use.the_sync, new_definition_sync, committed.the_send, committed.the_sync) depth 40 fits 100000
+delta_sync = search (crossing, change_sync, kept_entry_send, kept_entry_sync, new_use.the_sync, new_definition_sync, committed.the_send, committed.the_sync) depth 40 fits 100000
 
 pub edit_send : IsSend edit.the_row
 edit_send = search (crossing, policy_send, policy_sync) depth 40 fits 100000
@@ -74,4 +74,4 @@ pub ready_delta_send : IsSend ready.the_row
 ready_delta_send = search (crossing, in_ready_deltas) depth 40 fits 100000
 
 pub ready_delta_sync : IsSync ready.the_row
-ready_delta_sync = search (crossing, change_sync, edit_sync, kept_entry_sync, new_use.the_sync, new_definition_sync, committed.the_send, committed.the_sync) depth 40 fits 100000
+ready_delta_sync = search (crossing, change_sync, edit_sync, kept_entry_send, kept_entry_sync, new_use.the_sync, new_definition_sync, committed.the_send, committed.the_sync) depth 40 fits 100000

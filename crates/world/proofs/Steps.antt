@@ -3,18 +3,14 @@ use Rattle.std.proofs.Common.{◌≡◌, ℕ, ◌==◌, ◌+◌, ◌<◌, ◌≤
 use Rattle.std.specs.Prelude.{if◌then◌else◌}
 use Rattle.std.proofs.lemmas.Bool.{eqb-true}
 use Rattle.std.proofs.lemmas.List.{map_more}
-use Rattle.std.proofs.lemmas.List.{nil_from_length}
 use Rattle.std.specs.FinMap.{insert}
 use Rattle.policy.specs.Tree.{Tree}
 use Rattle.policy.specs.Policies.{Policies}
 use Rattle.rules.specs.declared.delta.NewDefinition.{NewDefinition}
-use Rattle.rules.specs.declared.delta.NewEntry.{NewEntry}
 use Rattle.rules.specs.declared.delta.NewUse.{NewUse}
-use Rattle.rules.specs.History.{History, with_entries}
 use Rattle.rules.specs.FirstUses.{FirstUses, with_uses}
 use Rattle.rules.specs.Definitions.{with_definitions}
-use Rattle.rules.specs.Delta.{entries_in, uses_in, definitions_in}
-use Rattle.rules.proofs.HistoryEntries.{with_entries-append, with_entries-none}
+use Rattle.rules.specs.Delta.{uses_in, definitions_in}
 use Rattle.rules.proofs.IdUses.{with_uses-append}
 
 pub uses_more : (uses : List NewUse) (i : ℕ) (d : NewUse) (first old new : FirstUses) → i < length uses
@@ -29,20 +25,6 @@ uses_more uses i d first old new lt made so_far =
 pub room_left : (b : Bool) (n i before after : ℕ) → after + (if b then 0 else 1) ≡ before → n ≤ i + before → n ≤ i + 1 + after
 room_left true n i before after e h = omega arith
 room_left false n i before after e h = omega arith
-
-pub entry_more : (e : NewEntry) (left rest : List NewEntry) (first old new : History) (all : List NewEntry) → left ≡ e ∷ rest
-    → new ≡ with_entries old ((e.key, e.entry) ∷ []) → with_entries old (entries_in left) ≡ with_entries first (entries_in all)
-    → with_entries new (entries_in rest) ≡ with_entries first (entries_in all)
-entry_more e left rest first old new all is made so_far =
-    ap (λ h. with_entries h (entries_in rest)) made
-    ∙ sym (with_entries-append old (entries_in (e ∷ [])) (entries_in rest))
-    ∙ ap (λ l. with_entries old (entries_in l)) (sym is)
-    ∙ so_far
-
-pub no_entry_left : (left all : List NewEntry) (first now : History) → length left ≡ 0 → with_entries now (entries_in left) ≡ with_entries first (entries_in all)
-    → now ≡ with_entries first (entries_in all)
-no_entry_left left all first now none so_far =
-    sym (with_entries-none now) ∙ ap (λ l. with_entries now (entries_in l)) (sym (nil_from_length left none)) ∙ so_far
 
 -- ---- the policies of chaincodes
 

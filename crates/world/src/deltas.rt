@@ -10,23 +10,7 @@ use policy::Definitions;
 use rules::{CommittedBlock, Delta, KeptEntry, NewDefinition, NewUse};
 use std::alloc::{AllocError, Global};
 use txid_index::TxIds;
-use values::Shared;
-
-/// The entries of a delta, with one owner more, in the room of a list that has none.
-fn share_entries(
-    room: Vec<KeptEntry>,
-    entries: &[KeptEntry],
-) -> Result<Vec<KeptEntry>, AllocError>
-    requires { room.items ≡ [] }
-    ensures { IfOk result (λ shared. shared.items ≡ entries.now) }
-{
-    let mut shared = room;
-    shared.reserve(entries.len())?;
-    for entry in entries {
-        shared.push(entry.share()?)?;
-    }
-    Ok(shared)
-}
+use values::{Items, Shared};
 
 fn add_definitions(
     alloc: Global,
@@ -71,7 +55,7 @@ pub(crate) fn share_definitions(
 /// What a world keeps of a delta; and the policies of chaincodes that it has behind it, where these change.
 #[derive(Drop)]
 pub(crate) struct Kept {
-    pub(crate) entries: Vec<KeptEntry>,
+    pub(crate) entries: Shared<Items<KeptEntry>>,
     pub(crate) definitions: Option<Shared<Definitions>>,
     pub(crate) block: Shared<CommittedBlock>,
 }
@@ -88,29 +72,25 @@ pub(crate) fn make_room(
     ensures ids { OnOk result (length delta.now.uses ≤ ids.new.room) }
     ensures blocks { OnOk result (vec_len blocks.new + 1 ≤ vec_capacity blocks.new) }
 {
-    history.reserve(delta.entries.len())?;
+    history.reserve(delta.entries.get().len())?;
     ids.reserve(delta.uses.len())?;
     blocks.reserve(1)?;
     Ok(())
 }
 
-/// What a world keeps of a delta that is lent, with one owner more, in the room of a list without entries.
+/// What a world keeps of a delta that is lent, with one owner more. Takes no memory.
 pub(crate) fn share_kept(
-    room: Vec<KeptEntry>,
     delta: &Delta,
     definitions: &Option<Shared<Definitions>>,
 ) -> Result<Kept, AllocError>
-    requires { room.items ≡ [] }
-    ensures entries { IfOk result (λ kept. kept.entries.items ≡ delta.now.entries) }
+    ensures entries { IfOk result (λ kept. kept.entries ≡ delta.now.entries) }
     ensures definitions { IfOk result (λ kept. kept.definitions ≡ definitions.now) }
     ensures block { IfOk result (λ kept. kept.block ≡ delta.now.block) }
 {
-    let block = delta.block.share()?;
-    let definitions = share_definitions(definitions)?;
     Ok(Kept {
-        entries: share_entries(room, delta.entries.as_slice())?,
-        definitions,
-        block,
+        entries: delta.entries.share()?,
+        definitions: share_definitions(definitions)?,
+        block: delta.block.share()?,
     })
 }
 
@@ -123,10 +103,10 @@ pub(crate) fn keep(
     kept: Kept,
     uses: &[NewUse],
 )
-    requires history { length kept.entries.items ≤ history.old.room }
+    requires history { length kept.entries ≤ history.old.room }
     requires ids { length uses.now ≤ ids.old.room }
     requires blocks { vec_len blocks.old + 1 ≤ vec_capacity blocks.old }
-    ensures history { history.new.history ≡ with_entries history.old.history (entries_in kept.entries.items) }
+    ensures history { history.new.history ≡ with_entries history.old.history (entries_in kept.entries) }
     ensures ids { ids.new.uses ≡ with_uses ids.old.uses (uses_in uses.now) }
     ensures definitions { (opened : Policies) → unwrap_or made.new opened ≡ unwrap_or kept.definitions (unwrap_or made.old opened) }
     ensures blocks { blocks.new.items ≡ blocks.old.items ++ kept.block ∷ [] }
@@ -136,22 +116,12 @@ pub(crate) fn keep(
         definitions,
         block,
     } = kept;
-    add_entries(history, entries);
+    history.add(entries);
     add_uses(ids, uses);
     if definitions.is_some() {
         *made = definitions;
     }
     blocks.push_reserved(block);
-}
-
-/// Takes no memory.
-fn add_entries(history: &mut HistoryIndex, entries: Vec<KeptEntry>)
-    requires { length entries.items ≤ history.old.room }
-    ensures { history.new.history ≡ with_entries history.old.history (entries_in entries.items) }
-{
-    for entry in entries {
-        history.add(entry);
-    }
 }
 
 /// Takes no memory.

@@ -53,7 +53,11 @@ impl ReadyDelta {
 
     /// The room that it takes in a world.
     pub fn room_in(&self, world: &World) -> Room {
-        world.room_for(self.delta.entries.len(), self.delta.uses.len(), &self.batch)
+        world.room_for(
+            self.delta.entries.get().len(),
+            self.delta.uses.len(),
+            &self.batch,
+        )
     }
 
     /// Makes of each state what the delta's changes make of it.

@@ -14,11 +14,10 @@ use crate::ready::ReadyDelta;
 use crate::room::Room;
 use history_index::{Entries, HistoryIndex};
 use policy::Definitions;
-use rules::{CommittedBlock, Delta, FirstUse, KeptEntry, Row};
+use rules::{CommittedBlock, Delta, FirstUse, Row};
 use state_db::{Batch, StateDb};
 use std::alloc::{AllocError, Global};
 use std::marker::Model;
-use std::mem::replace;
 use transaction::{BlockVersion, TxId};
 use txid_index::TxIds;
 use values::{BoundRef, Hash, KeyRef, NameRef, Shared};
@@ -34,8 +33,6 @@ pub struct World {
     opened: Definitions,
     made: Option<Shared<Definitions>>,
     blocks: Vec<Shared<CommittedBlock>>,
-    // room for the shares of a delta's entries
-    shares: Vec<KeptEntry>,
 }
 
 impl Model for World {
@@ -49,10 +46,6 @@ impl Model for World {
     ghost use Rattle.std.specs.Prelude.{unwrap_or};
 
     ghost view = { λ w. record { state = w.state.state; history = w.history.history; first_uses = w.ids.uses; definitions = unwrap_or w.made w.opened; blocks = w.blocks.items } };
-
-    ghost use Rattle.std.specs.Prelude.{◌≡◌, []};
-
-    ghost invariant = { λ w. w.shares.items ≡ [] };
 }
 
 impl World {
@@ -68,7 +61,6 @@ impl World {
             opened: definitions,
             made: None,
             blocks: Vec::new(alloc),
-            shares: Vec::new(alloc),
         }
     }
 
@@ -200,7 +192,6 @@ impl World {
         self.history.reserve(room.entries)?;
         self.ids.reserve(room.uses)?;
         self.blocks.reserve(1)?;
-        self.shares.reserve(room.entries)?;
         self.state.reserve(room.rows)
     }
 
@@ -263,8 +254,7 @@ impl World {
     {
         // all that may want memory
         make_room(&mut self.history, &mut self.ids, &mut self.blocks, delta)?;
-        let room = replace(&mut self.shares, Vec::new(self.alloc));
-        let kept = share_kept(room, delta, definitions)?;
+        let kept = share_kept(delta, definitions)?;
         self.state.apply(batch)?;
         // from here on nothing does
         keep(
@@ -312,7 +302,7 @@ impl World {
             block,
         } = delta;
         let kept = Kept {
-            entries: entries.into_vec(),
+            entries,
             definitions,
             block,
         };
