@@ -38,7 +38,7 @@ use block_steps::{DecodedBlock, LinkedBlock};
 use header_hash::{data_hash, header_hash};
 use policy::Definitions;
 use query::{Publisher, QueryHandle, open};
-use rules::{Change, CommittedBlock, Delta, FirstUse, Flag, HistoryEntry, KeptKey, KeyedRow, NewEntry, NewUse, Row};
+use rules::{Change, CommittedBlock, Delta, FirstUse, Flag, KeptEntry, KeptId, KeptKey, KeyedRow, NewUse, Row};
 use std::alloc::Global;
 use std::env;
 use std::io::Print;
@@ -48,7 +48,7 @@ use std::thread;
 use std::thread::Threads;
 use std::time::{Clock, Instant};
 use transaction::{BlockVersion, Version};
-use values::{Hash, Items, Key, KeyRef, Name, NameRef, Part, Shared, is_key, is_name};
+use values::{Bytes, Hash, Items, Key, KeyRef, Name, NameRef, Part, Shared, is_key, is_name};
 use world::World;
 
 const BLOCKS: u64 = 1_000;
@@ -91,12 +91,14 @@ struct Keys {
 /// What a delta changes, before its block is known.
 #[derive(Drop)]
 struct Changes {
+    // in which ids are looked for, and not found
+    bytes: Shared<Bytes>,
     changes: Items<Change>,
-    entries: Items<Shared<NewEntry>>,
+    entries: Items<KeptEntry>,
     uses: Items<NewUse>,
 }
 
-// Row and entry own one value, as they do behind a block.
+// The entry shares the row, as it does behind a block.
 fn put(alloc: Global, list: &mut Changes, version: Version, number: u64) -> anyhow::Result<()> {
     let namespace = name(b"cc")?;
     let bytes = key_bytes(number);
@@ -105,21 +107,14 @@ fn put(alloc: Global, list: &mut Changes, version: Version, number: u64) -> anyh
     let value = Part::copied(alloc, &[7; 100])?;
     let key = KeptKey::copied(alloc, &namespace, &key)?;
     let row = Row {
-        value: value.share()?,
+        value,
         version,
         policy: None,
     };
-    let keyed = KeyedRow::new(key.share()?, row);
-    list.changes.push(Change::Put(Shared::new(alloc, keyed)?))?;
-    let entry = NewEntry {
-        key,
-        entry: HistoryEntry {
-            version,
-            id,
-            value: Some(value),
-        },
-    };
-    list.entries.push(Shared::new(alloc, entry)?)?;
+    let keyed = Shared::new(alloc, KeyedRow::new(key, row))?;
+    let kept_id = KeptId::kept(alloc, &list.bytes, 0, &id)?;
+    list.entries.push(KeptEntry::written(keyed.share()?, kept_id))?;
+    list.changes.push(Change::Put(keyed))?;
     let first_use = FirstUse {
         block: version.block,
         place: version.tx,
@@ -131,6 +126,7 @@ fn put(alloc: Global, list: &mut Changes, version: Version, number: u64) -> anyh
 
 fn changes_at(alloc: Global, block: u64, keys: Keys) -> anyhow::Result<Changes> {
     let mut list = Changes {
+        bytes: Shared::new(alloc, Bytes::from_vec(Vec::new(alloc)))?,
         changes: Items::new(alloc),
         entries: Items::new(alloc),
         uses: Items::new(alloc),
@@ -163,6 +159,7 @@ fn block_at(
     Ok(CommittedBlock {
         bytes: Shared::new(alloc, bytes)?,
         header_hash: header_hash(&header),
+        commit_hash: [0; 32],
         version: BlockVersion::V1,
         flags: Items::new(alloc),
     })
@@ -175,6 +172,7 @@ fn delta_at(
     keys: Keys,
 ) -> anyhow::Result<Delta> {
     let Changes {
+        bytes: _bytes,
         changes,
         entries,
         uses,
@@ -182,7 +180,7 @@ fn delta_at(
     let block = block_at(alloc, number, previous)?;
     Ok(Delta {
         changes,
-        entries,
+        entries: Shared::new(alloc, entries)?,
         uses,
         definitions: Items::new(alloc),
         block: Shared::new(alloc, block)?,

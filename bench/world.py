@@ -29,7 +29,7 @@ PROGRAM = r"""
 
 use anyhow::bail;
 use policy::Definitions;
-use rules::{Change, CommittedBlock, Delta, FirstUse, Flag, HistoryEntry, KeptKey, KeyedRow, NewEntry, NewUse, Row};
+use rules::{Change, CommittedBlock, Delta, FirstUse, Flag, KeptEntry, KeptId, KeptKey, KeyedRow, NewUse, Row};
 use std::alloc::Global;
 use std::io::Print;
 use std::time::{Clock, Instant};
@@ -58,7 +58,7 @@ fn value(alloc: Global) -> anyhow::Result<Part> {
     Ok(Part::copied(alloc, &[7; 100])?)
 }
 
-fn change(alloc: Global, number: u64, version: Version, value: Part) -> anyhow::Result<Change> {
+fn row(alloc: Global, number: u64, version: Version, value: Part) -> anyhow::Result<Shared<KeyedRow>> {
     let namespace = namespace(alloc)?;
     let key = key(alloc, number)?;
     let row = Row {
@@ -67,26 +67,7 @@ fn change(alloc: Global, number: u64, version: Version, value: Part) -> anyhow::
         policy: None,
     };
     let key = KeptKey::copied(alloc, &namespace.lend(), &key.lend())?;
-    let keyed = KeyedRow::new(key, row);
-    Ok(Change::Put(Shared::new(alloc, keyed)?))
-}
-
-fn entry(
-    alloc: Global,
-    number: u64,
-    version: Version,
-    id: [u8; 64],
-    value: Part,
-) -> anyhow::Result<Shared<NewEntry>> {
-    let entry = NewEntry {
-        key: KeptKey::copied(alloc, &namespace(alloc)?.lend(), &key(alloc, number)?.lend())?,
-        entry: HistoryEntry {
-            version,
-            id,
-            value: Some(value),
-        },
-    };
-    Ok(Shared::new(alloc, entry)?)
+    Ok(Shared::new(alloc, KeyedRow::new(key, row))?)
 }
 
 fn id_of(block: u64, place: u32) -> [u8; 64] {
@@ -128,26 +109,28 @@ fn delta_of(alloc: Global, block: u64, count: u32, keys: Keys) -> anyhow::Result
     let mut changes = Items::new(alloc);
     let mut entries = Items::new(alloc);
     let mut uses = Items::new(alloc);
+    let bytes = Shared::new(alloc, Bytes::from_vec(Vec::new(alloc)))?;
     for place in 0..count {
         let number = keys.number(place);
         let version = Version { block, tx: place };
         let id = id_of(block, place);
-        // row and entry own one value, as they do behind a block
-        let value = value(alloc)?;
-        changes.push(change(alloc, number, version, value.share()?)?)?;
-        entries.push(entry(alloc, number, version, id, value)?)?;
+        // the entry shares the row, as it does behind a block
+        let row = row(alloc, number, version, value(alloc)?)?;
+        entries.push(KeptEntry::written(row.share()?, KeptId::kept(alloc, &bytes, 0, &id)?))?;
+        changes.push(Change::Put(row))?;
         let first_use = FirstUse { block, place, flag: Flag::Valid };
         uses.push(NewUse { id, first_use })?;
     }
     let block = CommittedBlock {
-        bytes: Shared::new(alloc, Bytes::from_vec(Vec::new(alloc)))?,
+        bytes,
         header_hash: [0; 32],
+        commit_hash: [0; 32],
         version: BlockVersion::V1,
         flags: Items::new(alloc),
     };
     Ok(Delta {
         changes,
-        entries,
+        entries: Shared::new(alloc, entries)?,
         uses,
         definitions: Items::new(alloc),
         block: Shared::new(alloc, block)?,
@@ -189,10 +172,9 @@ fn looked_at(delta: &Delta) -> u64 {
             sum = sum.wrapping_add(1);
         }
     }
-    for entry in delta.entries.as_slice() {
-        let entry = entry.get();
-        sum = sum.wrapping_add(entry.entry.version.block);
-        let (namespace, key) = (entry.key.namespace(), entry.key.key());
+    for entry in delta.entries.get().as_slice() {
+        sum = sum.wrapping_add(entry.key().as_slice().len() as u64);
+        let (namespace, key) = (entry.namespace(), entry.key());
         if key.as_slice().contains(&0) && namespace.as_slice().contains(&0) {
             sum = sum.wrapping_add(1);
         }
