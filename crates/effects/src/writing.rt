@@ -198,5 +198,7 @@ pub(crate) fn write_block(
             flags[i as usize],
         )?;
     }
+    // worlds keep the list, which is shorter where transactions are invalid
+    entries.shrink_to_fit();
     Ok(Written { rows, entries })
 }

@@ -1,5 +1,5 @@
--- A step between the history and the code: entries in the order in which they came, each with the place of the last one
--- before it whose key has the same hash.
+-- A step between the history and the code: entries in the order in which they came, which stand in shared lists, and how they are
+-- linked by the hashes of their keys.
 use Rattle.std.specs.Prelude.{◌≡◌, ℕ, ◌+◌, ◌<◌, ◌≤◌, ◌==◌, List, [], Bool, length, map, take, get_or, unwrap_or, None}
 use Rattle.std.specs.FinMap.{empty}
 use Rattle.std.specs.Map.{lookup}
@@ -12,6 +12,7 @@ use Rattle.history_index.specs.declared.log.Logged.{Logged}
 use Rattle.history_index.specs.Hash.{key_hash}
 use Rattle.history_index.specs.Places.{last_place}
 
+-- an entry, and the place of the last one before it whose key has the same hash
 pub record Linked : Type 0 where
   pub entry : NewEntry
   pub older : ℕ

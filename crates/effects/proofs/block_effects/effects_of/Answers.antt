@@ -1,4 +1,4 @@
-use Rattle.std.proofs.Common.{List, length, sym, ap, subst, ◌∙◌}
+use Rattle.std.proofs.Common.{List, sym, ap, subst, ◌∙◌}
 use Rattle.std.proofs.lemmas.List.{length-map}
 use Rattle.rules.specs.State.{StateKey, with_changes}
 use Rattle.rules.specs.Delta.{AreRealChanges}
