@@ -25,7 +25,7 @@ fn cells_at(known: &KnownCase, i: u32) -> Cells {
 }
 
 // A board on which this is known of the job's transactions.
-fn board_of(alloc: Global, job: &Job<'_>, known: &KnownCase) -> Result<PlainBoard, AllocError>
+fn board_of(alloc: Global, job: &Job<'_, '_>, known: &KnownCase) -> Result<PlainBoard, AllocError>
     ensures { IfOk result (λ board. length board ≡ length job.now.candidates) }
 {
     let count = job.len();
@@ -38,7 +38,7 @@ fn board_of(alloc: Global, job: &Job<'_>, known: &KnownCase) -> Result<PlainBoar
 
 fn endorsement(
     alloc: Global,
-    job: &Job<'_>,
+    job: &Job<'_, '_>,
     known: &KnownCase,
     i: u32,
 ) -> Result<Decision<bool>, Failed> {
@@ -51,7 +51,7 @@ fn endorsement(
 
 fn reads(
     alloc: Global,
-    job: &Job<'_>,
+    job: &Job<'_, '_>,
     known: &KnownCase,
     i: u32,
 ) -> Result<Decision<ReadVerdict>, Failed> {
@@ -64,7 +64,7 @@ fn reads(
 
 fn version(
     alloc: Global,
-    job: &Job<'_>,
+    job: &Job<'_, '_>,
     known: &KnownCase,
     i: u32,
     place: KeyPlace,
@@ -88,7 +88,7 @@ pub struct Said {
 
 fn said_over(
     alloc: Global,
-    job: &Job<'_>,
+    job: &Job<'_, '_>,
     known: &KnownCase,
     i: u32,
     place: KeyPlace,
@@ -105,7 +105,7 @@ pub type Answers = [Option<Said>; TXS];
 
 fn all_over(
     alloc: Global,
-    job: &Job<'_>,
+    job: &Job<'_, '_>,
     known: &KnownCase,
     place: KeyPlace,
 ) -> Result<Answers, Failed> {

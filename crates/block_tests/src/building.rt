@@ -254,7 +254,7 @@ impl Ground {
         })
     }
 
-    pub fn job(&self, alloc: Global, case: &JobCase) -> Result<Job<'_>, Failed> {
+    pub fn job(&self, alloc: Global, case: &JobCase) -> Result<Job<'_, '_>, Failed> {
         let candidates = candidates_of(alloc, &self.definitions, case, &self.bytes)?;
         if candidates.as_slice().len() > MAX_TXS {
             return Err(Failed::Missing("a job"));

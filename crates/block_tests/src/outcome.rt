@@ -22,13 +22,13 @@ pub struct Outcome {
     pub definition: Option<Rule>,
 }
 
-fn has_flags(alloc: Global, job: &Job<'_>, wanted: &[Flag]) -> Result<bool, Failed> {
+fn has_flags(alloc: Global, job: &Job<'_, '_>, wanted: &[Flag]) -> Result<bool, Failed> {
     let flags = flags(alloc, job)?;
     Ok(flags.as_slice() == wanted)
 }
 
 // The effects keep copies of what is written.
-fn effects(alloc: Global, job: &Job<'_>) -> Result<Effects, Failed> {
+fn effects(alloc: Global, job: &Job<'_, '_>) -> Result<Effects, Failed> {
     let flags = flags(alloc, job)?;
     let bytes = Shared::new(alloc, Bytes::from_vec(Vec::new(alloc)))?;
     Ok(effects_of(alloc, job, flags.as_slice(), &bytes, &[])?)
@@ -69,7 +69,7 @@ fn are_effects(alloc: Global, effects: &Effects, wanted: &Outcome) -> Result<boo
     are_definitions(alloc, effects.definitions.as_slice(), wanted.definition)
 }
 
-fn is_outcome(alloc: Global, job: &Job<'_>, wanted: &Outcome) -> Result<bool, Failed> {
+fn is_outcome(alloc: Global, job: &Job<'_, '_>, wanted: &Outcome) -> Result<bool, Failed> {
     if !has_flags(alloc, job, wanted.flags)? {
         return Ok(false);
     }

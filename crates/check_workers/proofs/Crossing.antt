@@ -35,8 +35,8 @@ state_sync = search (crossing, policy_send, policy_sync) depth 40 fits 100000
 candidate_sync : (ℓ : NamedLft) → IsSync (candidate.the_row ℓ)
 candidate_sync ℓ = search (crossing, policy_send, policy_sync) depth 40 fits 100000
 
-fields_sync : (ℓ : NamedLft) → IsSync (inside.the_row ℓ)
-fields_sync ℓ = recorded_sync _ _ ((inside.the_type ℓ).to) ((inside.the_type ℓ).to_one) (struct_sync (shape (inside.the_type ℓ)) (
+fields_sync : (ℓ κ : NamedLft) → IsSync (inside.the_row ℓ κ)
+fields_sync ℓ κ = recorded_sync _ _ ((inside.the_type ℓ κ).to) ((inside.the_type ℓ κ).to_one) (struct_sync (shape (inside.the_type ℓ κ)) (
   search crossing depth 20,
   (
     (search (crossing, state_sync) depth 20 fits 10000),
@@ -59,5 +59,5 @@ fields_sync ℓ = recorded_sync _ _ ((inside.the_type ℓ).to) ((inside.the_type
   ),
 ))
 
-pub job_sync : (ℓ : NamedLft) → IsSync (job.the_row ℓ)
-job_sync ℓ = view_sync (inside.the_row ℓ) _ _ _ _ (fields_sync ℓ)
+pub job_sync : (ℓ κ : NamedLft) → IsSync (job.the_row ℓ κ)
+job_sync ℓ κ = view_sync (inside.the_row ℓ κ) _ _ _ _ (fields_sync ℓ κ)

@@ -1,9 +1,10 @@
-ghost use Rattle.std.specs.Prelude.{◌≡◌, ◌*◌, ◌≤◌, [], length, replicate, IfOk};
+ghost use Rattle.std.specs.Prelude.{◌≡◌, ◌<◌, ◌*◌, ◌≤◌, [], length, replicate, IfOk};
 ghost use Rattle.rules.specs.Fold as fold;
 ghost use Rattle.check_workers.specs.Limits.{max_workers};
 ghost use Rattle.check_workers.specs.Words.{fresh};
 
 use crate::gathering::gather;
+use crate::lent::Lent;
 use crate::rule::{Place, Words};
 use crate::seat::VerdictSeat;
 use crate::turns::Turns;
@@ -31,14 +32,37 @@ fn zero_words(alloc: Global, count: usize) -> Result<Vec<u64>, AllocError>
 }
 
 /// The words of a job, all unknown, and the first seat.
-fn open<'a>(alloc: Global, job: &Job<'a>) -> Result<(Words<'a>, Place), AllocError>
-    ensures key { IfOk result (λ t. t.0.shared.key ≡ job.now) }
-    ensures words { IfOk result (λ t. t.0.shared.table_id.words ≡ 2 * length job.now.candidates) }
+fn open<'a>(alloc: Global, lent: &Lent<'a>) -> Result<(Words<'a>, Place), AllocError>
+    ensures key { IfOk result (λ t. t.0.shared.key ≡ lent.now) }
+    ensures words { IfOk result (λ t. t.0.shared.table_id.words ≡ 2 * length lent.now.candidates) }
     ensures table { IfOk result (λ t. t.1.table_id ≡ t.0.shared.table_id) }
-    ensures fresh { IfOk result (λ t. t.1.me ≡ (fresh job.now, [])) }
+    ensures fresh { IfOk result (λ t. t.1.me ≡ (fresh lent.now, [])) }
 {
-    let zeros = zero_words(alloc, 2 * job.len() as usize)?;
-    Words::of_words(alloc, zeros.as_slice(), job)
+    let zeros = zero_words(alloc, 2 * lent.job().len() as usize)?;
+    Words::of_words(alloc, zeros.as_slice(), lent)
+}
+
+/// Those of a job that has some.
+fn check_some<'j, R: Threads + Wait + Sync, G: Gate + Sync>(
+    rt: &R,
+    alloc: Global,
+    job: &'j Job<'j, 'j>,
+    workers: usize,
+    gate: &G,
+) -> Result<Checked, AllocError>
+    requires workers { (1 ≤ workers) × (workers ≤ max_workers) }
+    requires some { 0 < length job.now.candidates }
+    ensures { IfOk result (λ c. c.flags.items ≡ fold.flags job.now) }
+{
+    let lent = Lent::new(job);
+    let (words, place) = open(alloc, &lent)?;
+    let count = job.len();
+    let workers = workers.min(count as usize);
+    let turns = Turns::new(alloc, count, workers as u32)?;
+    let steps = &words.shared;
+    run(rt, alloc, &lent, steps, &turns, workers, gate);
+    let mut seat = VerdictSeat::first(steps, place);
+    gather(alloc, job, &mut seat)
 }
 
 /// The flags of a job's candidates, found by so many workers, each but one in a thread of its own, in whatever order they come
@@ -51,25 +75,18 @@ fn open<'a>(alloc: Global, job: &Job<'a>) -> Result<(Words<'a>, Place), AllocErr
 pub fn check_all<R: Threads + Wait + Sync, G: Gate + Sync>(
     rt: &R,
     alloc: Global,
-    job: &Job<'_>,
+    job: &Job<'_, '_>,
     workers: usize,
     gate: &G,
 ) -> Result<Checked, AllocError>
     requires workers { (1 ≤ workers) × (workers ≤ max_workers) }
     ensures { IfOk result (λ c. c.flags.items ≡ fold.flags job.now) }
 {
-    let count = job.len();
-    if count == 0 {
+    if job.len() == 0 {
         return Ok(Checked {
             flags: Vec::new(alloc),
             gathered: 0,
         });
     }
-    let (words, place) = open(alloc, job)?;
-    let workers = workers.min(count as usize);
-    let turns = Turns::new(alloc, count, workers as u32)?;
-    let steps = &words.shared;
-    run(rt, alloc, job, steps, &turns, workers, gate);
-    let mut seat = VerdictSeat::first(steps, place);
-    gather(alloc, job, &mut seat)
+    check_some(rt, alloc, job, workers, gate)
 }

@@ -11,7 +11,7 @@ use rules::Flag;
 use std::alloc::{AllocError, Global};
 
 /// Settles a task where it is unknown, and counts it. All that it may wait for is known.
-fn gather_one(job: &Job<'_>, seat: &mut VerdictSeat<'_, '_>, task: u32) -> u32
+fn gather_one(job: &Job<'_, '_>, seat: &mut VerdictSeat<'_, '_>, task: u32) -> u32
     requires job { seat.old.job ≡ job.now }
     requires task { task < 2 * length job.now.candidates }
     requires before { (h : ℕ) → h < task → IsKnown seat.old.known h }
@@ -29,7 +29,7 @@ fn gather_one(job: &Job<'_>, seat: &mut VerdictSeat<'_, '_>, task: u32) -> u32
 }
 
 /// The flag of a candidate, once what is unknown of its two verdicts is settled, and how many that were.
-fn gather_both(job: &Job<'_>, seat: &mut VerdictSeat<'_, '_>, i: u32) -> (Flag, u32)
+fn gather_both(job: &Job<'_, '_>, seat: &mut VerdictSeat<'_, '_>, i: u32) -> (Flag, u32)
     requires job { seat.old.job ≡ job.now }
     requires place { (i < length job.now.candidates) × (2 * i + 1 < 2 ^ 32) }
     requires before { (h : ℕ) → h < 2 * i → IsKnown seat.old.known h }
@@ -46,7 +46,7 @@ fn gather_both(job: &Job<'_>, seat: &mut VerdictSeat<'_, '_>, i: u32) -> (Flag, 
 /// The flags, once what is unknown is settled in the order of the tasks, and how many verdicts that were.
 pub(crate) fn gather(
     alloc: Global,
-    job: &Job<'_>,
+    job: &Job<'_, '_>,
     seat: &mut VerdictSeat<'_, '_>,
 ) -> Result<Checked, AllocError>
     requires { seat.old.job ≡ job.now }

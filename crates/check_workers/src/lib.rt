@@ -9,6 +9,7 @@ mod checking;
 mod deques;
 mod gathering;
 mod laws;
+mod lent;
 mod rule;
 mod seat;
 mod turns;

@@ -1,13 +1,13 @@
 //! The words of one job, their rule and their steps.
+use crate::lent::Lent;
 use crate::view::View;
 use atomic_table::{Play, Seat, Shared, Table, TableRule};
-use key_chains::Job;
 use std::alloc::Global;
 
 /// Each word is unknown or the fold's verdict.
 pub struct IsFound;
 
-impl<'a> TableRule<u8, View, Job<'a>> for IsFound {
+impl<'a> TableRule<u8, View, Lent<'a>> for IsFound {
     ghost use Rattle.check_workers.specs.Words as words;
 
     ghost holds = { words.IsFound };
@@ -33,8 +33,8 @@ impl Play<u8, View> for Begins {
     ghost then = { begins };
 }
 
-pub(crate) type Words<'a> = Table<u8, View, Job<'a>, IsFound, Global>;
+pub(crate) type Words<'a> = Table<u8, View, Lent<'a>, IsFound, Global>;
 
-pub(crate) type Steps<'a> = Shared<u8, View, Job<'a>, IsFound>;
+pub(crate) type Steps<'a> = Shared<u8, View, Lent<'a>, IsFound>;
 
 pub(crate) type Place = Seat<u8, View>;

@@ -104,7 +104,7 @@ impl<'t, 'a> VerdictSeat<'t, 'a> {
         flag
     }
 
-    fn settle_endorsement(&mut self, job: &Job<'_>, i: u32) -> Decision<()>
+    fn settle_endorsement(&mut self, job: &Job<'_, '_>, i: u32) -> Decision<()>
         requires job { self.old.job ≡ job.now }
         requires place { (i < length job.now.candidates) × (2 * i + 1 < 2 ^ 32) }
         ensures moves { Moves self.old self.new }
@@ -122,7 +122,7 @@ impl<'t, 'a> VerdictSeat<'t, 'a> {
     }
 
     /// The flag of a candidate that is open and endorsed.
-    fn settle_reads(&mut self, job: &Job<'_>, i: u32) -> Decision<()>
+    fn settle_reads(&mut self, job: &Job<'_, '_>, i: u32) -> Decision<()>
         requires job { self.old.job ≡ job.now }
         requires place { (i < length job.now.candidates) × (2 * i + 1 < 2 ^ 32) }
         requires open_tx { IsOpen job.now i }
@@ -144,7 +144,7 @@ impl<'t, 'a> VerdictSeat<'t, 'a> {
         }
     }
 
-    fn settle_flag(&mut self, job: &Job<'_>, i: u32) -> Decision<()>
+    fn settle_flag(&mut self, job: &Job<'_, '_>, i: u32) -> Decision<()>
         requires job { self.old.job ≡ job.now }
         requires place { (i < length job.now.candidates) × (2 * i + 1 < 2 ^ 32) }
         ensures moves { Moves self.old self.new }
@@ -173,7 +173,7 @@ impl<'t, 'a> VerdictSeat<'t, 'a> {
     /// `Blocked` names a smaller task that it waits for, whose verdict this seat doesn't know: the endorsement check of
     /// the same candidate, which is open, or a check of the same kind that this one depends on. What the seat knows then shows a
     /// sound board of the verdict machine. Takes no memory; costs what the check costs.
-    pub fn settle(&mut self, job: &Job<'_>, task: u32) -> Decision<()>
+    pub fn settle(&mut self, job: &Job<'_, '_>, task: u32) -> Decision<()>
         requires job { self.old.job ≡ job.now }
         requires task { task < 2 * length job.now.candidates }
         ensures moves { Moves self.old self.new }

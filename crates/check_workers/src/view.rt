@@ -5,5 +5,5 @@ use std::collections::LinkedList;
 /// value of it is made.
 pub struct View {
     pub known: LinkedList<u64>,
-    pub job: Job<'static>,
+    pub job: Job<'static, 'static>,
 }

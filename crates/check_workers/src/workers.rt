@@ -1,6 +1,7 @@
 ghost use Rattle.std.specs.Prelude.{◌≡◌, ◌*◌, ◌<◌, ◌≤◌, All, length};
 
 use crate::deques::{Owner, Tasks, Thief, deques, pop, steal};
+use crate::lent::Lent;
 use crate::rule::Steps;
 use crate::seat::VerdictSeat;
 use crate::turns::{Kept, MOST, Settled, Settlings, Turn, Turns};
@@ -22,7 +23,7 @@ fn phase_of(task: u32) -> Phase {
 
 /// Passes the gate, and tries to settle a task.
 fn settle_one<G: Gate>(
-    job: &Job<'_>,
+    job: &Job<'_, '_>,
     seat: &mut VerdictSeat<'_, '_>,
     gate: &G,
     task: u32,
@@ -38,7 +39,7 @@ fn settle_one<G: Gate>(
 
 /// Settles the tasks that a worker keeps, and then those of its own deque.
 fn settle_own<J: Tasks, G: Gate>(
-    job: &Job<'_>,
+    job: &Job<'_, '_>,
     seat: &mut VerdictSeat<'_, '_>,
     gate: &G,
     kept: &[u32],
@@ -66,7 +67,7 @@ fn settle_own<J: Tasks, G: Gate>(
 /// Settles tasks that a worker steals, until each deque is empty in one pass.
 fn settle_stolen<J: Tasks, R: Wait, G: Gate>(
     rt: &R,
-    job: &Job<'_>,
+    job: &Job<'_, '_>,
     seat: &mut VerdictSeat<'_, '_>,
     gate: &G,
     thieves: &[Thief<J>],
@@ -88,7 +89,7 @@ fn settle_stolen<J: Tasks, R: Wait, G: Gate>(
 /// One worker: settles tasks until nothing is left for it.
 fn work<J: Tasks, R: Wait, G: Gate>(
     rt: &R,
-    job: &Job<'_>,
+    job: &Job<'_, '_>,
     steps: &Steps<'_>,
     turns: &Turns,
     own: Owner<J>,
@@ -136,16 +137,16 @@ fn work<J: Tasks, R: Wait, G: Gate>(
 fn run_all<J: Tasks + Send + Sync, R: Threads + Wait + Sync, G: Gate + Sync>(
     rt: &R,
     alloc: Global,
-    job: &Job<'_>,
+    lent: &Lent<'_>,
     steps: &Steps<'_>,
     turns: &Turns,
     workers: usize,
     gate: &G,
 )
-    requires job { steps.now.key ≡ job.now }
-    requires words { steps.now.table_id.words ≡ 2 * length job.now.candidates }
-    requires some { 0 < length job.now.candidates }
-    requires tasks { 2 * length job.now.candidates ≡ J.tasks }
+    requires job { steps.now.key ≡ lent.now }
+    requires words { steps.now.table_id.words ≡ 2 * length lent.now.candidates }
+    requires some { 0 < length lent.now.candidates }
+    requires tasks { 2 * length lent.now.candidates ≡ J.tasks }
 {
     let (mut owners, thieves) = deques::<J>(alloc, workers);
     let thieves = thieves.as_slice();
@@ -154,18 +155,18 @@ fn run_all<J: Tasks + Send + Sync, R: Threads + Wait + Sync, G: Gate + Sync>(
         thread::scope_env(),
         rt,
         |scope|
-            requires { (steps.now.key ≡ job.now) × (steps.now.table_id.words ≡ 2 * length job.now.candidates) × (0 < length job.now.candidates) × (2 * length job.now.candidates ≡ J.tasks) }
+            requires { (steps.now.key ≡ lent.now) × (steps.now.table_id.words ≡ 2 * length lent.now.candidates) × (0 < length lent.now.candidates) × (2 * length lent.now.candidates ≡ J.tasks) }
         {
             for own in owners {
                 let worker = move ||
-                    requires { (steps.now.key ≡ job.now) × (steps.now.table_id.words ≡ 2 * length job.now.candidates) × (0 < length job.now.candidates) × (2 * length job.now.candidates ≡ J.tasks) }
-                { work(rt, job, steps, turns, own, thieves, gate) };
+                    requires { (steps.now.key ≡ lent.now) × (steps.now.table_id.words ≡ 2 * length lent.now.candidates) × (0 < length lent.now.candidates) × (2 * length lent.now.candidates ≡ J.tasks) }
+                { work(rt, lent.job(), steps, turns, own, thieves, gate) };
                 if scope.spawn(worker).is_err() {
                     break;
                 }
             }
             if let Some(own) = last {
-                work(rt, job, steps, turns, own, thieves, gate);
+                work(rt, lent.job(), steps, turns, own, thieves, gate);
             }
         },
     );
@@ -176,15 +177,15 @@ fn run_all<J: Tasks + Send + Sync, R: Threads + Wait + Sync, G: Gate + Sync>(
 pub(crate) fn run<R: Threads + Wait + Sync, G: Gate + Sync>(
     rt: &R,
     alloc: Global,
-    job: &Job<'_>,
+    lent: &Lent<'_>,
     steps: &Steps<'_>,
     turns: &Turns,
     workers: usize,
     gate: &G,
 )
-    requires job { steps.now.key ≡ job.now }
-    requires words { steps.now.table_id.words ≡ 2 * length job.now.candidates }
-    requires some { 0 < length job.now.candidates }
+    requires job { steps.now.key ≡ lent.now }
+    requires words { steps.now.table_id.words ≡ 2 * length lent.now.candidates }
+    requires some { 0 < length lent.now.candidates }
 {
-    run_all::<Brand, R, G>(rt, alloc, job, steps, turns, workers, gate);
+    run_all::<Brand, R, G>(rt, alloc, lent, steps, turns, workers, gate);
 }

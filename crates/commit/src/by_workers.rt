@@ -15,7 +15,7 @@ use block_steps::{DecodedBlock, LinkedBlock};
 use check_workers::check_all;
 use gates::Gate;
 use intake_workers::{Handed, Hashed};
-use key_chains::Job;
+use key_chains::{Chained, Job};
 use ledger::{Unhashed, foreseen_job, unhashed_of};
 use policy_eval::Verify;
 use rules::Refused;
@@ -87,7 +87,7 @@ fn checked_delta<R: Threads + Wait + Sync, V, G: Gate + Sync>(
     checkers: Workers,
     bytes: Shared<Bytes>,
     block: &LinkedBlock<'_>,
-    job: &Job<'_>,
+    job: &Job<'_, '_>,
     ids: &[Option<TxId>],
     last: Option<Hash>,
 ) -> Result<(Unhashed, u32), Refused>
@@ -103,13 +103,15 @@ fn checked_delta<R: Threads + Wait + Sync, V, G: Gate + Sync>(
 /// What the block that was taken in would change, but for its commit hash, or why it would be refused; and how many verdicts no
 /// worker had found.
 ///
-/// Used ids are marked in order, and rows looked up; both checks are done by so many workers.
-pub(crate) fn next_delta<R: Threads + Wait + Sync, V: Verify, G: Gate + Sync>(
+/// Used ids are marked in order, and rows looked up; both checks are done by so many workers. What its job had of the block is left in
+/// `spent`, for to drop it takes a while.
+pub(crate) fn next_delta<'b, R: Threads + Wait + Sync, V: Verify, G: Gate + Sync>(
     means: &Means<'_, R, V, G>,
     world: &World,
     checkers: Workers,
     bytes: &[u8],
-    prepared: Prepared<'_>,
+    prepared: Prepared<'b>,
+    spent: &mut Option<Chained<'b>>,
 ) -> Result<(Unhashed, u32), Refused>
     requires prepared { IsPrepared means.now.channel.now (V.accepts means.now.verifier.now) bytes.now prepared }
     requires names { HasNamesOf means.now.channel.now world.now }
@@ -120,7 +122,7 @@ pub(crate) fn next_delta<R: Threads + Wait + Sync, V: Verify, G: Gate + Sync>(
     let Prepared { hashed, foreseen } = prepared;
     let (block, kept) = linked(world, hashed)?;
     let (job, ids) = foreseen_job(means.alloc, means.channel, world, foreseen)?;
-    checked_delta(
+    let delta = checked_delta(
         means,
         checkers,
         kept,
@@ -128,5 +130,7 @@ pub(crate) fn next_delta<R: Threads + Wait + Sync, V: Verify, G: Gate + Sync>(
         &job,
         ids.as_slice(),
         world.commit_hash(),
-    )
+    );
+    *spent = Some(job.into_chained());
+    delta
 }

@@ -134,12 +134,14 @@ impl Published {
         if self.publisher.failed() {
             return Err(NotCommitted::Stopped);
         }
+        let mut spent = None;
         let (unhashed, gathered) = next_delta(
             means,
             self.publisher.published(),
             checkers,
             bytes,
             prepared?,
+            &mut spent,
         )?;
         let Ok(delta) = hashed(
             means.rt,
@@ -147,6 +149,7 @@ impl Published {
             means.workers,
             &mut self.publisher,
             unhashed,
+            spent,
             ahead,
         ) else {
             return Err(NotCommitted::Refused(Refused::Memory));

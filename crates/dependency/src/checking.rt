@@ -36,7 +36,7 @@ fn set_flag(board: &mut PlainBoard, i: u32, flag: Flag)
 }
 
 /// The endorsement check of candidate i.
-fn check_endorsement(job: &Job<'_>, i: u32, board: &mut PlainBoard)
+fn check_endorsement(job: &Job<'_, '_>, i: u32, board: &mut PlainBoard)
     requires { length board.old ≡ length job.now.candidates }
     ensures { MachineStep job.now (Endorse i) (board_of board.old) (board_of board.new) }
 {
@@ -52,7 +52,7 @@ fn check_endorsement(job: &Job<'_>, i: u32, board: &mut PlainBoard)
 }
 
 /// The read check of candidate i.
-fn check_reads(job: &Job<'_>, i: u32, board: &mut PlainBoard)
+fn check_reads(job: &Job<'_, '_>, i: u32, board: &mut PlainBoard)
     requires { length board.old ≡ length job.now.candidates }
     ensures { MachineStep job.now (Reads i) (board_of board.old) (board_of board.new) }
 {
@@ -75,7 +75,7 @@ fn check_reads(job: &Job<'_>, i: u32, board: &mut PlainBoard)
 }
 
 /// One check. One that is out of range, repeated or too early changes nothing.
-pub(crate) fn check(job: &Job<'_>, event: Event, board: &mut PlainBoard)
+pub(crate) fn check(job: &Job<'_, '_>, event: Event, board: &mut PlainBoard)
     requires { length board.old ≡ length job.now.candidates }
     ensures { MachineStep job.now event (board_of board.old) (board_of board.new) }
 {

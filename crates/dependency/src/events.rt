@@ -9,7 +9,7 @@ use rules::Event;
 use std::alloc::{AllocError, Global};
 
 /// What is known before any check: the flagged candidates' cells.
-fn first_board(alloc: Global, job: &Job<'_>) -> Result<PlainBoard, AllocError>
+fn first_board(alloc: Global, job: &Job<'_, '_>) -> Result<PlainBoard, AllocError>
     ensures { IfOk result (λ b. b ≡ map first_cells job.now.candidates) }
 {
     let count = job.len();
@@ -34,7 +34,11 @@ fn first_board(alloc: Global, job: &Job<'_>) -> Result<PlainBoard, AllocError>
 /// does a read check, once the endorsement's is known; where that is no, the flag is that of a refused one. A check that
 /// comes too early or twice, or whose number is out of range, changes nothing. Whatever the checks and their order, each
 /// known cell is the verdict of the candidates taken one by one. Costs what each check costs.
-pub fn run_events(alloc: Global, job: &Job<'_>, events: &[Event]) -> Result<EventBoard, AllocError>
+pub fn run_events(
+    alloc: Global,
+    job: &Job<'_, '_>,
+    events: &[Event],
+) -> Result<EventBoard, AllocError>
     ensures run { IfOk result (λ b. Run job.now (first_board job.now) events.now b) }
     ensures fold { IfOk result (λ b. ShowsFold job.now b) }
 {

@@ -36,7 +36,7 @@ pub struct Effects {
 /// there isn't copied. Definitions are copied from their updates.
 pub fn effects_of(
     alloc: Global,
-    job: &Job<'_>,
+    job: &Job<'_, '_>,
     flags: &[Flag],
     bytes: &Shared<Bytes>,
     starts: &[usize],

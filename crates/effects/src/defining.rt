@@ -52,7 +52,7 @@ fn add_definition(
 fn take(
     alloc: Global,
     definitions: &mut Vec<NewDefinition>,
-    job: &Job<'_>,
+    job: &Job<'_, '_>,
     i: u32,
     flag: Flag,
 ) -> Result<(), AllocError>
@@ -66,7 +66,7 @@ fn take(
 /// The definitions that the valid updates of a job give, where these are its flags. A copy of each name and policy.
 pub(crate) fn definitions_of(
     alloc: Global,
-    job: &Job<'_>,
+    job: &Job<'_, '_>,
     flags: &[Flag],
 ) -> Result<Vec<NewDefinition>, AllocError>
     requires { flags.now ≡ fold.flags job.now }

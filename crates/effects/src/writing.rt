@@ -71,7 +71,7 @@ fn write_one(
     keeping: &mut Keeping<'_>,
     rows: &mut Vec<WrittenRow>,
     entries: &mut Vec<KeptEntry>,
-    job: &Job<'_>,
+    job: &Job<'_, '_>,
     version: Version,
     id: &KeptId,
     number: u32,
@@ -102,7 +102,7 @@ fn write_all(
     keeping: &mut Keeping<'_>,
     rows: &mut Vec<WrittenRow>,
     entries: &mut Vec<KeptEntry>,
-    job: &Job<'_>,
+    job: &Job<'_, '_>,
     i: u32,
     open_tx: &OpenTx<'_>,
 ) -> Result<(), AllocError>
@@ -135,7 +135,7 @@ fn take(
     keeping: &mut Keeping<'_>,
     rows: &mut Vec<WrittenRow>,
     entries: &mut Vec<KeptEntry>,
-    job: &Job<'_>,
+    job: &Job<'_, '_>,
     i: u32,
     flag: Flag,
 ) -> Result<(), AllocError>
@@ -174,7 +174,7 @@ fn unwritten(alloc: Global, count: usize) -> Result<Vec<WrittenRow>, AllocError>
 pub(crate) fn write_block(
     alloc: Global,
     keeping: &mut Keeping<'_>,
-    job: &Job<'_>,
+    job: &Job<'_, '_>,
     flags: &[Flag],
 ) -> Result<Written, AllocError>
     requires { flags.now ≡ fold.flags job.now }

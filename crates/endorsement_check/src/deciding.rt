@@ -17,7 +17,7 @@ use candidates::Candidate;
 use key_chains::{Board, Decision, Job, OpenTx};
 
 /// Whether the policy of the named chaincode is satisfied, where no written key has its namespace.
-fn chaincode_passes(job: &Job<'_>, open_tx: &OpenTx<'_>) -> bool
+fn chaincode_passes(job: &Job<'_, '_>, open_tx: &OpenTx<'_>) -> bool
     ensures { result ≡ (list_any (λ k. bytes_eq open_tx.now.tx.chaincode k.0) (map (λ w. w.key) open_tx.now.written.items) || meets open_tx.now.signers (get job.now.definitions open_tx.now.tx.chaincode)) }
 {
     let chaincode = &open_tx.tx.chaincode;
@@ -26,7 +26,7 @@ fn chaincode_passes(job: &Job<'_>, open_tx: &OpenTx<'_>) -> bool
 }
 
 fn open_passes<B: Board>(
-    job: &Job<'_>,
+    job: &Job<'_, '_>,
     i: u32,
     open_tx: &OpenTx<'_>,
     board: &mut B,
@@ -53,7 +53,7 @@ fn open_passes<B: Board>(
 ///
 /// For each key that i writes, the cost is that of evaluating the policy that governs it, and of a look at the earlier
 /// candidates that write its policy, down to the newest that passed.
-pub fn decide<B: Board>(job: &Job<'_>, i: u32, board: &mut B) -> Decision<bool>
+pub fn decide<B: Board>(job: &Job<'_, '_>, i: u32, board: &mut B) -> Decision<bool>
     requires place { i < length job.now.candidates }
     requires board { B.count board.old ≡ length job.now.candidates }
     ensures moves { B.moves board.old board.new }

@@ -34,7 +34,7 @@ fn policy_of<'a>(row: Option<&'a Row>) -> Option<&'a Policy>
 }
 
 /// The policy that a key has of its own before the block.
-pub fn own_policy<'a>(job: &Job<'a>, key: &StateKey<'_>) -> Option<&'a Policy>
+pub fn own_policy<'a>(job: &Job<'a, '_>, key: &StateKey<'_>) -> Option<&'a Policy>
     ensures { option_copied result ≡ policy_in job.now.state key.now }
 {
     policy_of(job.row(key))
@@ -42,7 +42,7 @@ pub fn own_policy<'a>(job: &Job<'a>, key: &StateKey<'_>) -> Option<&'a Policy>
 
 /// The policy that governs a key whose row before the block this is: the row's own, else the key's namespace's.
 pub(crate) fn governing_over<'a>(
-    job: &Job<'a>,
+    job: &Job<'a, '_>,
     key: &StateKey<'_>,
     row: Option<&'a Row>,
 ) -> Option<&'a Policy>
@@ -56,7 +56,7 @@ pub(crate) fn governing_over<'a>(
 }
 
 /// The policy that governs a key: its own before the block, else its namespace's.
-pub fn governing<'a>(job: &Job<'a>, key: &StateKey<'_>) -> Option<&'a Policy>
+pub fn governing<'a>(job: &Job<'a, '_>, key: &StateKey<'_>) -> Option<&'a Policy>
     ensures { option_copied result ≡ rule.governing job.now.definitions key.now.0 (policy_in job.now.state key.now) }
 {
     governing_over(job, key, job.row(key))

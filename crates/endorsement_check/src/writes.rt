@@ -19,7 +19,7 @@ use values::NameRef;
 
 /// Whether the key at this place among those that candidate i writes may be written.
 fn may_write<B: Board>(
-    job: &Job<'_>,
+    job: &Job<'_, '_>,
     i: u32,
     signers: &Signers<'_>,
     key: &StateKey<'_>,
@@ -46,7 +46,7 @@ fn may_write<B: Board>(
 
 /// Whether each key that candidate i writes may be written.
 pub(crate) fn may_write_all<B: Board>(
-    job: &Job<'_>,
+    job: &Job<'_, '_>,
     i: u32,
     signers: &Signers<'_>,
     written: &[WrittenKey<'_>],

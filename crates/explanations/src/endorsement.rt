@@ -31,7 +31,7 @@ struct BarredKey<'a> {
 
 /// A key, if the signers may not write it as candidate i.
 fn barred<'a>(
-    job: &Job<'_>,
+    job: &Job<'_, '_>,
     i: u32,
     signers: &Signers<'_>,
     key: &StateKey<'a>,
@@ -56,7 +56,7 @@ fn barred<'a>(
 
 /// The first of these keys that the signers may not write.
 fn first_barred<'a>(
-    job: &Job<'_>,
+    job: &Job<'_, '_>,
     i: u32,
     signers: &Signers<'_>,
     keys: &[StateKey<'a>],
@@ -111,7 +111,7 @@ fn unsatisfied(
 /// Why the signers of these endorsements may not write a key, the first that they may not.
 fn key_fault(
     alloc: Global,
-    job: &Job<'_>,
+    job: &Job<'_, '_>,
     i: u32,
     endorsements: &[Endorsement<'_>],
     signers: &Signers<'_>,
@@ -141,7 +141,7 @@ fn key_fault(
 /// Why the signers may not write what a transaction writes where they may write each key.
 fn chaincode_fault(
     alloc: Global,
-    job: &Job<'_>,
+    job: &Job<'_, '_>,
     chaincode: &NameRef<'_>,
     endorsements: &[Endorsement<'_>],
     signers: &Signers<'_>,
@@ -161,7 +161,7 @@ fn chaincode_fault(
 /// Why the signers may not write what a transaction writes, as candidate i.
 pub(crate) fn endorsement_fault(
     alloc: Global,
-    job: &Job<'_>,
+    job: &Job<'_, '_>,
     i: u32,
     tx: &Tx<'_>,
     signers: &Signers<'_>,

@@ -22,7 +22,7 @@ use values::{KeyRef, NameRef};
 
 /// The version of a key of the compared part.
 fn version_there(
-    job: &Job<'_>,
+    job: &Job<'_, '_>,
     i: u32,
     namespace: &NameRef<'_>,
     range: &Range<'_>,
@@ -42,7 +42,7 @@ fn version_there(
 
 /// Whether a key has another version there than the one that was read.
 fn differs(
-    job: &Job<'_>,
+    job: &Job<'_, '_>,
     i: u32,
     namespace: &NameRef<'_>,
     range: &Range<'_>,
@@ -69,7 +69,7 @@ fn is_ahead(least: &Option<KeyRef<'_>>, key: &KeyRef<'_>) -> bool
 
 /// The least of these keys where what is there and what was read differ.
 fn least_difference<'a>(
-    job: &Job<'_>,
+    job: &Job<'_, '_>,
     i: u32,
     namespace: &NameRef<'_>,
     range: &Range<'_>,
@@ -103,7 +103,7 @@ fn add_results<'a>(keys: &mut Vec<KeyRef<'a>>, results: &[KeyVersion<'a>]) -> Re
 /// A key of a range as it was read and as it is there.
 fn phantom_key(
     alloc: Global,
-    job: &Job<'_>,
+    job: &Job<'_, '_>,
     i: u32,
     namespace: &NameRef<'_>,
     range: &Range<'_>,
@@ -132,7 +132,7 @@ fn phantom_key(
 /// block in the compared part, and the keys in the range's bounds that the block writes.
 fn range_conflict<'a>(
     alloc: Global,
-    job: &'a Job<'a>,
+    job: &'a Job<'a, 'a>,
     i: u32,
     namespace: &NameRef<'a>,
     range: &Range<'a>,
@@ -154,7 +154,7 @@ fn range_conflict<'a>(
 
 fn ranges_conflict<'a>(
     alloc: Global,
-    job: &'a Job<'a>,
+    job: &'a Job<'a, 'a>,
     i: u32,
     namespace: &NameRef<'a>,
     ranges: &[Range<'a>],
@@ -177,7 +177,7 @@ fn ranges_conflict<'a>(
 /// The first range of a transaction that doesn't hold, with the first key that differs.
 pub(crate) fn phantom_conflict<'a>(
     alloc: Global,
-    job: &'a Job<'a>,
+    job: &'a Job<'a, 'a>,
     i: u32,
     sets: &[NsSet<'a>],
     board: &mut PlainBoard,

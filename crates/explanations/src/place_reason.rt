@@ -35,7 +35,7 @@ pub fn reason_of(
     alloc: Global,
     channel: &Configuration,
     world: &World,
-    job: &Job<'_>,
+    job: &Job<'_, '_>,
     ids: &[Option<TxId>],
     flags: &[Flag],
     i: u32,

@@ -16,7 +16,7 @@ use transaction::{NsSet, Read, Tx};
 use values::NameRef;
 
 fn read_holds(
-    job: &Job<'_>,
+    job: &Job<'_, '_>,
     i: u32,
     namespace: &NameRef<'_>,
     read: &Read<'_>,
@@ -34,7 +34,7 @@ fn read_holds(
 /// A read beside what is there.
 fn stale_read(
     alloc: Global,
-    job: &Job<'_>,
+    job: &Job<'_, '_>,
     i: u32,
     namespace: &NameRef<'_>,
     read: &Read<'_>,
@@ -59,7 +59,7 @@ fn stale_read(
 /// The first read of a namespace that doesn't hold.
 fn first_stale(
     alloc: Global,
-    job: &Job<'_>,
+    job: &Job<'_, '_>,
     i: u32,
     namespace: &NameRef<'_>,
     reads: &[Read<'_>],
@@ -81,7 +81,7 @@ fn first_stale(
 /// The first read of a transaction that doesn't hold.
 pub(crate) fn read_conflict(
     alloc: Global,
-    job: &Job<'_>,
+    job: &Job<'_, '_>,
     i: u32,
     sets: &[NsSet<'_>],
     board: &mut PlainBoard,

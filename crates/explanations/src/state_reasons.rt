@@ -36,7 +36,7 @@ fn phantom(key: Option<PhantomKey>) -> Option<Reason>
 
 fn endorsement_reason(
     alloc: Global,
-    job: &Job<'_>,
+    job: &Job<'_, '_>,
     i: u32,
     open_tx: &OpenTx<'_>,
     board: &PlainBoard,
@@ -53,7 +53,7 @@ fn endorsement_reason(
 
 fn read_reason(
     alloc: Global,
-    job: &Job<'_>,
+    job: &Job<'_, '_>,
     i: u32,
     open_tx: &OpenTx<'_>,
     board: &mut PlainBoard,
@@ -70,7 +70,7 @@ fn read_reason(
 
 fn phantom_reason(
     alloc: Global,
-    job: &Job<'_>,
+    job: &Job<'_, '_>,
     i: u32,
     open_tx: &OpenTx<'_>,
     board: &mut PlainBoard,
@@ -89,7 +89,7 @@ fn phantom_reason(
 /// Why candidate i, an open transaction, has this flag, which isn't that of a valid one.
 fn fault_reason(
     alloc: Global,
-    job: &Job<'_>,
+    job: &Job<'_, '_>,
     i: u32,
     open_tx: &OpenTx<'_>,
     flag: Flag,
@@ -113,7 +113,7 @@ fn fault_reason(
 /// Why candidate i, an open transaction, has its flag.
 pub(crate) fn state_reason(
     alloc: Global,
-    job: &Job<'_>,
+    job: &Job<'_, '_>,
     i: u32,
     open_tx: &OpenTx<'_>,
     board: &mut PlainBoard,

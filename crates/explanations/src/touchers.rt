@@ -9,7 +9,7 @@ use key_chains::{Job, PlainBoard, StateKey};
 
 /// The first transaction before i that passed the endorsement rule and writes the policy of a key.
 pub(crate) fn first_toucher(
-    job: &Job<'_>,
+    job: &Job<'_, '_>,
     i: u32,
     key: &StateKey<'_>,
     board: &PlainBoard,

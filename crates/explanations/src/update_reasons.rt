@@ -34,7 +34,7 @@ fn admin_unsatisfied(
 /// Why candidate i, an open update, has its flag.
 pub(crate) fn update_reason(
     alloc: Global,
-    job: &Job<'_>,
+    job: &Job<'_, '_>,
     i: u32,
     open_update: &OpenUpdate<'_>,
     board: &PlainBoard,

@@ -7,7 +7,7 @@ use key_chains::{Job, PlainBoard};
 use rules::Flag;
 
 /// Its flag.
-pub(crate) fn flag_of(_job: &Job<'_>, i: u32, board: &PlainBoard) -> Flag
+pub(crate) fn flag_of(_job: &Job<'_, '_>, i: u32, board: &PlainBoard) -> Flag
     requires place { i < length _job.now.candidates }
     requires shown { Shows _job.now board.now }
     ensures { result ≡ flag _job.now i }
@@ -19,7 +19,7 @@ pub(crate) fn flag_of(_job: &Job<'_>, i: u32, board: &PlainBoard) -> Flag
 }
 
 /// Whether it passed the endorsement rule.
-pub(crate) fn has_passed(_job: &Job<'_>, i: u32, board: &PlainBoard) -> bool
+pub(crate) fn has_passed(_job: &Job<'_, '_>, i: u32, board: &PlainBoard) -> bool
     requires place { i < length _job.now.candidates }
     requires shown { Shows _job.now board.now }
     ensures { result ≡ endorsed _job.now i }

@@ -9,7 +9,7 @@ use transaction::Version;
 
 /// The version of a key once the valid transactions before i are applied.
 pub(crate) fn version_at(
-    job: &Job<'_>,
+    job: &Job<'_, '_>,
     i: u32,
     key: &StateKey<'_>,
     board: &mut PlainBoard,

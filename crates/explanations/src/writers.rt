@@ -19,7 +19,7 @@ fn is_policy(kind: Kind) -> bool
 
 /// Whether it is of a valid transaction and sets the row of its key. A policy alone is written to a row that is there, and
 /// makes none.
-fn sets_row(job: &Job<'_>, operation: Operation, is_there: bool, board: &PlainBoard) -> bool
+fn sets_row(job: &Job<'_, '_>, operation: Operation, is_there: bool, board: &PlainBoard) -> bool
     requires place { operation.tx < length job.now.candidates }
     requires shown { Shows job.now board.now }
     ensures { result ≡ sets (λ h. is_valid (flag job.now h)) is_there operation }
@@ -28,7 +28,7 @@ fn sets_row(job: &Job<'_>, operation: Operation, is_there: bool, board: &PlainBo
 }
 
 fn last_setter(
-    job: &Job<'_>,
+    job: &Job<'_, '_>,
     i: u32,
     operations: Operations<'_>,
     is_there: bool,
@@ -49,7 +49,7 @@ fn last_setter(
 
 /// The last valid transaction before i that wrote or deleted the row of a key, which is there before i or isn't.
 pub(crate) fn last_writer(
-    job: &Job<'_>,
+    job: &Job<'_, '_>,
     i: u32,
     key: &StateKey<'_>,
     is_there: bool,

@@ -25,21 +25,21 @@ use std::alloc::{AllocError, Global};
 use std::marker::Model;
 use values::{BoundRef, NameRef};
 
-/// The candidates of one block over the state before it, with the operations on each key that they write. A contract
-/// sees the job of the rules.
+/// The candidates of one block over the state before it, with the operations on each key that they write. What comes of the block's
+/// bytes may outlive the state. A contract sees the job of the rules.
 #[derive(Drop)]
-pub struct Job<'a> {
+pub struct Job<'s, 'b> {
     number: u64,
-    state: &'a StateDb,
-    definitions: &'a Definitions,
-    admin: Option<&'a Policy>,
-    candidates: Vec<Candidate<'a>>,
-    chains: Chains<'a>,
+    state: &'s StateDb,
+    definitions: &'s Definitions,
+    admin: Option<&'s Policy>,
+    candidates: Vec<Candidate<'b>>,
+    chains: Chains<'b>,
     /// The row before the block of each key that it writes, in the keys' order.
-    found: FoundRows<'a>,
+    found: FoundRows<'s>,
 }
 
-impl<'a> Model for Job<'a> {
+impl<'s, 'b> Model for Job<'s, 'b> {
     ghost use Rattle.rules.specs.Job as job;
     ghost use Rattle.key_chains.specs.Code.{job_code};
 
@@ -68,17 +68,17 @@ fn item_of<T: Copy>(items: &[T], firsts: &[usize], i: u32, item: usize) -> T
     items[firsts[i as usize] + item]
 }
 
-impl<'a> Job<'a> {
+impl<'s, 'b> Job<'s, 'b> {
     /// The job of a block's candidates, over the state before the block: what [`Chained::build`] does of them, and a search for the row of
     /// each key that they write.
     pub fn build(
         alloc: Global,
         number: u64,
-        state: &'a StateDb,
-        definitions: &'a Definitions,
-        admin: Option<&'a Policy>,
-        candidates: Vec<Candidate<'a>>,
-    ) -> Result<Job<'a>, AllocError>
+        state: &'s StateDb,
+        definitions: &'s Definitions,
+        admin: Option<&'s Policy>,
+        candidates: Vec<Candidate<'b>>,
+    ) -> Result<Job<'s, 'b>, AllocError>
         requires { length candidates.items ≤ max_txs }
         ensures { IfOk result (λ j. j ≡ record { number = number; state = state.entry.now.state; definitions = definitions.entry.now; admin = option_copied admin.entry; candidates = map seen candidates.entry.items }) }
     {
@@ -90,11 +90,11 @@ impl<'a> Job<'a> {
     pub fn over(
         alloc: Global,
         number: u64,
-        state: &'a StateDb,
-        definitions: &'a Definitions,
-        admin: Option<&'a Policy>,
-        chained: Chained<'a>,
-    ) -> Result<Job<'a>, AllocError>
+        state: &'s StateDb,
+        definitions: &'s Definitions,
+        admin: Option<&'s Policy>,
+        chained: Chained<'b>,
+    ) -> Result<Job<'s, 'b>, AllocError>
         requires { length chained ≤ max_txs }
         ensures { IfOk result (λ j. j ≡ record { number = number; state = state.entry.now.state; definitions = definitions.entry.now; admin = option_copied admin.entry; candidates = chained.entry }) }
     {
@@ -109,6 +109,16 @@ impl<'a> Job<'a> {
             chains,
             found,
         })
+    }
+
+    /// What it has that needs no state.
+    pub fn into_chained(self) -> Chained<'b>
+        ensures { result ≡ self.entry.candidates }
+    {
+        Chained {
+            candidates: self.candidates,
+            chains: self.chains,
+        }
     }
 
     /// The block's number.
@@ -127,7 +137,7 @@ impl<'a> Job<'a> {
     }
 
     /// The candidate of this place. Its reads can be counted.
-    pub fn candidate(&self, i: u32) -> &Candidate<'a>
+    pub fn candidate(&self, i: u32) -> &Candidate<'b>
         requires { i < length self.now.candidates }
         ensures value { seen result.now ≡ candidate_at self.now i }
         ensures reads { length (read_by (candidate_at self.now i)) < 2 ^ 64 }
@@ -136,14 +146,14 @@ impl<'a> Job<'a> {
     }
 
     /// The policy by which definitions are updated, where there is one.
-    pub fn admin(&self) -> Option<&'a Policy>
+    pub fn admin(&self) -> Option<&'s Policy>
         ensures { option_copied result ≡ self.now.admin }
     {
         self.admin
     }
 
     /// The transaction of a candidate that is open. Its reads can be counted.
-    pub fn open_tx(&self, i: u32) -> Option<&OpenTx<'a>>
+    pub fn open_tx(&self, i: u32) -> Option<&OpenTx<'b>>
         requires { i < length self.now.candidates }
         ensures tx { MatchOption (option_copied result) (IsNoOpenTx self.now i) (λ o. IsOpened self.now i o) }
         ensures reads { length (read_by (candidate_at self.now i)) < 2 ^ 64 }
@@ -177,14 +187,14 @@ impl<'a> Job<'a> {
     }
 
     /// The row of a key before the block. Logarithmic in the number of rows.
-    pub fn row(&self, key: &StateKey<'_>) -> Option<&'a Row>
+    pub fn row(&self, key: &StateKey<'_>) -> Option<&'s Row>
         ensures { option_copied result ≡ get self.now.state key.now }
     {
         self.state.row(key)
     }
 
     /// The row before the block of the key of this number among those that the block writes. Constant time.
-    pub fn row_of(&self, number: u32) -> Option<&'a Row>
+    pub fn row_of(&self, number: u32) -> Option<&'s Row>
         requires { number < length (keys_of self.now) }
         ensures { (k : StateKey) → slice_get (keys_of self.now) number ≡ Some k → option_copied result ≡ get self.now.state k }
     {
@@ -192,12 +202,12 @@ impl<'a> Job<'a> {
     }
 
     /// The rows of a namespace before the block, from a start to before an end, an empty end being no bound.
-    pub fn rows_between(
-        &'a self,
-        namespace: &NameRef<'a>,
-        start: &BoundRef<'a>,
-        end: &BoundRef<'a>,
-    ) -> Rows<'a>
+    pub fn rows_between<'r>(
+        &'r self,
+        namespace: &NameRef<'r>,
+        start: &BoundRef<'r>,
+        end: &BoundRef<'r>,
+    ) -> Rows<'r>
         ensures { result ≡ rows_where self.now.state namespace.now (is_within start.now end.now) }
     {
         self.state.range(namespace, start, end)
@@ -223,7 +233,7 @@ impl<'a> Job<'a> {
     }
 
     /// The policy of a chaincode.
-    pub fn definition(&self, namespace: &NameRef<'_>) -> Option<&'a Policy>
+    pub fn definition(&self, namespace: &NameRef<'_>) -> Option<&'s Policy>
         ensures { option_copied result ≡ get self.now.definitions namespace.now }
     {
         self.definitions.of(namespace)
@@ -283,7 +293,7 @@ impl<'a> Job<'a> {
         namespace: &NameRef<'_>,
         start: &BoundRef<'_>,
         end: &BoundRef<'_>,
-    ) -> &[StateKey<'a>]
+    ) -> &[StateKey<'b>]
         ensures keys { result.now ≡ keys_where (keys_of self.now) namespace.now (is_within start.now end.now) }
         ensures operated { (k : StateKey) (i : ℕ) → k.0 ≡ namespace.now → IsTrue (is_within start.now end.now k.1) → operations self.now.candidates k i ≢ [] → IsTrue (is_among k result.now) }
     {
@@ -291,7 +301,7 @@ impl<'a> Job<'a> {
     }
 
     /// The keys that the block writes, in their order.
-    pub fn keys(&self) -> &[StateKey<'a>]
+    pub fn keys(&self) -> &[StateKey<'b>]
         ensures { result.now ≡ keys_of self.now }
     {
         self.chains.keys.as_slice()

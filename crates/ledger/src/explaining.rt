@@ -31,7 +31,7 @@ fn all_reasons(
     world: &World,
     version: BlockVersion,
     txs: &[Slice<'_>],
-    job: &Job<'_>,
+    job: &Job<'_, '_>,
     ids: &[Option<TxId>],
     flags: &[Flag],
     board: &mut PlainBoard,
@@ -74,7 +74,7 @@ fn found_reasons(
     world: &World,
     version: BlockVersion,
     txs: &[Slice<'_>],
-    job: &Job<'_>,
+    job: &Job<'_, '_>,
     ids: &[Option<TxId>],
 ) -> Result<Option<Items<Reason>>, AllocError>
     requires count { length txs.now ≡ length job.now.candidates }

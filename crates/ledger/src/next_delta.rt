@@ -33,12 +33,12 @@ const TX_COUNT: usize = 4;
 ///
 /// One pass over its ids, and a search for the row of each key that it writes. Memory for lists of marks and rows; where an id is used,
 /// for what was foreseen once more.
-pub fn foreseen_job<'a>(
+pub fn foreseen_job<'s, 'b>(
     alloc: Global,
-    channel: &'a Configuration,
-    world: &'a World,
-    foreseen: Foreseen<'a>,
-) -> Result<(Job<'a>, Vec<Option<TxId>>), AllocError>
+    channel: &'s Configuration,
+    world: &'s World,
+    foreseen: Foreseen<'b>,
+) -> Result<(Job<'s, 'b>, Vec<Option<TxId>>), AllocError>
     requires count { length foreseen.chained ≡ length foreseen.ids.items }
     requires few { length foreseen.ids.items ≤ max_txs }
     ensures job { IfOk result (λ r. (taken : List as_taken.Taken) → AreForeseenIn taken foreseen.entry → IsJobOfTaken channel.entry.now world.entry.now taken r.0) }
@@ -60,12 +60,12 @@ pub fn foreseen_job<'a>(
 }
 
 /// The same of what was taken in of it.
-pub(crate) fn job_of<'a>(
+pub(crate) fn job_of<'s, 'b>(
     alloc: Global,
-    channel: &'a Configuration,
-    world: &'a World,
-    taken: Vec<Taken<'a>>,
-) -> Result<(Job<'a>, Vec<Option<TxId>>), AllocError>
+    channel: &'s Configuration,
+    world: &'s World,
+    taken: Vec<Taken<'b>>,
+) -> Result<(Job<'s, 'b>, Vec<Option<TxId>>), AllocError>
     requires { length taken.items ≤ max_txs }
     ensures job { IfOk result (λ r. IsJobOfTaken channel.entry.now world.entry.now taken.entry.items r.0) }
     ensures ids { IfOk result (λ r. AreIdsOfTaken channel.entry.now taken.entry.items r.1.items) }
@@ -94,7 +94,7 @@ fn starts_of(alloc: Global, bytes: usize, txs: &[Slice<'_>]) -> Result<Vec<usize
 /// The effects of a job, with a batch of its changes.
 fn effects_in(
     alloc: Global,
-    job: &Job<'_>,
+    job: &Job<'_, '_>,
     flags: &[Flag],
     bytes: &Shared<Bytes>,
     txs: &[Slice<'_>],
@@ -122,7 +122,7 @@ pub fn unhashed_of(
     bytes: Shared<Bytes>,
     block: &LinkedBlock<'_>,
     last: Option<Hash>,
-    job: &Job<'_>,
+    job: &Job<'_, '_>,
     ids: &[Option<TxId>],
     flags: Vec<Flag>,
 ) -> Result<Unhashed, AllocError>
@@ -149,7 +149,7 @@ pub fn delta_of(
     bytes: Shared<Bytes>,
     block: &LinkedBlock<'_>,
     last: Option<Hash>,
-    job: &Job<'_>,
+    job: &Job<'_, '_>,
     ids: &[Option<TxId>],
     flags: Vec<Flag>,
 ) -> Result<ReadyDelta, AllocError>

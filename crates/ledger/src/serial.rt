@@ -50,7 +50,7 @@ fn delta_in_order(
     alloc: Global,
     block: &LinkedBlock<'_>,
     last: Option<Hash>,
-    job: &Job<'_>,
+    job: &Job<'_, '_>,
     ids: &[Option<TxId>],
 ) -> Result<ReadyDelta, Refused>
     requires ids { length ids.now ≡ length job.now.candidates }

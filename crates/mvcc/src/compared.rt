@@ -47,7 +47,7 @@ fn add_written<'a>(keys: &mut Vec<KeyRef<'a>>, written: &[StateKey<'a>]) -> Resu
 /// those of the rows before the block there, and those in the range's bounds that the block writes. Linear in them.
 pub fn compared_keys<'a>(
     alloc: Global,
-    job: &'a Job<'a>,
+    job: &'a Job<'a, 'a>,
     namespace: &NameRef<'a>,
     range: &Range<'a>,
 ) -> Result<Vec<KeyRef<'a>>, AllocError>

@@ -21,7 +21,7 @@ use transaction::{NsSet, Tx};
 
 /// What the reads of a namespace, which stand from the first place on among the candidate's, and then its ranges find.
 fn set_verdict<B: Board>(
-    job: &Job<'_>,
+    job: &Job<'_, '_>,
     i: u32,
     set: &NsSet<'_>,
     first: usize,
@@ -49,7 +49,7 @@ fn set_verdict<B: Board>(
 
 /// The first fault of a candidate's namespaces.
 fn sets_verdict<B: Board>(
-    job: &Job<'_>,
+    job: &Job<'_, '_>,
     i: u32,
     sets: &[NsSet<'_>],
     board: &mut B,
@@ -86,7 +86,7 @@ fn sets_verdict<B: Board>(
 /// before i, and a look-up of its row where they leave the version open. A range costs the same and a search for the
 /// key for each result. For each row before the block in the compared part, and each key in its bounds that the block
 /// writes, it costs a search among the results, and a walk where the key is none.
-pub fn decide<B: Board>(job: &Job<'_>, i: u32, board: &mut B) -> Decision<ReadVerdict>
+pub fn decide<B: Board>(job: &Job<'_, '_>, i: u32, board: &mut B) -> Decision<ReadVerdict>
     requires place { i < length job.now.candidates }
     requires board { B.count board.old ≡ length job.now.candidates }
     ensures moves { B.moves board.old board.new }

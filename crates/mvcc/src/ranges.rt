@@ -19,7 +19,7 @@ use values::{KeyRef, NameRef};
 
 /// The version of a key of the compared part.
 fn version_there<B: Board>(
-    job: &Job<'_>,
+    job: &Job<'_, '_>,
     i: u32,
     namespace: &NameRef<'_>,
     range: &Range<'_>,
@@ -39,7 +39,7 @@ fn version_there<B: Board>(
 
 /// Whether a result is in the compared part, and has its version there.
 fn is_found<B: Board>(
-    job: &Job<'_>,
+    job: &Job<'_, '_>,
     i: u32,
     namespace: &NameRef<'_>,
     range: &Range<'_>,
@@ -62,7 +62,7 @@ fn is_found<B: Board>(
 }
 
 fn are_found<B: Board>(
-    job: &Job<'_>,
+    job: &Job<'_, '_>,
     i: u32,
     namespace: &NameRef<'_>,
     range: &Range<'_>,
@@ -87,7 +87,7 @@ fn are_found<B: Board>(
 
 /// Whether a key of the compared part is a result or absent.
 fn is_listed<B: Board>(
-    job: &Job<'_>,
+    job: &Job<'_, '_>,
     i: u32,
     namespace: &NameRef<'_>,
     range: &Range<'_>,
@@ -114,7 +114,7 @@ fn is_listed<B: Board>(
 /// Whether each key of rows in the range's bounds that is compared is a result or absent. Stops at the first that isn't
 /// compared, since none behind it is.
 fn are_rows_listed<B: Board>(
-    job: &Job<'_>,
+    job: &Job<'_, '_>,
     i: u32,
     namespace: &NameRef<'_>,
     range: &Range<'_>,
@@ -145,7 +145,7 @@ fn are_rows_listed<B: Board>(
 
 /// The same of keys that the block writes, in any order.
 fn are_keys_listed<B: Board>(
-    job: &Job<'_>,
+    job: &Job<'_, '_>,
     i: u32,
     namespace: &NameRef<'_>,
     range: &Range<'_>,
@@ -175,7 +175,7 @@ fn are_keys_listed<B: Board>(
 
 /// Over the results, the rows before the block and the keys that it writes.
 fn range_over<B: Board>(
-    job: &Job<'_>,
+    job: &Job<'_, '_>,
     i: u32,
     namespace: &NameRef<'_>,
     range: &Range<'_>,
@@ -205,7 +205,7 @@ fn range_over<B: Board>(
 }
 
 fn range_holds<B: Board>(
-    job: &Job<'_>,
+    job: &Job<'_, '_>,
     i: u32,
     namespace: &NameRef<'_>,
     range: &Range<'_>,
@@ -224,7 +224,7 @@ fn range_holds<B: Board>(
 }
 
 pub(crate) fn ranges_hold<B: Board>(
-    job: &Job<'_>,
+    job: &Job<'_, '_>,
     i: u32,
     namespace: &NameRef<'_>,
     ranges: &[Range<'_>],

@@ -19,7 +19,7 @@ use values::NameRef;
 
 /// Whether the version that was read, at this place among the candidate's reads, is the key's.
 fn read_holds<B: Board>(
-    job: &Job<'_>,
+    job: &Job<'_, '_>,
     i: u32,
     namespace: &NameRef<'_>,
     read: &Read<'_>,
@@ -42,7 +42,7 @@ fn read_holds<B: Board>(
 
 /// Whether the reads of a namespace, which stand from the first place on among the candidate's, hold.
 pub(crate) fn reads_hold<B: Board>(
-    job: &Job<'_>,
+    job: &Job<'_, '_>,
     i: u32,
     namespace: &NameRef<'_>,
     reads: &[Read<'_>],

@@ -12,7 +12,7 @@ use crate::walk::{Finding, noted_over, walk};
 use key_chains::{Board, Decision, Job, Operations, StateKey};
 use transaction::Version;
 
-fn version_before(job: &Job<'_>, key: &StateKey<'_>) -> Option<Version>
+fn version_before(job: &Job<'_, '_>, key: &StateKey<'_>) -> Option<Version>
     ensures { result ≡ version_in job.now.state key.now }
 {
     match job.row(key) {
@@ -24,7 +24,7 @@ fn version_before(job: &Job<'_>, key: &StateKey<'_>) -> Option<Version>
 /// The version of a key over the operations on it before candidate i. The row before the block is looked up only where
 /// they leave that open.
 pub(crate) fn version_over<B: Board>(
-    job: &Job<'_>,
+    job: &Job<'_, '_>,
     i: u32,
     key: &StateKey<'_>,
     operations: Operations<'_>,
@@ -54,7 +54,7 @@ pub(crate) fn version_over<B: Board>(
 /// search for the key's operations and, where they leave it open, for its row before the block is logarithmic; beside
 /// that the cost is linear in the operations down to the newest that counts and writes or deletes the value.
 pub fn version_at<B: Board>(
-    job: &Job<'_>,
+    job: &Job<'_, '_>,
     i: u32,
     key: &StateKey<'_>,
     board: &mut B,

@@ -9,7 +9,7 @@ use rules::{Flag, ReadVerdict};
 use std::alloc::{AllocError, Global};
 
 /// Whether candidate i passes the endorsement rule.
-fn endorsed(job: &Job<'_>, i: u32, board: &mut PlainBoard) -> bool
+fn endorsed(job: &Job<'_, '_>, i: u32, board: &mut PlainBoard) -> bool
     requires place { i < length job.now.candidates }
     requires board { length board.old ≡ length job.now.candidates }
     requires shown { ShowsBefore job.now i (known_of board.old) }
@@ -23,7 +23,7 @@ fn endorsed(job: &Job<'_>, i: u32, board: &mut PlainBoard) -> bool
 }
 
 /// What the reads of candidate i find.
-fn read_verdict(job: &Job<'_>, i: u32, board: &mut PlainBoard) -> ReadVerdict
+fn read_verdict(job: &Job<'_, '_>, i: u32, board: &mut PlainBoard) -> ReadVerdict
     requires place { i < length job.now.candidates }
     requires board { length board.old ≡ length job.now.candidates }
     requires shown { ShowsBefore job.now i (known_of board.old) }
@@ -37,7 +37,12 @@ fn read_verdict(job: &Job<'_>, i: u32, board: &mut PlainBoard) -> ReadVerdict
 }
 
 /// What the reads of candidate i find, where it is endorsed; else they aren't looked at.
-fn counted_reads(job: &Job<'_>, i: u32, is_endorsed: bool, board: &mut PlainBoard) -> ReadVerdict
+fn counted_reads(
+    job: &Job<'_, '_>,
+    i: u32,
+    is_endorsed: bool,
+    board: &mut PlainBoard,
+) -> ReadVerdict
     requires place { i < length job.now.candidates }
     requires board { length board.old ≡ length job.now.candidates }
     requires shown { ShowsBefore job.now i (known_of board.old) }
@@ -53,7 +58,7 @@ fn counted_reads(job: &Job<'_>, i: u32, is_endorsed: bool, board: &mut PlainBoar
 }
 
 /// The verdicts of candidate i.
-fn cells(job: &Job<'_>, i: u32, board: &mut PlainBoard) -> (bool, Flag)
+fn cells(job: &Job<'_, '_>, i: u32, board: &mut PlainBoard) -> (bool, Flag)
     requires place { i < length job.now.candidates }
     requires board { length board.old ≡ length job.now.candidates }
     requires shown { ShowsBefore job.now i (known_of board.old) }
@@ -67,7 +72,7 @@ fn cells(job: &Job<'_>, i: u32, board: &mut PlainBoard) -> (bool, Flag)
 }
 
 /// The verdicts of a job's candidates and their flags, taken one by one in order. Costs what the two checks of each cost.
-pub fn verdicts(alloc: Global, job: &Job<'_>) -> Result<(PlainBoard, Vec<Flag>), AllocError>
+pub fn verdicts(alloc: Global, job: &Job<'_, '_>) -> Result<(PlainBoard, Vec<Flag>), AllocError>
     ensures board { IfOk result (λ r. Shows job.now r.0) }
     ensures flags { IfOk result (λ r. r.1.items ≡ fold.flags job.now) }
 {
@@ -89,7 +94,7 @@ pub fn verdicts(alloc: Global, job: &Job<'_>) -> Result<(PlainBoard, Vec<Flag>),
 }
 
 /// The flags of a job's candidates.
-pub fn flags(alloc: Global, job: &Job<'_>) -> Result<Vec<Flag>, AllocError>
+pub fn flags(alloc: Global, job: &Job<'_, '_>) -> Result<Vec<Flag>, AllocError>
     ensures { IfOk result (λ flags. flags.items ≡ fold.flags job.now) }
 {
     let (_board, flags) = verdicts(alloc, job)?;

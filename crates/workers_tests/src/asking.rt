@@ -22,7 +22,7 @@ pub fn numbers(flags: &[u8]) -> Numbers {
 }
 
 /// The flags that these checks find.
-pub fn found(alloc: Global, job: &Job<'_>, events: &[Event]) -> Result<Numbers, Failed> {
+pub fn found(alloc: Global, job: &Job<'_, '_>, events: &[Event]) -> Result<Numbers, Failed> {
     let board = run_events(alloc, job, events)?;
     Ok(numbers(board.flags(alloc)?.as_slice()))
 }

@@ -288,7 +288,7 @@ impl Ground {
         Ground::over(alloc, &batch, script.as_str())
     }
 
-    pub fn job(&self, alloc: Global) -> Result<Job<'_>, Failed> {
+    pub fn job(&self, alloc: Global) -> Result<Job<'_, '_>, Failed> {
         let candidates = candidates_of(
             alloc,
             &self.before.definitions,

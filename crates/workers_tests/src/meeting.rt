@@ -58,7 +58,7 @@ fn are_right(checked: &Checked, count: u32, keys: Keys) -> bool {
 fn is_checked<R: Threads + Wait + Sync, G: Gate + Sync>(
     rt: &R,
     alloc: Global,
-    job: &Job<'_>,
+    job: &Job<'_, '_>,
     case: Case,
     gate: &G,
 ) -> Result<bool, Failed> {
@@ -72,7 +72,7 @@ fn is_checked<R: Threads + Wait + Sync, G: Gate + Sync>(
 fn do_others_come<R: Threads + Wait + Sync>(
     rt: &R,
     alloc: Global,
-    job: &Job<'_>,
+    job: &Job<'_, '_>,
     case: Case,
     gate: &Meeting,
 ) -> Result<bool, Failed> {
@@ -83,7 +83,7 @@ fn do_others_come<R: Threads + Wait + Sync>(
 fn is_tried_again<R: Threads + Wait + Sync>(
     rt: &R,
     alloc: Global,
-    job: &Job<'_>,
+    job: &Job<'_, '_>,
     case: Case,
     gate: &Late,
 ) -> Result<bool, Failed> {
@@ -94,7 +94,7 @@ fn is_tried_again<R: Threads + Wait + Sync>(
 fn is_reversed<R: Threads + Wait + Sync>(
     rt: &R,
     alloc: Global,
-    job: &Job<'_>,
+    job: &Job<'_, '_>,
     case: Case,
 ) -> Result<bool, Failed> {
     let gate = Reverse::new(alloc, case.count)?;
@@ -104,7 +104,7 @@ fn is_reversed<R: Threads + Wait + Sync>(
 fn is_job_checked<R: Threads + Wait + Sync>(
     rt: &R,
     alloc: Global,
-    job: &Job<'_>,
+    job: &Job<'_, '_>,
     case: Case,
 ) -> Result<bool, Failed> {
     match case.held {

@@ -81,7 +81,7 @@ fn is_same(checked: &Checked, flags: &[Flag]) -> bool {
 fn is_found<R: Threads + Wait + Sync>(
     rt: &R,
     alloc: Global,
-    job: &Job<'_>,
+    job: &Job<'_, '_>,
     flags: &[Flag],
     workers: usize,
     gate: &Yielding,
@@ -97,7 +97,7 @@ fn is_found<R: Threads + Wait + Sync>(
 pub fn are_flags_found<R: Threads + Wait + Sync>(
     rt: &R,
     alloc: Global,
-    job: &Job<'_>,
+    job: &Job<'_, '_>,
     flags: &[Flag],
     gate: &Yielding,
 ) -> Result<bool, Failed> {
@@ -112,7 +112,7 @@ pub fn are_flags_found<R: Threads + Wait + Sync>(
 fn are_found<R: Threads + Wait + Sync>(
     rt: &R,
     alloc: Global,
-    job: &Job<'_>,
+    job: &Job<'_, '_>,
     gate: &Yielding,
     times: &mut Times,
 ) -> Result<bool, Failed> {

@@ -97,7 +97,7 @@ impl Seen {
     }
 }
 
-fn seen_of(alloc: Global, job: &Job<'_>, flags: &[u8]) -> Result<Seen, Failed> {
+fn seen_of(alloc: Global, job: &Job<'_, '_>, flags: &[u8]) -> Result<Seen, Failed> {
     let wanted = numbers(flags);
     let mut schedules = Schedules::new();
     let mut seen = Seen {

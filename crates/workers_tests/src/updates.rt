@@ -21,7 +21,7 @@ fn is_flag(flags: &[Flag], wanted: &[u8]) -> bool {
 fn is_flagged<R: Threads + Wait + Sync>(
     rt: &R,
     alloc: Global,
-    job: &Job<'_>,
+    job: &Job<'_, '_>,
     wanted: &[u8],
 ) -> Result<bool, Failed> {
     let flags = serial_checks::flags(alloc, job)?;

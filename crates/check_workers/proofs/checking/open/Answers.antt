@@ -4,5 +4,5 @@ use Rattle.check_workers.proofs.checking.open.Goals as goal
 
 pub of_words-requires : goal.of_words-requires
 of_words-requires c =
-    let zeros : c.as_slice.result.now ≡ replicate (2 * length c.args.job.now.candidates) 0 = search rules in
-    opens c.args.job.now c.as_slice.result.now [] zeros
+    let zeros : c.as_slice.result.now ≡ replicate (2 * length c.args.lent.now.candidates) 0 = search rules in
+    opens c.args.lent.now c.as_slice.result.now [] zeros

@@ -19,8 +19,8 @@ foreseen_job-requires-clause-few g c =
     let is = c.requires.prepared in
     few-foreseen is.taken c.args.prepared.foreseen (few _ _ _ _ _ is.is_taken) is.foreseen
 
-pub checked_delta-requires-clause-ids : goal.checked_delta-requires-clause-ids
-checked_delta-requires-clause-ids g c κs within =
+pub checked_delta-delta-requires-clause-ids : goal.checked_delta-delta-requires-clause-ids
+checked_delta-delta-requires-clause-ids g c κs within =
     let channel = c.args.means.now.channel.now in
     let accepts = g.V.Verify.accepts c.args.means.now.verifier.now in
     let b = c.args.prepared.hashed.block in
@@ -40,7 +40,7 @@ returns g c =
     let prepared = c.requires.prepared in
     let is : IsTaken channel accepts bytes b prepared.taken =
     subst (λ (x : Block). IsTaken channel accepts bytes x prepared.taken) (sym next.0) prepared.is_taken in
-    MatchResult-weaker c.checked_delta.result c.checked_delta.ensures
+    MatchResult-weaker c.checked_delta-delta.result c.checked_delta-delta.ensures
     (λ r delta. is_next channel accepts w bytes c.in_ok-block.kept b c.in_ok-job.job c.as_slice.result.now c.commit_hash.result r.0 (next.2 ∙ sym is.spelled.fields) is.spelled next.1
     (c.in_ok-job.ensures.job prepared.taken prepared.foreseen c.requires.names accepts (items_of b) is.taken) (c.as_slice.ensures.value ∙ c.in_ok-job.ensures.ids prepared.taken prepared.foreseen accepts (items_of b) is.taken) c.commit_hash.ensures delta)
     (λ refused memory. subst (λ (r : Refused). IsRefused w bytes r) (sym memory) tt)
