@@ -1,25 +1,40 @@
-ghost use Rattle.std.specs.Prelude.{◌≡◌, length, IfOk};
+ghost use Rattle.std.specs.Prelude.{◌≡◌, ◌≤◌, ◌+◌, length, IfOk};
+ghost use Rattle.rules.specs.KeptEntry.{id_in};
 
 use std::alloc::{AllocError, Global};
 use std::marker::Model;
 use transaction::{ID_BYTES, TxId};
-use values::{Bytes, Part, Shared};
+use values::{Bytes, Shared, found_at};
 
 /// A transaction's id, as a part of bytes that have several owners. A contract sees the id.
 #[derive(Debug, Drop)]
 pub struct KeptId {
-    part: Part,
+    whole: Shared<Bytes>,
+    start: u32,
 }
 
 impl Model for KeptId {
-    ghost use Rattle.std.specs.Prelude.{ℕ, List, length};
-    ghost use Rattle.std.specs.Prelude.{◌≡◌};
+    ghost use Rattle.std.specs.Prelude.{ℕ, List};
 
     ghost Value = { List ℕ };
 
-    ghost view = { λ k. k.part };
+    ghost use Rattle.std.specs.Prelude.{◌≤◌, ◌+◌, length};
+    ghost use Rattle.rules.specs.KeptEntry.{id_in};
 
-    ghost invariant = { λ k. length k.part ≡ 64 };
+    ghost view = { λ k. id_in k.whole k.start };
+
+    ghost invariant = { λ k. k.start + 64 ≤ length k.whole };
+}
+
+/// The id that stands in these bytes, from a place on.
+pub(crate) fn id_at(whole: &Bytes, start: u32) -> TxId
+    requires { start + 64 ≤ length whole.now }
+    ensures { result ≡ id_in whole.now start }
+{
+    let start = start as usize;
+    let mut id = [0; ID_BYTES];
+    id.copy_from_slice(&whole.as_slice()[start..start + ID_BYTES]);
+    id
 }
 
 impl KeptId {
@@ -32,11 +47,16 @@ impl KeptId {
     ) -> Result<KeptId, AllocError>
         ensures { IfOk result (λ kept. kept ≡ id.now) }
     {
-        let part = match Part::found(whole, start, id)? {
-            Some(part) => part,
-            None => Part::copied(alloc, id)?,
-        };
-        Ok(KeptId { part })
+        if let Some((start, _)) = found_at(whole.get().as_slice(), start, id) {
+            return Ok(KeptId {
+                whole: whole.share()?,
+                start,
+            });
+        }
+        Ok(KeptId {
+            whole: Shared::new(alloc, Bytes::from_slice(alloc, id)?)?,
+            start: 0,
+        })
     }
 
     /// One more owner of the same bytes. Takes no memory, and is refused only to the 2^63rd owner.
@@ -44,15 +64,23 @@ impl KeptId {
         ensures { IfOk result (λ kept. kept ≡ self.now) }
     {
         Ok(KeptId {
-            part: self.part.share()?,
+            whole: self.whole.share()?,
+            start: self.start,
         })
     }
 
+    /// The bytes in which it stands, and from which place on.
+    pub(crate) fn into_place(self) -> (Shared<Bytes>, u32)
+        ensures bounds { result.1 + 64 ≤ length result.0 }
+        ensures id { id_in result.0 result.1 ≡ self }
+    {
+        (self.whole, self.start)
+    }
+
+    /// A copy of it. Constant time.
     pub fn get(&self) -> TxId
         ensures { result ≡ self.now }
     {
-        let mut id = [0; ID_BYTES];
-        id.copy_from_slice(self.part.as_slice());
-        id
+        id_at(self.whole.get(), self.start)
     }
 }
