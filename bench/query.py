@@ -181,7 +181,7 @@ fn delta_at(
     Ok(Delta {
         changes,
         entries: Shared::new(alloc, entries)?,
-        uses,
+        uses: Shared::new(alloc, uses)?,
         definitions: Items::new(alloc),
         block: Shared::new(alloc, block)?,
     })

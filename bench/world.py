@@ -131,7 +131,7 @@ fn delta_of(alloc: Global, block: u64, count: u32, keys: Keys) -> anyhow::Result
     Ok(Delta {
         changes,
         entries: Shared::new(alloc, entries)?,
-        uses,
+        uses: Shared::new(alloc, uses)?,
         definitions: Items::new(alloc),
         block: Shared::new(alloc, block)?,
     })
@@ -179,7 +179,7 @@ fn looked_at(delta: &Delta) -> u64 {
             sum = sum.wrapping_add(1);
         }
     }
-    for used in delta.uses.as_slice() {
+    for used in delta.uses.get().as_slice() {
         if used.id.contains(&0) {
             sum = sum.wrapping_add(1);
         }

@@ -1,4 +1,4 @@
-//! The commit hash of a delta, beside which the worlds make room for it, what its job had is dropped, and the next block is prepared.
+//! The commit hash of a delta, beside which what its job had is dropped, the worlds make room for it, and the next block is prepared.
 ghost use Rattle.std.specs.Prelude.{◌≡◌, IfOk};
 ghost use Rattle.commit.specs.Prepared.{StaysAhead};
 
@@ -17,7 +17,7 @@ use world::{ReadyDelta, Room};
 // So many bytes are hashed in a few times what a thread takes to start.
 const WORTH_A_THREAD: usize = 1 << 16;
 
-/// Both worlds make room, what is spent is dropped, and the next block is prepared.
+/// What is spent is dropped, both worlds make room, and the next block is prepared.
 fn room_and_next<R: Wait>(
     rt: &R,
     alloc: Global,
@@ -29,13 +29,14 @@ fn room_and_next<R: Wait>(
     ensures same { publisher.new ≡ publisher.old }
     ensures ahead { StaysAhead ahead.old ahead.new }
 {
-    let made = publisher.make_room(rt, room);
+    // first, so that worlds that grow may have its memory
     *spent = None;
+    let made = publisher.make_room(rt, room);
     ahead.prepare(alloc);
     made
 }
 
-/// The commit hash by another thread, while this one has the worlds make room, drops what is spent, and prepares the next block.
+/// The commit hash by another thread, while this one drops what is spent, has the worlds make room, and prepares the next block.
 fn hash_beside<R: Threads + Wait + Sync>(
     rt: &R,
     alloc: Global,
@@ -76,6 +77,7 @@ pub(crate) fn hashed<R: Threads + Wait + Sync>(
     let mut spent = spent;
     let room = unhashed.room_in(publisher.published());
     let hash = if workers.count == 1 || unhashed.update_len() < WORTH_A_THREAD {
+        spent = None;
         publisher.make_room(rt, room)?;
         unhashed.commit_hash(alloc)?
     } else {

@@ -121,7 +121,7 @@ impl Unhashed {
         )
     }
 
-    /// The delta, whose commit hash this is. Takes memory for the block.
+    /// The delta, whose commit hash this is. Takes memory for the block, and to share lists.
     pub fn with_commit_hash(
         self,
         alloc: Global,
@@ -149,7 +149,7 @@ impl Unhashed {
         let delta = Delta {
             changes: Items::from_vec(effects.changes),
             entries: Shared::new(alloc, Items::from_vec(effects.entries))?,
-            uses: Items::from_vec(uses),
+            uses: Shared::new(alloc, Items::from_vec(uses))?,
             definitions: Items::from_vec(effects.definitions),
             block: Shared::new(alloc, block)?,
         };

@@ -64,7 +64,7 @@ fn next_block(
 // How many definitions the block changes. What it uses is noted.
 fn note(story: &mut Story, bytes: &Bytes) -> Result<usize, Failed> {
     let delta = story.drafter.delta(bytes)?;
-    story.uses.extend_from_slice(delta.uses.as_slice())?;
+    story.uses.extend_from_slice(delta.uses.get().as_slice())?;
     Ok(delta.definitions.len())
 }
 

@@ -87,7 +87,7 @@ pub struct NewDefinition {
 pub struct Delta {
     pub changes: Items<Change>,
     pub entries: Shared<Items<KeptEntry>>,
-    pub uses: Items<NewUse>,
+    pub uses: Shared<Items<NewUse>>,
     pub definitions: Items<NewDefinition>,
     pub block: Shared<CommittedBlock>,
 }

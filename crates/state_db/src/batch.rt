@@ -118,15 +118,11 @@ impl Batch {
     pub fn of(alloc: Global, changes: &[Change]) -> Result<Batch, AllocError>
         ensures { IfOk result (λ batch. (s : State) → changed s batch ≡ with_changes s (changes_in changes.now)) }
     {
-        let mut batch = Batch::with_capacity(alloc, changes.len())?;
-        for change in changes {
-            batch.add(change)?;
-        }
-        Ok(batch)
+        Batch::of_looked_up(alloc, changes, &[], &FoundRows::none(alloc))
     }
 
-    /// The same, where the rows of keys were looked up: what is put there has a guess of its place. Where the keys are in their order
-    /// that takes a step more for each.
+    /// The changes of a delta, as `of` has them, with guesses: where the row of a key was looked up, it is guessed where one is put. Where
+    /// these keys are in their order that takes a step for each, no more memory.
     pub fn of_looked_up(
         alloc: Global,
         changes: &[Change],

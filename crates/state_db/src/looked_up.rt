@@ -11,6 +11,7 @@ use crate::edit::Edit;
 use crate::page::Page;
 use rules::Row;
 use state_keys::StateKey;
+use std::alloc::Global;
 
 /// The rows of keys, each at its key's place; beside each the place in its page where it was found, or would be. No clause speaks of
 /// the places: they are guesses of where the rows of the same keys are put later.
@@ -20,7 +21,15 @@ pub struct FoundRows<'a> {
     pub(crate) places: Vec<u32>,
 }
 
-impl FoundRows<'_> {
+impl<'a> FoundRows<'a> {
+    /// Of no keys. Takes no memory.
+    pub(crate) fn none(alloc: Global) -> FoundRows<'a> {
+        FoundRows {
+            rows: Vec::new(alloc),
+            places: Vec::new(alloc),
+        }
+    }
+
     /// A guess for the key at this place.
     pub(crate) fn place(&self, at: usize) -> u32 {
         self.places.get(at).copied().unwrap_or(0)

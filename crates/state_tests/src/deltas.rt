@@ -118,6 +118,19 @@ fn drawn_use(drawing: &mut Drawing, noted: &mut Noted) -> NewUse {
     }
 }
 
+fn drawn_uses(
+    alloc: Global,
+    drawing: &mut Drawing,
+    noted: &mut Noted,
+    most: u8,
+) -> Result<Items<NewUse>, Failed> {
+    let mut uses = Items::new(alloc);
+    for _ in 0..drawing.up_to(most) {
+        uses.push(drawn_use(drawing, noted))?;
+    }
+    Ok(uses)
+}
+
 fn new_definition(alloc: Global, chaincode: &[u8], text: &str) -> Result<NewDefinition, Failed> {
     let chaincode = name(chaincode)?.copy(alloc)?;
     Ok(NewDefinition {
@@ -157,7 +170,7 @@ fn empty(alloc: Global, hash: [u8; 32]) -> Result<Delta, Failed> {
     Ok(Delta {
         changes: Items::new(alloc),
         entries: Shared::new(alloc, Items::new(alloc))?,
-        uses: Items::new(alloc),
+        uses: Shared::new(alloc, Items::new(alloc))?,
         definitions: Items::new(alloc),
         block: block_of(alloc, hash)?,
     })
@@ -189,9 +202,7 @@ fn fill(
         delta.changes.push(change(alloc, drawing, noted)?)?;
     }
     delta.entries = Shared::new(alloc, drawn_entries(alloc, drawing, noted, most)?)?;
-    for _ in 0..drawing.up_to(most) {
-        delta.uses.push(drawn_use(drawing, noted))?;
-    }
+    delta.uses = Shared::new(alloc, drawn_uses(alloc, drawing, noted, most)?)?;
     for _ in 0..drawing.up_to(most.min(2)) {
         delta.definitions.push(definition(alloc, drawing, noted)?)?;
     }

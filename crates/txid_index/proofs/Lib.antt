@@ -1,4 +1,4 @@
-mod Uses
+mod Finding
+mod Adding
 mod Marking
-mod Room
 mod Worked

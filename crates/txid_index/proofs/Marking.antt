@@ -1,21 +1,17 @@
 -- The ids of earlier places, as a list and as the code's set.
 use Rattle.std.proofs.Common.{◌≡◌, ℕ, ◌+◌, ◌<◌, Bool, true, false, cond, not, ◌||◌, List, [], ◌∷◌, ◌++◌, length, drop, get_or, Option, Some, None, refl, sym, ap, ◌∙◌, add-one, drop-cons}
-use Rattle.std.specs.Prelude.{option_to_list, is_some}
+use Rattle.std.specs.Prelude.{option_to_list}
 use Rattle.std.specs.Str.{bytes_eq}
 use Rattle.std.specs.List.{list_any}
 use Rattle.std.specs.FinMap.{contains_key}
-use Rattle.std.specs.Map.{lookup}
-use Rattle.std.specs.Cmp.{eq_by_cmp_equiv}
-use Rattle.std.specs.Cmp.Lexicographic.{nat_list_cmp_total}
 use Rattle.std.proofs.lemmas.List.{append_assoc}
 use Rattle.std.proofs.lemmas.List.Folds.{list_any-append}
 use Rattle.rules.specs.FirstUses.{FirstUses}
 use Rattle.rules.specs.Candidate.{is_used}
 use Rattle.rules.proofs.Booleans.{or-false, or-true}
-use Rattle.rules.proofs.Keys.{bytes_ties}
 use Rattle.txid_index.specs.Marks.{marks}
 use Rattle.txid_index.specs.SameIds.{HaveSameIds}
-use Rattle.txid_index.proofs.Uses.{Entries, uses_of, get_id}
+use Rattle.txid_index.proofs.Finding.{turned}
 
 -- ---- one place
 
@@ -31,17 +27,14 @@ not_not : (b : Bool) → not (not b) ≡ b
 not_not true = refl
 not_not false = refl
 
--- what the map and the set say of an id
-pub used_there : (es : Entries) (earlier : List (List ℕ)) (id : List ℕ) (known added : Bool)
-    → known ≡ is_some (lookup (bytes_eq id) es) → added ≡ not (list_any (bytes_eq id) earlier)
-    → (known || not added) ≡ is_used (uses_of es) earlier (Some id)
-used_there es earlier id known added k a =
+-- what the first uses and the set say of an id
+pub used_there : (uses : FirstUses) (earlier : List (List ℕ)) (id : List ℕ) (known added : Bool)
+    → known ≡ contains_key uses id → added ≡ not (list_any (bytes_eq id) earlier)
+    → (known || not added) ≡ is_used uses earlier (Some id)
+used_there uses earlier id known added k a =
     (λ i. k i || not (a i))
-    ∙ (λ i. is_some (sym (get_id es id) i) || not_not (list_any (bytes_eq id) earlier) i)
+    ∙ ap (λ (b : Bool). contains_key uses id || b) (not_not (list_any (bytes_eq id) earlier))
     ∙ sym (or-false _)
-
-turned : (k q : List ℕ) → bytes_eq k q ≡ bytes_eq q k
-turned k q = sym (bytes_ties k q) ∙ (eq_by_cmp_equiv nat_list_cmp_total).symm k q ∙ bytes_ties q k
 
 or_found : (a b : Bool) → (a || b) ≡ cond b true a
 or_found a true = or-true a

@@ -1,27 +1,40 @@
-ghost use Rattle.std.specs.Prelude.{◌≡◌, ◌<◌, ◌≤◌, ◌+◌, [], ◌∷◌, OnOk, OnErr, IfOk, if◌then◌else◌};
-ghost use Rattle.std.specs.FinMap.{get, empty, contains_key};
-ghost use Rattle.rules.specs.FirstUses.{with_uses};
+ghost use Rattle.std.specs.Prelude.{◌≡◌, ◌<◌, ◌≤◌, ◌^◌, [], length, OnOk, OnErr, IfOk};
+ghost use Rattle.std.specs.FinMap.{get, empty};
+ghost use Rattle.std.specs.HashMap.{spare};
+ghost use Rattle.rules.specs.Delta.{uses_in};
+ghost use Rattle.rules.specs.FirstUses.{FirstUses, with_uses};
+ghost use Rattle.txid_index.specs.Found.{IsIndex};
+ghost use Rattle.txid_index.specs.Lists.{AreThere, IsListAt};
 ghost use Rattle.txid_index.specs.Marks.{marks};
 
+use crate::found::{add_one, first_use_of, make_room};
 use crate::id_key::IdKey;
+use crate::lists::{Place, SharedUses};
 use crate::marks::marked;
-use rules::FirstUse;
+use rules::{FirstUse, NewUse};
 use std::alloc::{AllocError, Global};
 use std::collections::HashMap;
 use std::marker::Model;
 use transaction::TxId;
+use values::{Items, Shared};
 
-/// Where ids were used first. A contract sees the map, and the room for new ids.
+// lists, and places in one, are counted by 32 bits
+const MOST: usize = u32::MAX as usize;
+
+/// Where ids were used first. A contract sees the map, and the room for a list of more uses.
 #[derive(Drop)]
 pub struct TxIds {
-    uses: HashMap<IdKey, FirstUse>,
-    // how many new ids are sure to fit
+    lists: Vec<SharedUses>,
+    // for each hash of an id where the first use stands of the first id that has it
+    firsts: HashMap<u32, Place>,
+    // the first uses of all other ids, of which there are hardly any
+    others: HashMap<IdKey, FirstUse>,
+    // how many uses more are sure to fit, in one list
     room: usize,
 }
 
 impl Model for TxIds {
-    ghost use Rattle.std.specs.Prelude.{◌≤◌};
-    ghost use Rattle.std.specs.FinMap.{from_entries};
+    ghost use Rattle.std.specs.Prelude.{◌<◌, ◌≤◌, ◌^◌, vec_len, vec_capacity};
     ghost use Rattle.std.specs.HashMap.{spare};
     ghost use Rattle.txid_index.specs.Ids.{Ids, ids_code};
 
@@ -29,9 +42,41 @@ impl Model for TxIds {
 
     ghost coded = { ids_code };
 
-    ghost view = { λ t. record { uses = from_entries t.uses.entries; room = t.room } };
+    ghost use Rattle.txid_index.specs.Found.{IsIndex};
+    ghost use Rattle.txid_index.specs.Lists.{uses_of, AreThere};
 
-    ghost invariant = { λ t. t.room ≤ spare t.uses };
+    ghost view = { λ t. record { uses = uses_of t.lists.items; room = t.room } };
+
+    ghost invariant = { λ t. IsIndex t.lists.items t.firsts.entries t.others.entries (uses_of t.lists.items)
+        × AreThere t.lists.items t.firsts.entries
+        × (t.room ≤ spare t.firsts) × (t.room ≤ spare t.others) × (t.room < 2 ^ 32)
+        × (0 < t.room → vec_len t.lists < vec_capacity t.lists) × (0 < t.room → vec_len t.lists < 2 ^ 32) };
+}
+
+/// Finds the uses of the list of this number from now on. Takes no memory.
+fn add_all(
+    lists: &[SharedUses],
+    firsts: &mut HashMap<u32, Place>,
+    others: &mut HashMap<IdKey, FirstUse>,
+    list: u32,
+    uses: &[NewUse],
+)
+    requires there { AreThere lists.now firsts.old.entries }
+    requires list { IsListAt lists.now list uses.now }
+    requires few { length uses.now < 2 ^ 32 }
+    requires firsts { length uses.now ≤ spare firsts.old }
+    requires others { length uses.now ≤ spare others.old }
+    ensures index { (before : FirstUses) → IsIndex lists.now firsts.old.entries others.old.entries before
+        → IsIndex lists.now firsts.new.entries others.new.entries (with_uses before (uses_in uses.now)) }
+    ensures there { AreThere lists.now firsts.new.entries }
+{
+    for (index, used) in uses.iter().enumerate() {
+        let place = Place {
+            list,
+            index: index as u32,
+        };
+        add_one(lists, firsts, others, place, used);
+    }
 }
 
 impl TxIds {
@@ -41,7 +86,9 @@ impl TxIds {
         ensures room { result.room ≡ 0 }
     {
         TxIds {
-            uses: HashMap::new(alloc),
+            lists: Vec::new(alloc),
+            firsts: HashMap::new(alloc),
+            others: HashMap::new(alloc),
             room: 0,
         }
     }
@@ -50,40 +97,56 @@ impl TxIds {
     pub fn first_use(&self, id: &TxId) -> Option<FirstUse>
         ensures { result ≡ get self.now.uses id.now }
     {
-        self.uses.get(&IdKey::new(id)).copied()
+        first_use_of(self.lists.as_slice(), &self.firsts, &self.others, id)
     }
 
-    /// How many new ids can be added before the next `reserve`.
+    /// How many uses can be added in one list before the next `reserve`.
     pub fn room(&self) -> usize
         ensures { result ≡ self.now.room }
     {
         self.room
     }
 
-    /// Makes room for so many new ids. An `Err` changes nothing. Linear in the ids where the map grows, which it does
-    /// seldom enough that all calls together are linear in the room that they ask for.
+    /// Makes room for a list of so many uses; refused where it, or the lists, would be 2^32. An `Err` changes nothing. Linear in the ids
+    /// where the map grows, which it does seldom enough that all calls together are linear in the room that they ask for.
     pub fn reserve(&mut self, additional: usize) -> Result<(), AllocError>
         ensures ok { OnOk result (additional ≤ self.new.room) }
         ensures room { self.old.room ≤ self.new.room }
         ensures uses { self.new.uses ≡ self.old.uses }
         ensures err { OnErr result (self.new ≡ self.old) }
     {
-        self.uses.reserve(additional)?;
+        if additional > MOST || self.lists.len() > MOST {
+            return Err(AllocError);
+        }
+        make_room(
+            &mut self.lists,
+            &mut self.firsts,
+            &mut self.others,
+            additional,
+        )?;
         self.room = self.room.max(additional);
         Ok(())
     }
 
-    /// Counts a use of the id, which changes nothing where the id was used before. Constant time, no memory.
-    pub fn add(&mut self, id: &TxId, first_use: FirstUse)
-        requires { 0 < self.old.room }
-        ensures uses { self.new.uses ≡ with_uses self.old.uses ((id.now, first_use) ∷ []) }
-        ensures room { self.new.room + (if contains_key self.old.uses id.now then 0 else 1) ≡ self.old.room }
+    /// Counts uses of ids one after the other, each of which changes nothing where its id was used before, and gives up what room is left.
+    /// Linear in them, no memory.
+    pub fn add(&mut self, uses: Shared<Items<NewUse>>)
+        requires { length uses ≤ self.old.room }
+        ensures { self.new.uses ≡ with_uses self.old.uses (uses_in uses) }
     {
-        let key = IdKey::new(id);
-        if !self.uses.contains_key(&key) {
-            let _ = self.uses.insert(key, first_use);
-            self.room -= 1;
+        if uses.get().is_empty() {
+            return;
         }
+        let list = self.lists.len();
+        self.lists.push_reserved(uses);
+        add_all(
+            self.lists.as_slice(),
+            &mut self.firsts,
+            &mut self.others,
+            list as u32,
+            self.lists[list].get().as_slice(),
+        );
+        self.room = 0;
     }
 
     /// For each place of a block whether its id was used before: here, or at an earlier place. One pass, constant time
@@ -91,6 +154,6 @@ impl TxIds {
     pub fn mark(&self, alloc: Global, ids: &[Option<TxId>]) -> Result<Vec<bool>, AllocError>
         ensures { IfOk result (λ used. used.items ≡ marks self.now.uses [] ids.now) }
     {
-        marked(&self.uses, alloc, ids)
+        marked(self, alloc, ids)
     }
 }

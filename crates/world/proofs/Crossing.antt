@@ -44,10 +44,10 @@ history_sync : IsSync history.the_row
 history_sync = search (crossing, maps.crosses, kept_entry_send, kept_entry_sync) depth 40 fits 100000
 
 pub world_send : IsSend world.the_row
-world_send = search (crossing, state_send, history_send, ids.the_send, definitions_send, definitions_sync, committed.the_send, committed.the_sync, kept_entry_send, kept_entry_sync) depth 40 fits 100000
+world_send = search (crossing, state_send, history_send, ids.the_send, definitions_send, definitions_sync, committed.the_send, committed.the_sync) depth 40 fits 100000
 
 pub world_sync : IsSync world.the_row
-world_sync = search (crossing, state_sync, history_sync, ids.the_sync, definitions_send, definitions_sync, committed.the_send, committed.the_sync, kept_entry_send, kept_entry_sync) depth 40 fits 100000
+world_sync = search (crossing, state_sync, history_sync, ids.the_sync, definitions_send, definitions_sync, committed.the_send, committed.the_sync) depth 40 fits 100000
 
 pub change_send : IsSend change.the_row
 change_send = search (crossing, policy_send, policy_sync) depth 40 fits 100000
@@ -68,7 +68,7 @@ edit_sync : IsSync edit.the_row
 edit_sync = search (crossing, policy_send, policy_sync) depth 40 fits 100000
 
 -- what a delta with its batch is made of: the search takes a field's type apart once more, and then wants the parts
-pub ruleset in_ready_deltas = (change_send, edit_send, kept_entry_send, kept_entry_sync, new_use.the_send, new_definition_send, committed.the_send, committed.the_sync)
+pub ruleset in_ready_deltas = (change_send, edit_send, kept_entry_send, kept_entry_sync, new_use.the_send, new_use.the_sync, new_definition_send, committed.the_send, committed.the_sync)
 
 pub ready_delta_send : IsSend ready.the_row
 ready_delta_send = search (crossing, in_ready_deltas) depth 40 fits 100000

@@ -1,32 +1,13 @@
--- One more of each of a delta's lists.
+-- One more of a delta's definitions.
 use Rattle.std.proofs.Common.{◌≡◌, ℕ, ◌==◌, ◌+◌, ◌<◌, ◌≤◌, Bool, true, false, List, [], ◌∷◌, ◌++◌, length, take, get_or, refl, sym, ap, ◌∙◌, arith}
-use Rattle.std.specs.Prelude.{if◌then◌else◌}
 use Rattle.std.proofs.lemmas.Bool.{eqb-true}
 use Rattle.std.proofs.lemmas.List.{map_more}
 use Rattle.std.specs.FinMap.{insert}
 use Rattle.policy.specs.Tree.{Tree}
 use Rattle.policy.specs.Policies.{Policies}
 use Rattle.rules.specs.declared.delta.NewDefinition.{NewDefinition}
-use Rattle.rules.specs.declared.delta.NewUse.{NewUse}
-use Rattle.rules.specs.FirstUses.{FirstUses, with_uses}
 use Rattle.rules.specs.Definitions.{with_definitions}
-use Rattle.rules.specs.Delta.{uses_in, definitions_in}
-use Rattle.rules.proofs.IdUses.{with_uses-append}
-
-pub uses_more : (uses : List NewUse) (i : ℕ) (d : NewUse) (first old new : FirstUses) → i < length uses
-    → new ≡ with_uses old (((get_or uses i d).id, (get_or uses i d).first_use) ∷ []) → old ≡ with_uses first (uses_in (take i uses))
-    → new ≡ with_uses first (uses_in (take (i + 1) uses))
-uses_more uses i d first old new lt made so_far =
-    made
-    ∙ ap (λ m. with_uses m (uses_in (get_or uses i d ∷ []))) so_far
-    ∙ sym (with_uses-append first (uses_in (take i uses)) (uses_in (get_or uses i d ∷ [])))
-    ∙ ap (with_uses first) (sym (map_more (λ (x : NewUse). (x.id, x.first_use)) uses i d lt))
-
-pub room_left : (b : Bool) (n i before after : ℕ) → after + (if b then 0 else 1) ≡ before → n ≤ i + before → n ≤ i + 1 + after
-room_left true n i before after e h = omega arith
-room_left false n i before after e h = omega arith
-
--- ---- the policies of chaincodes
+use Rattle.rules.specs.Delta.{definitions_in}
 
 pub no_definitions : (m : Policies) → with_definitions m [] ≡ m
 unfolding with_definitions

@@ -56,6 +56,7 @@ pub(crate) fn share_definitions(
 #[derive(Drop)]
 pub(crate) struct Kept {
     pub(crate) entries: Shared<Items<KeptEntry>>,
+    pub(crate) uses: Shared<Items<NewUse>>,
     pub(crate) definitions: Option<Shared<Definitions>>,
     pub(crate) block: Shared<CommittedBlock>,
 }
@@ -73,7 +74,7 @@ pub(crate) fn make_room(
     ensures blocks { OnOk result (vec_len blocks.new + 1 ≤ vec_capacity blocks.new) }
 {
     history.reserve(delta.entries.get().len())?;
-    ids.reserve(delta.uses.len())?;
+    ids.reserve(delta.uses.get().len())?;
     blocks.reserve(1)?;
     Ok(())
 }
@@ -84,52 +85,44 @@ pub(crate) fn share_kept(
     definitions: &Option<Shared<Definitions>>,
 ) -> Result<Kept, AllocError>
     ensures entries { IfOk result (λ kept. kept.entries ≡ delta.now.entries) }
+    ensures uses { IfOk result (λ kept. kept.uses ≡ delta.now.uses) }
     ensures definitions { IfOk result (λ kept. kept.definitions ≡ definitions.now) }
     ensures block { IfOk result (λ kept. kept.block ≡ delta.now.block) }
 {
     Ok(Kept {
         entries: delta.entries.share()?,
+        uses: delta.uses.share()?,
         definitions: share_definitions(definitions)?,
         block: delta.block.share()?,
     })
 }
 
-/// Keeps it, and the uses of ids. Takes no memory.
+/// Keeps it. Takes no memory.
 pub(crate) fn keep(
     history: &mut HistoryIndex,
     ids: &mut TxIds,
     made: &mut Option<Shared<Definitions>>,
     blocks: &mut Vec<Shared<CommittedBlock>>,
     kept: Kept,
-    uses: &[NewUse],
 )
     requires history { length kept.entries ≤ history.old.room }
-    requires ids { length uses.now ≤ ids.old.room }
+    requires ids { length kept.uses ≤ ids.old.room }
     requires blocks { vec_len blocks.old + 1 ≤ vec_capacity blocks.old }
     ensures history { history.new.history ≡ with_entries history.old.history (entries_in kept.entries) }
-    ensures ids { ids.new.uses ≡ with_uses ids.old.uses (uses_in uses.now) }
+    ensures ids { ids.new.uses ≡ with_uses ids.old.uses (uses_in kept.uses) }
     ensures definitions { (opened : Policies) → unwrap_or made.new opened ≡ unwrap_or kept.definitions (unwrap_or made.old opened) }
     ensures blocks { blocks.new.items ≡ blocks.old.items ++ kept.block ∷ [] }
 {
     let Kept {
         entries,
+        uses,
         definitions,
         block,
     } = kept;
     history.add(entries);
-    add_uses(ids, uses);
+    ids.add(uses);
     if definitions.is_some() {
         *made = definitions;
     }
     blocks.push_reserved(block);
-}
-
-/// Takes no memory.
-fn add_uses(ids: &mut TxIds, uses: &[NewUse])
-    requires { length uses.now ≤ ids.old.room }
-    ensures { ids.new.uses ≡ with_uses ids.old.uses (uses_in uses.now) }
-{
-    for used in uses {
-        ids.add(&used.id, used.first_use);
-    }
 }

@@ -55,7 +55,7 @@ impl ReadyDelta {
     pub fn room_in(&self, world: &World) -> Room {
         world.room_for(
             self.delta.entries.get().len(),
-            self.delta.uses.len(),
+            self.delta.uses.get().len(),
             &self.batch,
         )
     }

@@ -263,7 +263,6 @@ impl World {
             &mut self.made,
             &mut self.blocks,
             kept,
-            delta.uses.as_slice(),
         );
         Ok(())
     }
@@ -303,6 +302,7 @@ impl World {
         } = delta;
         let kept = Kept {
             entries,
+            uses,
             definitions,
             block,
         };
@@ -312,7 +312,6 @@ impl World {
             &mut self.made,
             &mut self.blocks,
             kept,
-            uses.as_slice(),
         );
         Ok(())
     }
