@@ -8,6 +8,7 @@ ghost use Rattle.rules.specs.Linked.{IsRefused};
 ghost use Rattle.ledger.specs.NextDelta.{IsDeltaOfJob};
 ghost use Rattle.commit.specs.Prepared.{AreHanded, IsNextDeltaOr, IsNextOfHashed, IsPrepared, IsTakenIn};
 
+use crate::looking_up::rows_of;
 use crate::means::Means;
 use crate::prepared::{Prepared, take_in};
 use crate::workers::Workers;
@@ -16,7 +17,7 @@ use check_workers::check_all;
 use gates::Gate;
 use intake_workers::{Handed, Hashed};
 use key_chains::{Chained, Job};
-use ledger::{Unhashed, foreseen_job, unhashed_of};
+use ledger::{Unhashed, job_over, marked_of, unhashed_of};
 use policy_eval::Verify;
 use rules::Refused;
 use std::alloc::{AllocError, Global};
@@ -103,8 +104,8 @@ fn checked_delta<R: Threads + Wait + Sync, V, G: Gate + Sync>(
 /// What the block that was taken in would change, but for its commit hash, or why it would be refused; and how many verdicts no
 /// worker had found.
 ///
-/// Used ids are marked in order, and rows looked up; both checks are done by so many workers. What its job had of the block is left in
-/// `spent`, for to drop it takes a while.
+/// Used ids are marked in order. Rows are looked up by all workers, where that is worth a thread, and both checks are done by so many.
+/// What its job had of the block is left in `spent`, for to drop it takes a while.
 pub(crate) fn next_delta<'b, R: Threads + Wait + Sync, V: Verify, G: Gate + Sync>(
     means: &Means<'_, R, V, G>,
     world: &World,
@@ -121,7 +122,15 @@ pub(crate) fn next_delta<'b, R: Threads + Wait + Sync, V: Verify, G: Gate + Sync
     let _bytes = bytes;
     let Prepared { hashed, foreseen } = prepared;
     let (block, kept) = linked(world, hashed)?;
-    let (job, ids) = foreseen_job(means.alloc, means.channel, world, foreseen)?;
+    let (chained, ids) = marked_of(means.alloc, world, foreseen)?;
+    let found = rows_of(
+        means.rt,
+        means.alloc,
+        means.workers,
+        world.state(),
+        chained.keys(),
+    )?;
+    let job = job_over(means.channel, world, chained, found);
     let delta = checked_delta(
         means,
         checkers,

@@ -5,6 +5,7 @@ mod by_workers;
 mod committer;
 mod hashing;
 mod laws;
+mod looking_up;
 mod means;
 mod not_committed;
 mod opening;

@@ -7,10 +7,13 @@ pub const MAX_WORKERS: usize = 64;
 // So many transactions are checked in the time that some threads take to start.
 const WORTH_A_CHECKER: usize = 2048;
 
-// The same over a state of so many pages, whose rows lie in no cache.
-const MANY_PAGES: usize = 1024;
+// A state of so many pages lies in no processor's own cache, so that look-ups wait for memory, and several threads wait for it at once.
+const MANY_PAGES: usize = 256;
 
-const WORTH_A_CHECKER_OF_MANY: usize = 256;
+// Over such a state a thread more is worth so many transactions that are checked, and so many look-ups.
+const WORTH_A_CHECKER_OF_MANY: usize = 128;
+
+const WORTH_A_LOOKER: usize = 256;
 
 /// How many workers check a block.
 #[derive(Clone, Copy)]
@@ -42,5 +45,13 @@ impl Workers {
         Workers {
             count: self.count.min(1 + txs / worth),
         }
+    }
+
+    /// How many threads look up the rows of so many keys, over a state of so many pages.
+    pub(crate) fn looking_up(self, keys: usize, pages: usize) -> usize {
+        if pages < MANY_PAGES {
+            return 1;
+        }
+        self.count.min(1 + keys / WORTH_A_LOOKER)
     }
 }

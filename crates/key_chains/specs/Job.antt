@@ -43,9 +43,12 @@ read_by (updates u signers) = []
 abbrev pub written_by : Candidate → List StateKey
 written_by c = keys_in_order (operated_by c)
 
--- the keys that the block writes, in their order, each once
+-- the keys that the candidates of a block write, in their order, each once
+abbrev pub keys_in : List Candidate → List StateKey
+keys_in cs = keys_in_order (flat_map written_by cs)
+
 abbrev pub keys_of : Job → List StateKey
-keys_of j = keys_in_order (flat_map written_by j.candidates)
+keys_of j = keys_in j.candidates
 
 -- of these keys, those of a namespace that pass a test
 abbrev pub keys_where : List StateKey → List ℕ → (List ℕ → Bool) → List StateKey

@@ -1,8 +1,9 @@
 ghost use Rattle.std.specs.Prelude.{◌≡◌, ◌<◌, ◌^◌, length, map, IfOk};
 ghost use Rattle.candidates.specs.Seen.{seen};
+ghost use Rattle.key_chains.specs.Job.{keys_in};
 
 use crate::chains::Chains;
-use candidates::Candidate;
+use candidates::{Candidate, StateKey};
 use std::alloc::{AllocError, Global};
 use std::marker::Model;
 
@@ -41,6 +42,13 @@ impl<'a> Chained<'a> {
     {
         let chains = Chains::build(alloc, candidates.as_slice())?;
         Ok(Chained { candidates, chains })
+    }
+
+    /// The keys that they write, in their order.
+    pub fn keys(&self) -> &[StateKey<'a>]
+        ensures { result.now ≡ keys_in self.now }
+    {
+        self.chains.keys.as_slice()
     }
 
     /// The candidates.

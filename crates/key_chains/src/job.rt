@@ -7,12 +7,13 @@ ghost use Rattle.rules.specs.Delta.{changes_in};
 ghost use Rattle.rules.specs.State.{State, StateKey, is_among, with_changes};
 ghost use Rattle.rules.specs.Ranges.{is_within, rows_where};
 ghost use Rattle.rules.specs.Job.{candidate_at, flag_by};
-ghost use Rattle.key_chains.specs.Job.{IsOpened, IsOpen, IsNoOpenTx, read_by, written_by, keys_of, keys_where};
+ghost use Rattle.key_chains.specs.Job.{IsOpened, IsOpen, IsNoOpenTx, read_by, written_by, keys_in, keys_of, keys_where};
 ghost use Rattle.rules.specs.Candidate.{flagged};
 ghost use Rattle.candidates.specs.Seen.{seen};
 ghost use Rattle.key_chains.specs.Operations.{operations};
 ghost use Rattle.key_chains.specs.PolicyWriters.{policy_writers};
 ghost use Rattle.state_db.specs.Batch.{changed};
+ghost use Rattle.state_db.specs.LookedUp.{AreRows};
 
 use crate::chained::Chained;
 use crate::chains::{Chains, newest_on};
@@ -83,24 +84,25 @@ impl<'s, 'b> Job<'s, 'b> {
         ensures { IfOk result (λ j. j ≡ record { number = number; state = state.entry.now.state; definitions = definitions.entry.now; admin = option_copied admin.entry; candidates = map seen candidates.entry.items }) }
     {
         let chained = Chained::build(alloc, candidates)?;
-        Job::over(alloc, number, state, definitions, admin, chained)
+        let found = state.rows_of(alloc, chained.keys())?;
+        Ok(Job::of_found(number, state, definitions, admin, chained, found))
     }
 
-    /// The same of candidates whose operations are linked. A search for the row of each key that they write.
-    pub fn over(
-        alloc: Global,
+    /// The same of candidates whose operations are linked, where the row of each key that they write was found. Constant time.
+    pub fn of_found(
         number: u64,
         state: &'s StateDb,
         definitions: &'s Definitions,
         admin: Option<&'s Policy>,
         chained: Chained<'b>,
-    ) -> Result<Job<'s, 'b>, AllocError>
-        requires { length chained ≤ max_txs }
-        ensures { IfOk result (λ j. j ≡ record { number = number; state = state.entry.now.state; definitions = definitions.entry.now; admin = option_copied admin.entry; candidates = chained.entry }) }
+        found: FoundRows<'s>,
+    ) -> Job<'s, 'b>
+        requires few { length chained ≤ max_txs }
+        requires found { AreRows state.now.state (keys_in chained) found.rows.items }
+        ensures { result ≡ record { number = number; state = state.entry.now.state; definitions = definitions.entry.now; admin = option_copied admin.entry; candidates = chained.entry } }
     {
         let Chained { candidates, chains } = chained;
-        let found = state.rows_of(alloc, chains.keys.as_slice())?;
-        Ok(Job {
+        Job {
             number,
             state,
             definitions,
@@ -108,7 +110,7 @@ impl<'s, 'b> Job<'s, 'b> {
             candidates,
             chains,
             found,
-        })
+        }
     }
 
     /// What it has that needs no state.
@@ -225,11 +227,8 @@ impl<'s, 'b> Job<'s, 'b> {
     pub fn update_bytes(&self, batch: &Batch) -> Result<Vec<u8>, AllocError>
         ensures { IfOk result (λ bytes. bytes.items ≡ update_bytes self.now.state (changed self.now.state batch.now)) }
     {
-        self.state.update_bytes(
-            batch,
-            self.chains.keys.as_slice(),
-            self.found.rows.as_slice(),
-        )
+        self.state
+            .update_bytes(batch, self.chains.keys.as_slice(), &self.found)
     }
 
     /// The policy of a chaincode.

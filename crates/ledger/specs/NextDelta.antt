@@ -9,7 +9,7 @@ use Rattle.policy_eval.specs.Accepts.{Accepts}
 use Rattle.transaction.specs.declared.item.Item.{Item}
 use Rattle.rules.specs.declared.answer.Accepted.{Accepted}
 use Rattle.rules.specs.declared.delta.Delta.{Delta}
-use Rattle.rules.specs.Candidate.{used_id}
+use Rattle.rules.specs.Candidate.{Candidate, used_id}
 use Rattle.rules.specs.Job.{Job}
 use Rattle.rules.specs.World.{World, height_of, last_commit_hash}
 use Rattle.rules.specs.Names.{HasNamesOf}
@@ -25,6 +25,10 @@ pub record IsNextDelta (channel : Configuration) (accepts : Accepts) (w : World)
   pub linked : IsLinked w block
   pub delta : IsDelta channel accepts w (items_of block) (committed_of bytes (last_commit_hash w) block (job_of channel accepts w (items_of block))) d
   pub changes : AreRealChanges w.state (changes_in d.changes)
+
+-- these candidates over a world
+abbrev pub job_over : Configuration → World → List Candidate → Job
+job_over channel w candidates = record { number = height_of w; state = w.state; definitions = w.definitions; admin = channel.admin; candidates = candidates }
 
 -- Whatever the verifier and the items of which this was taken in, the job is theirs where the world has the names of the
 -- channel, and the ids are theirs.

@@ -10,5 +10,5 @@ mod unhashed;
 
 pub use foreseen::{Foreseen, foreseen_of};
 pub use ledger::Ledger;
-pub use next_delta::{delta_of, foreseen_job, unhashed_of};
+pub use next_delta::{delta_of, job_over, marked_of, unhashed_of};
 pub use unhashed::Unhashed;

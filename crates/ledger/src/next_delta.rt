@@ -2,14 +2,17 @@
 ghost use Rattle.std.specs.Prelude.{◌≡◌, ◌≤◌, List, length, IfOk};
 ghost use Rattle.intake.specs.declared.taking.Taken as as_taken;
 ghost use Rattle.block.specs.Limits.{max_txs};
+ghost use Rattle.channel.specs.Configuration as as_channel;
+ghost use Rattle.key_chains.specs.Job.{keys_in};
 ghost use Rattle.rules.specs.Delta.{AreRealChanges, changes_in, definitions_in};
 ghost use Rattle.rules.specs.Fold as fold;
 ghost use Rattle.rules.specs.Fold.{final_state, definitions_to};
 ghost use Rattle.rules.specs.State.{State, with_changes};
 ghost use Rattle.state_db.specs.Batch.{changed};
+ghost use Rattle.state_db.specs.LookedUp.{AreRows};
 ghost use Rattle.ledger.specs.Changes.{AddEntriesOf};
 ghost use Rattle.ledger.specs.Foreseen.{AreForeseenIn};
-ghost use Rattle.ledger.specs.NextDelta.{AreIdsOfTaken, IsDeltaOfJob, IsJobOfTaken};
+ghost use Rattle.ledger.specs.NextDelta.{AreIdsOfTaken, IsDeltaOfJob, IsJobOfTaken, job_over};
 
 use crate::foreseen::{Foreseen, foreseen_of, with_marks};
 use crate::unhashed::{Place, Unhashed};
@@ -18,9 +21,9 @@ use channel::Configuration;
 use effects::{Effects, effects_of};
 use header_hash::header_hash;
 use intake::{Taken, foreseen_candidates_are_the_definitions};
-use key_chains::Job;
+use key_chains::{Chained, Job};
 use rules::Flag;
-use state_db::Batch;
+use state_db::{Batch, FoundRows};
 use std::alloc::{AllocError, Global};
 use transaction::TxId;
 use values::{Bytes, Hash, Shared, Slice};
@@ -29,37 +32,50 @@ use world::{ReadyDelta, World};
 // how many bytes tell how long a transaction is
 const TX_COUNT: usize = 4;
 
-/// The job of the next block, of what was foreseen of it, and the id that each of its transactions uses.
+/// The candidates of the next block, linked, of what was foreseen of it, and the id that each of its transactions uses.
 ///
-/// One pass over its ids, and a search for the row of each key that it writes. Memory for lists of marks and rows; where an id is used,
-/// for what was foreseen once more.
-pub fn foreseen_job<'s, 'b>(
+/// One pass over its ids, and memory for a list of marks; where an id is used, for what was foreseen once more.
+pub fn marked_of<'b>(
     alloc: Global,
-    channel: &'s Configuration,
-    world: &'s World,
+    world: &World,
     foreseen: Foreseen<'b>,
-) -> Result<(Job<'s, 'b>, Vec<Option<TxId>>), AllocError>
+) -> Result<(Chained<'b>, Vec<Option<TxId>>), AllocError>
     requires count { length foreseen.chained ≡ length foreseen.ids.items }
     requires few { length foreseen.ids.items ≤ max_txs }
-    ensures job { IfOk result (λ r. (taken : List as_taken.Taken) → AreForeseenIn taken foreseen.entry → IsJobOfTaken channel.entry.now world.entry.now taken r.0) }
-    ensures ids { IfOk result (λ r. (taken : List as_taken.Taken) → AreForeseenIn taken foreseen.entry → AreIdsOfTaken channel.entry.now taken r.1.items) }
+    ensures few { IfOk result (λ r. length r.0 ≤ max_txs) }
+    ensures job { IfOk result (λ r. (channel : as_channel.Configuration) (taken : List as_taken.Taken) → AreForeseenIn taken foreseen.entry → IsJobOfTaken channel world.now taken (job_over channel world.now r.0)) }
+    ensures ids { IfOk result (λ r. (channel : as_channel.Configuration) (taken : List as_taken.Taken) → AreForeseenIn taken foreseen.entry → AreIdsOfTaken channel taken r.1.items) }
 {
     foreseen_candidates_are_the_definitions();
     let Foreseen { ids, chained } = foreseen;
     let used = world.mark(alloc, ids.as_slice())?;
     let chained = with_marks(alloc, chained, used.as_slice())?;
-    let job = Job::over(
-        alloc,
+    Ok((chained, ids))
+}
+
+/// The job of the next block, whose candidates these are, where the row of each key that they write was found. Constant time.
+pub fn job_over<'s, 'b>(
+    channel: &'s Configuration,
+    world: &'s World,
+    chained: Chained<'b>,
+    found: FoundRows<'s>,
+) -> Job<'s, 'b>
+    requires few { length chained ≤ max_txs }
+    requires found { AreRows world.now.state (keys_in chained) found.rows.items }
+    ensures { result ≡ job_over channel.entry.now world.entry.now chained.entry }
+{
+    Job::of_found(
         world.height(),
         world.state(),
         world.definitions(),
         channel.admin(),
         chained,
-    )?;
-    Ok((job, ids))
+        found,
+    )
 }
 
-/// The same of what was taken in of it.
+/// The job of the next block, of what was taken in of it, and the id that each of its transactions uses. A search for the row of each key
+/// that it writes.
 pub(crate) fn job_of<'s, 'b>(
     alloc: Global,
     channel: &'s Configuration,
@@ -71,7 +87,9 @@ pub(crate) fn job_of<'s, 'b>(
     ensures ids { IfOk result (λ r. AreIdsOfTaken channel.entry.now taken.entry.items r.1.items) }
 {
     let foreseen = foreseen_of(alloc, taken)?;
-    foreseen_job(alloc, channel, world, foreseen)
+    let (chained, ids) = marked_of(alloc, world, foreseen)?;
+    let found = world.state().rows_of(alloc, chained.keys())?;
+    Ok((job_over(channel, world, chained, found), ids))
 }
 
 /// Where the transactions of a block begin in its bytes, of which there are so many. No clause speaks of it: what is looked for

@@ -121,8 +121,8 @@ impl Batch {
         Batch::of_looked_up(alloc, changes, &[], &FoundRows::none(alloc))
     }
 
-    /// The changes of a delta, as `of` has them, with guesses: where the row of a key was looked up, it is guessed where one is put. Where
-    /// these keys are in their order that takes a step for each, no more memory.
+    /// The same as `of`, where rows of these keys were looked up: a row that is put at one of them is guessed to have its place where that
+    /// one was found. Where the keys are in their order that takes a step more for each, and no more memory.
     pub fn of_looked_up(
         alloc: Global,
         changes: &[Change],

@@ -1,5 +1,5 @@
 //! Rows that were looked up once for keys, and needn't be again.
-ghost use Rattle.std.specs.Prelude.{◌≡◌, IfOk, IfSome};
+ghost use Rattle.std.specs.Prelude.{◌≡◌, ◌++◌, IfSome, OnOk};
 ghost use Rattle.std.specs.Option.{option_copied};
 ghost use Rattle.std.specs.FinMap.{get, find, from_sorted};
 ghost use Rattle.rules.specs.State.{State, key_cmp};
@@ -11,7 +11,7 @@ use crate::edit::Edit;
 use crate::page::Page;
 use rules::Row;
 use state_keys::StateKey;
-use std::alloc::Global;
+use std::alloc::{AllocError, Global};
 
 /// The rows of keys, each at its key's place; beside each the place in its page where it was found, or would be. No clause speaks of
 /// the places: they are guesses of where the rows of the same keys are put later.
@@ -28,6 +28,18 @@ impl<'a> FoundRows<'a> {
             rows: Vec::new(alloc),
             places: Vec::new(alloc),
         }
+    }
+
+    /// Those of more keys behind these. Takes memory for them.
+    pub fn append(&mut self, more: FoundRows<'a>) -> Result<(), AllocError>
+        ensures { OnOk result (self.new.rows.items ≡ self.old.rows.items ++ more.entry.rows.items) }
+    {
+        let FoundRows {
+            mut rows,
+            mut places,
+        } = more;
+        self.rows.append(&mut rows)?;
+        self.places.append(&mut places)
     }
 
     /// A guess for the key at this place.

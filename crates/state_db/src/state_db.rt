@@ -208,12 +208,18 @@ impl StateDb {
         &'a self,
         batch: &Batch,
         keys: &[StateKey<'_>],
-        rows: &[Option<&'a Row>],
+        found: &FoundRows<'a>,
     ) -> Result<Vec<u8>, AllocError>
-        requires known { AreRows self.now.state keys.now rows.now }
+        requires { AreRows self.now.state keys.now found.now.rows.items }
         ensures { IfOk result (λ bytes. bytes.items ≡ update_bytes self.now.state (changed self.now.state batch.now)) }
     {
-        update_of(self.alloc, self.pages.as_slice(), keys, rows, batch.edits())
+        update_of(
+            self.alloc,
+            self.pages.as_slice(),
+            keys,
+            found.rows.as_slice(),
+            batch.edits(),
+        )
     }
 
     /// How many pages hold the rows.

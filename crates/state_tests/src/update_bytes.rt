@@ -158,7 +158,7 @@ fn is_spelled_knowing(
 ) -> Result<bool, Failed> {
     let batch = batch_of(alloc, edits)?;
     let found = state.rows_of(alloc, keys)?;
-    let spelled = state.update_bytes(&batch, keys, found.rows.as_slice())?;
+    let spelled = state.update_bytes(&batch, keys, &found)?;
     Ok(spelled.as_slice() == bytes)
 }
 

@@ -1,21 +1,23 @@
-use Rattle.std.proofs.Common.{sym, subst, ◌∙◌}
+use Rattle.std.proofs.Common.{◌≤◌, length, sym, ap, subst, ◌∙◌}
 use Rattle.std.proofs.lemmas.Result.{MatchResult-weaker}
 use Rattle.block.specs.declared.block.Block.{Block}
+use Rattle.block.specs.Limits.{max_txs}
 use Rattle.ledger.proofs.NextDeltas.{count-job, is_next}
 use Rattle.ledger.proofs.Taken.{as_many, few, few-foreseen}
 use Rattle.ledger.specs.Taken.{IsTaken}
 use Rattle.rules.specs.declared.answer.Refused.{Refused}
 use Rattle.rules.specs.Commit.{items_of}
+use Rattle.rules.specs.Job.{Job}
 use Rattle.rules.specs.Linked.{IsRefused}
 use Rattle.commit.proofs.by_workers.next_delta.Goals as goal
 
-pub foreseen_job-requires-clause-count : goal.foreseen_job-requires-clause-count
-foreseen_job-requires-clause-count g c =
+pub marked_of-requires-clause-count : goal.marked_of-requires-clause-count
+marked_of-requires-clause-count g c =
     let is = c.requires.prepared in
     as_many is.taken c.args.prepared.foreseen is.foreseen
 
-pub foreseen_job-requires-clause-few : goal.foreseen_job-requires-clause-few
-foreseen_job-requires-clause-few g c =
+pub marked_of-requires-clause-few : goal.marked_of-requires-clause-few
+marked_of-requires-clause-few g c =
     let is = c.requires.prepared in
     few-foreseen is.taken c.args.prepared.foreseen (few _ _ _ _ _ is.is_taken) is.foreseen
 
@@ -26,8 +28,15 @@ checked_delta-delta-requires-clause-ids g c κs within =
     let b = c.args.prepared.hashed.block in
     let prepared = c.requires.prepared in
     let taken = prepared.is_taken.taken in
-    count-job channel accepts c.args.world.now b c.in_ok-job.job c.as_slice.result.now (c.in_ok-job.ensures.job prepared.taken prepared.foreseen c.requires.names accepts (items_of b) taken)
-    (c.as_slice.ensures.value ∙ c.in_ok-job.ensures.ids prepared.taken prepared.foreseen accepts (items_of b) taken)
+    let marked = c.in_ok-chained.ensures in
+    count-job channel accepts c.args.world.now b c.job_over-job.result c.as_slice.result.now (c.job_over-job.ensures ∙ marked.job channel prepared.taken prepared.foreseen c.requires.names accepts (items_of b) taken)
+    (c.as_slice.ensures.value ∙ marked.ids channel prepared.taken prepared.foreseen accepts (items_of b) taken)
+
+pub checked_delta-delta-requires-clause-few : goal.checked_delta-delta-requires-clause-few
+checked_delta-delta-requires-clause-few g c κs within =
+    let marked = c.in_ok-chained.ensures in
+    let count = checked_delta-delta-requires-clause-ids g c κs within ∙ ap (λ (j : Job). length j.candidates) c.job_over-job.ensures in
+    subst (λ n. n ≤ max_txs) (sym count) marked.few
 
 pub returns : goal.returns
 returns g c =
@@ -40,7 +49,8 @@ returns g c =
     let prepared = c.requires.prepared in
     let is : IsTaken channel accepts bytes b prepared.taken =
     subst (λ (x : Block). IsTaken channel accepts bytes x prepared.taken) (sym next.0) prepared.is_taken in
+    let marked = c.in_ok-chained.ensures in
     MatchResult-weaker c.checked_delta-delta.result c.checked_delta-delta.ensures
-    (λ r delta. is_next channel accepts w bytes c.in_ok-block.kept b c.in_ok-job.job c.as_slice.result.now c.commit_hash.result r.0 (next.2 ∙ sym is.spelled.fields) is.spelled next.1
-    (c.in_ok-job.ensures.job prepared.taken prepared.foreseen c.requires.names accepts (items_of b) is.taken) (c.as_slice.ensures.value ∙ c.in_ok-job.ensures.ids prepared.taken prepared.foreseen accepts (items_of b) is.taken) c.commit_hash.ensures delta)
+    (λ r delta. is_next channel accepts w bytes c.in_ok-block.kept b c.job_over-job.result c.as_slice.result.now c.commit_hash.result r.0 (next.2 ∙ sym is.spelled.fields) is.spelled next.1
+    (c.job_over-job.ensures ∙ marked.job channel prepared.taken prepared.foreseen c.requires.names accepts (items_of b) is.taken) (c.as_slice.ensures.value ∙ marked.ids channel prepared.taken prepared.foreseen accepts (items_of b) is.taken) c.commit_hash.ensures delta)
     (λ refused memory. subst (λ (r : Refused). IsRefused w bytes r) (sym memory) tt)

@@ -1,5 +1,8 @@
-use Rattle.std.proofs.lemmas.Result.{IfOk-weaker}
+use Rattle.std.proofs.Common.{◌∙◌}
 use Rattle.ledger.proofs.next_delta.job_of.Goals as goal
 
 pub returns-clause-job : goal.returns-clause-job
-returns-clause-job c = IfOk-weaker c.foreseen_job.result _ _ (λ r is. is c.args.taken.items c.in_ok-foreseen.ensures) c.foreseen_job.ensures.job
+returns-clause-job c names accepts items same = c.job_over.ensures ∙ c.in_ok-chained.ensures.job c.args.channel.now c.args.taken.items c.in_ok-foreseen.ensures names accepts items same
+
+pub returns-clause-ids : goal.returns-clause-ids
+returns-clause-ids c = c.in_ok-chained.ensures.ids c.args.channel.now c.args.taken.items c.in_ok-foreseen.ensures

@@ -4,8 +4,9 @@ use Rattle.intake.specs.Foreseen.{marked}
 use Rattle.txid_index.specs.Marks.{marks}
 use Rattle.rules.specs.Candidate.{Candidate}
 use Rattle.rules.proofs.Names.{candidates_same}
+use Rattle.ledger.specs.NextDelta.{job_over}
 use Rattle.ledger.proofs.Marking.{as_many-marks, few_marked}
-use Rattle.ledger.proofs.next_delta.foreseen_job.Goals as goal
+use Rattle.ledger.proofs.next_delta.marked_of.Goals as goal
 
 pub with_marks-requires-clause-count : goal.with_marks-requires-clause-count
 with_marks-requires-clause-count c =
@@ -13,21 +14,19 @@ with_marks-requires-clause-count c =
     ∙ as_many-marks c.args.world.now.first_uses [] c.as_slice.result.now
     ∙ ap length c.as_slice.ensures.value ∙ sym c.requires.count
 
-pub over-requires : goal.over-requires
-over-requires c =
+pub returns-clause-few : goal.returns-clause-few
+returns-clause-few c =
     subst (λ (cs : List Candidate). length cs ≤ max_txs) (sym c.in_ok-chained.ensures)
     (few_marked c.args.foreseen.chained c.as_slice-2.result.now max_txs (subst (λ n. n ≤ max_txs) (sym c.requires.count) c.requires.few))
 
 pub returns-clause-job : goal.returns-clause-job
-returns-clause-job c taken are names accepts items same =
-    let channel = c.args.channel.now in
+returns-clause-job c channel taken are names accepts items same =
     let w = c.args.world.now in
     let used = c.as_slice-2.ensures.value ∙ c.in_ok-used.ensures ∙ ap (marks w.first_uses []) c.as_slice.ensures.value in
     let by_channel = c.in_ok-chained.ensures ∙ ap (marked c.args.foreseen.chained) used
     ∙ c.foreseen_candidates_are_the_definitions.ensures.candidates channel accepts w.first_uses items taken c.args.foreseen.ids.items c.args.foreseen.chained are same in
-    let over_world = by_channel ∙ sym (candidates_same channel w names accepts (length items == 1) w.first_uses [] items) in
-    c.in_ok-job.ensures ∙ (λ i. record { number = c.height.ensures i; state = c.state.ensures i; definitions = c.definitions.ensures i; admin = c.admin.ensures i; candidates = over_world i })
+    ap (job_over channel w) (by_channel ∙ sym (candidates_same channel w names accepts (length items == 1) w.first_uses [] items))
 
 pub returns-clause-ids : goal.returns-clause-ids
-returns-clause-ids c taken are accepts items same =
-    c.foreseen_candidates_are_the_definitions.ensures.ids c.args.channel.now accepts items taken c.args.foreseen.ids.items c.args.foreseen.chained are same
+returns-clause-ids c channel taken are accepts items same =
+    c.foreseen_candidates_are_the_definitions.ensures.ids channel accepts items taken c.args.foreseen.ids.items c.args.foreseen.chained are same
