@@ -1,4 +1,2 @@
-mod Places
 mod Chains
-mod Adding
-mod Lists
+mod Standing

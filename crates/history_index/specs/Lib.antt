@@ -1,4 +1,3 @@
 pub mod Index
 pub mod Hash
-pub mod Places
-pub mod Links
+pub mod Lists

@@ -1,110 +1,57 @@
-ghost use Rattle.std.specs.Prelude.{◌≡◌, ◌==◌, ◌<◌, ◌≤◌, ◌+◌, ◌^◌, ℕ, List, [], ◌∷◌, ◌++◌, length, OnOk, OnErr, unwrap_or, if◌then◌else◌, Some, vec_len, vec_capacity};
-ghost use Rattle.std.specs.Map.{lookup};
-ghost use Rattle.std.specs.HashMap.{spare};
+ghost use Rattle.std.specs.Prelude.{◌≡◌, ◌≤◌, ◌+◌, ◌++◌, length, map, replicate, OnOk, OnErr, vec_len, vec_capacity};
 ghost use Rattle.std.specs.FinMap.{empty};
-ghost use Rattle.rules.specs.declared.delta.NewEntry as as_entry;
 ghost use Rattle.rules.specs.Delta.{entries_in};
 ghost use Rattle.rules.specs.History.{entries_at, with_entries};
-ghost use Rattle.history_index.specs.Links.{Linked, links_in, AreLogged, AreThere, IsAt, IsIndexed};
+ghost use Rattle.history_index.specs.Lists.{hashes_of};
 
 use crate::entries::Entries;
 use crate::hash::key_hash;
-use crate::log::{Logged, SharedList};
+use crate::lists::Listed;
+use hash_index::HashIndex;
 use rules::KeptEntry;
 use std::alloc::{AllocError, Global};
-use std::collections::HashMap;
 use std::marker::Model;
 use values::{Items, KeyRef, NameRef, Shared};
-
-// places are counted by 32 bits
-const MAX_ENTRIES: usize = u32::MAX as usize;
 
 /// The entries of all keys. A contract sees the history, and the room for a list of more entries.
 #[derive(Drop)]
 pub struct HistoryIndex {
-    lists: Vec<SharedList>,
-    // of all entries, in the order in which they came
-    log: Vec<Logged>,
-    // for each hash of a key the place of the last entry with it
-    newest: HashMap<u32, u32>,
+    lists: Vec<Listed>,
+    // for each entry the number of its list, in the order in which they came
+    list_of: Vec<u32>,
+    // of all entries, in this order, by the hashes of their keys
+    index: HashIndex,
     // how many entries more are sure to fit, in one list
     room: usize,
 }
 
 impl Model for HistoryIndex {
-    ghost use Rattle.std.specs.Prelude.{◌+◌, ◌^◌, ◌<◌, ◌≤◌, vec_len, vec_capacity};
-    ghost use Rattle.std.specs.HashMap.{spare};
+    ghost use Rattle.std.specs.Prelude.{◌≡◌, ◌+◌, ◌^◌, ◌<◌, ◌≤◌, vec_len, vec_capacity};
     ghost use Rattle.history_index.specs.Index.{Index, index_code};
 
     ghost Value = { Index };
 
     ghost coded = { index_code };
 
-    ghost use Rattle.history_index.specs.Links.{history_of, links_in, AreThere, IsIndexed};
+    ghost use Rattle.history_index.specs.Lists.{all_entries, hashes_of, history_of, AreIn};
 
-    ghost view = { λ i. record { history = history_of (links_in i.lists.items i.log.items); room = i.room } };
+    ghost view = { λ i. record { history = history_of (all_entries i.lists.items); room = i.room } };
 
-    ghost invariant = { λ i. IsIndexed (links_in i.lists.items i.log.items) i.newest.entries
-        × AreThere i.lists.items i.log.items
-        × (vec_len i.log + i.room ≤ vec_capacity i.log) × (i.room ≤ spare i.newest) × (vec_len i.log + i.room < 2 ^ 32)
-        × (0 < i.room → vec_len i.lists < vec_capacity i.lists) × (vec_len i.lists ≤ vec_len i.log) };
+    ghost invariant = { λ i. AreIn i.lists.items i.list_of.items × (i.index.hashes ≡ hashes_of (all_entries i.lists.items))
+        × (vec_len i.list_of + i.room ≤ vec_capacity i.list_of) × (i.room ≤ i.index.room) × (vec_len i.list_of + i.room < 2 ^ 32)
+        × (0 < i.room → vec_len i.lists < vec_capacity i.lists) × (vec_len i.lists ≤ vec_len i.list_of) };
 }
 
-/// What is kept for a hash, 0 where there is nothing.
-fn place_of(newest: &HashMap<u32, u32>, hash: u32) -> u32
-    ensures { result ≡ unwrap_or (lookup (λ h. hash == h) newest.now.entries) 0 }
+/// Takes in the entries of the list of this number. Takes no memory.
+fn log_all(list_of: &mut Vec<u32>, index: &mut HashIndex, list: u32, entries: &[KeptEntry])
+    requires list_of { vec_len list_of.old + length entries.now ≤ vec_capacity list_of.old }
+    requires index { length entries.now ≤ index.old.room }
+    ensures list_of { list_of.new.items ≡ list_of.old.items ++ replicate (length entries.now) list }
+    ensures index { index.new.hashes ≡ index.old.hashes ++ hashes_of entries.now }
 {
-    newest.get(&hash).copied().unwrap_or(0)
-}
-
-/// Keeps another place for a hash, and gives back what was kept. Takes no memory.
-fn replace(newest: &mut HashMap<u32, u32>, hash: u32, place: u32) -> u32
-    requires { 0 < spare newest.old }
-    ensures result { result ≡ unwrap_or (lookup (λ h. hash == h) newest.old.entries) 0 }
-    ensures kept { (q : ℕ) → lookup (λ h. q == h) newest.new.entries ≡ (if hash == q then Some place else lookup (λ h. q == h) newest.old.entries) }
-    ensures spare { spare newest.old ≤ spare newest.new + 1 }
-{
-    match newest.insert(hash, place) {
-        Ok(Some(older)) => older,
-        _ => 0,
-    }
-}
-
-/// Logs the entry at this place of a list. Constant time, no memory.
-fn log_one(
-    log: &mut Vec<Logged>,
-    newest: &mut HashMap<u32, u32>,
-    list: u32,
-    index: u32,
-    entry: &KeptEntry,
-)
-    requires log { vec_len log.old < vec_capacity log.old }
-    requires newest { 0 < spare newest.old }
-    requires few { vec_len log.old + 1 < 2 ^ 32 }
-    ensures logged { (lists : List (List as_entry.NewEntry)) (first : List Linked) (before : List as_entry.NewEntry) → IsAt lists list index entry.now
-        → AreLogged before lists log.old.items first newest.old.entries → AreLogged (before ++ entry.now ∷ []) lists log.new.items first newest.new.entries }
-    ensures len { vec_len log.new ≡ vec_len log.old + 1 }
-    ensures capacity { vec_capacity log.old ≤ vec_capacity log.new }
-    ensures spare { spare newest.old ≤ spare newest.new + 1 }
-{
-    let hash = key_hash(&entry.namespace(), &entry.key());
-    let place = log.len() as u32 + 1;
-    let older = replace(newest, hash, place);
-    log.push_reserved(Logged { list, index, older });
-}
-
-/// Logs the entries of the list of this number. Takes no memory.
-fn log_all(log: &mut Vec<Logged>, newest: &mut HashMap<u32, u32>, list: u32, entries: &[KeptEntry])
-    requires log { vec_len log.old + length entries.now ≤ vec_capacity log.old }
-    requires newest { length entries.now ≤ spare newest.old }
-    requires few { vec_len log.old + length entries.now < 2 ^ 32 }
-    ensures logged { (lists : List (List as_entry.NewEntry)) → length lists ≡ list → AreThere lists log.old.items → IsIndexed (links_in lists log.old.items) newest.old.entries
-        → AreLogged entries.now (lists ++ entries.now ∷ []) log.new.items (links_in lists log.old.items) newest.new.entries }
-    ensures len { vec_len log.new ≡ vec_len log.old + length entries.now }
-    ensures capacity { vec_capacity log.old ≤ vec_capacity log.new }
-{
-    for (index, entry) in entries.iter().enumerate() {
-        log_one(log, newest, list, index as u32, entry);
+    for entry in entries {
+        list_of.push_reserved(list);
+        index.push(key_hash(&entry.namespace(), &entry.key()));
     }
 }
 
@@ -116,8 +63,8 @@ impl HistoryIndex {
     {
         HistoryIndex {
             lists: Vec::new(alloc),
-            log: Vec::new(alloc),
-            newest: HashMap::new(alloc),
+            list_of: Vec::new(alloc),
+            index: HashIndex::new(alloc),
             room: 0,
         }
     }
@@ -129,20 +76,17 @@ impl HistoryIndex {
         self.room
     }
 
-    /// Makes room for a list of so many entries; refused where there would be 2^32 in all. An `Err` changes nothing. Linear in the keys
-    /// where the map grows, which it does seldom enough that all calls together are linear in the room that they ask for.
+    /// Makes room for a list of so many entries; refused where there would be 2^32 in all. An `Err` changes nothing. Linear in the
+    /// entries where the index grows, which it does seldom enough that all calls together are linear in the room that they ask for.
     pub fn reserve(&mut self, additional: usize) -> Result<(), AllocError>
         ensures ok { OnOk result (additional ≤ self.new.room) }
         ensures room { self.old.room ≤ self.new.room }
         ensures history { self.new.history ≡ self.old.history }
         ensures err { OnErr result (self.new ≡ self.old) }
     {
-        if additional > MAX_ENTRIES.saturating_sub(self.log.len()) {
-            return Err(AllocError);
-        }
         self.lists.reserve(1)?;
-        self.log.reserve(additional)?;
-        self.newest.reserve(additional)?;
+        self.list_of.reserve(additional)?;
+        self.index.reserve(additional)?;
         self.room = self.room.max(additional);
         Ok(())
     }
@@ -156,25 +100,26 @@ impl HistoryIndex {
             return;
         }
         let list = self.lists.len() as u32;
+        let first = self.list_of.len() as u32;
         log_all(
-            &mut self.log,
-            &mut self.newest,
+            &mut self.list_of,
+            &mut self.index,
             list,
             entries.get().as_slice(),
         );
-        self.lists.push_reserved(entries);
+        self.lists.push_reserved(Listed { first, entries });
         self.room = 0;
     }
 
-    /// The entries of a key, the newest first. Constant time, and so is each step but for keys of the same hash.
+    /// The entries of a key, the newest first. Constant time in the mean, and so is each step: a key of the same hash is passed over.
     pub fn entries<'a>(&'a self, namespace: &NameRef<'a>, key: &KeyRef<'a>) -> Entries<'a>
         ensures { result ≡ entries_at self.now.history (namespace.now, key.now) }
     {
-        let place = place_of(&self.newest, key_hash(namespace, key));
         Entries {
             lists: self.lists.as_slice(),
-            log: self.log.as_slice(),
-            place: place as usize,
+            list_of: self.list_of.as_slice(),
+            index: &self.index,
+            place: self.index.last(key_hash(namespace, key)),
             namespace: namespace.again(),
             key: key.again(),
         }

@@ -4,7 +4,7 @@
 mod entries;
 mod hash;
 mod index;
-mod log;
+mod lists;
 
 pub use entries::Entries;
 pub use index::HistoryIndex;
