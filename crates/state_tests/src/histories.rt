@@ -1,7 +1,8 @@
 //! Entries of keys, which are lent newest first.
+ghost use Rattle.std.specs.Prelude.{◌≤◌, OnOk};
 
 use crate::fixture::{entry, key, name};
-use failing::Failed;
+use failing::{Failed, Outcome, begins, check};
 use history_index::{Entries, HistoryIndex};
 use rules::KeptEntry;
 use std::alloc::{AllocError, Global};
@@ -88,15 +89,25 @@ static PLACES_OF_MANY: [Places; 2] = [
     (b"cc", b"\0\0\0\x96", &[750, 450, 150]),
 ];
 
-// Of 1,000 entries at 300 keys, one key after the other.
-fn are_many(alloc: Global, index: &mut HistoryIndex) -> Result<bool, Failed> {
-    for place in 0..1000u32 {
+// Adds lists of one entry each, at so many keys, one key after the other.
+fn add_in_turn(
+    alloc: Global,
+    index: &mut HistoryIndex,
+    lists: u32,
+    keys: u32,
+) -> Result<(), Failed> {
+    for place in 0..lists {
         add(
             alloc,
             index,
-            &[(b"cc", &(place % 300).to_be_bytes(), place)],
+            &[(b"cc", &(place % keys).to_be_bytes(), place)],
         )?;
     }
+    Ok(())
+}
+
+fn are_many(alloc: Global, index: &mut HistoryIndex) -> Result<bool, Failed> {
+    add_in_turn(alloc, index, 1000, 300)?;
     are_places(index, places_of_many())
 }
 
@@ -118,5 +129,84 @@ fn each_key_has_its_own_newest_first(rt: HostRuntime) -> Result<(), Failed> {
 #[test]
 fn many_keys_and_entries(rt: HostRuntime) -> Result<(), Failed> {
     assert!(rt; is_index_right(rt.alloc(), true)?);
+    Ok(())
+}
+
+// As many entries as there are places and buckets: one more wants more of all.
+const FULL: u32 = 64;
+
+fn places_of_full() -> &'static [Places] {
+    &PLACES_OF_FULL
+}
+
+static PLACES_OF_FULL: [Places; 3] = [
+    (b"cc", b"\0\0\0\x03", &[51, 35, 19, 3]),
+    (b"cc", b"\0\0\0\x0F", &[63, 47, 31, 15]),
+    (b"cc", b"\0\0\0\x10", &[]),
+];
+
+fn more() -> &'static [Added<'static>] {
+    &MORE
+}
+
+static MORE: [Added<'static>; 3] = [
+    (b"cc", b"\0\0\0\x03", 64),
+    (b"cc", b"\0\0\0\x10", 65),
+    (b"cc", b"\0\0\0\x03", 66),
+];
+
+fn places_of_grown() -> &'static [Places] {
+    &PLACES_OF_GROWN
+}
+
+static PLACES_OF_GROWN: [Places; 3] = [
+    (b"cc", b"\0\0\0\x03", &[66, 64, 51, 35, 19, 3]),
+    (b"cc", b"\0\0\0\x0F", &[63, 47, 31, 15]),
+    (b"cc", b"\0\0\0\x10", &[65]),
+];
+
+// Makes room in a full index. Whether that was refused first, which left all as it was.
+fn make_room(index: &mut HistoryIndex, additional: usize) -> Result<bool, Failed>
+    ensures { OnOk result (additional ≤ index.new.room) }
+{
+    if index.reserve(additional).is_ok() {
+        return Ok(false);
+    }
+    check(are_places(index, places_of_full())?)?;
+    index.reserve(additional)?;
+    Ok(true)
+}
+
+fn outcome_of_growth(
+    alloc: Global,
+    index: &mut HistoryIndex,
+    entries: Shared<Items<KeptEntry>>,
+) -> Result<Outcome, Failed> {
+    begins(alloc)?;
+    let was_refused = make_room(index, entries.get().len())?;
+    index.add(entries);
+    match (was_refused, are_places(index, places_of_grown())?) {
+        (false, true) => Ok(Outcome::Done),
+        (true, true) => Ok(Outcome::MadeGood),
+        (_, false) => Ok(Outcome::Wrong),
+    }
+}
+
+fn outcome_of_more(alloc: Global, index: &mut HistoryIndex) -> Result<Outcome, Failed> {
+    add_in_turn(alloc, index, FULL, 16)?;
+    let entries = Shared::new(alloc, entries_of(alloc, more())?)?;
+    outcome_of_growth(alloc, index, entries)
+}
+
+pub fn outcome(alloc: Global) -> Result<Outcome, Failed> {
+    let mut index = HistoryIndex::new(alloc);
+    outcome_of_more(alloc, &mut index)
+}
+
+// To be tried with memory that is refused at any one allocation of the last `reserve`, by `bench/refused_memory.py`: then all entries
+// are found as before, and the same list is added next. Where it is refused before, it ends by `?`.
+#[test]
+fn a_full_index_grows(rt: HostRuntime) -> Result<(), Failed> {
+    assert!(rt; outcome(rt.alloc())? == Outcome::Done);
     Ok(())
 }
