@@ -42,8 +42,8 @@ impl Model for HistoryIndex {
         × (0 < i.room → vec_len i.lists < vec_capacity i.lists) × (vec_len i.lists ≤ vec_len i.list_of) };
 }
 
-/// Takes in the entries of the list of this number. Takes no memory.
-fn log_all(list_of: &mut Vec<u32>, index: &mut HashIndex, list: u32, entries: &[KeptEntry])
+/// Adds the entries of the list of this number to those that are found. Takes no memory.
+fn add_all(list_of: &mut Vec<u32>, index: &mut HashIndex, list: u32, entries: &[KeptEntry])
     requires list_of { vec_len list_of.old + length entries.now ≤ vec_capacity list_of.old }
     requires index { length entries.now ≤ index.old.room }
     ensures list_of { list_of.new.items ≡ list_of.old.items ++ replicate (length entries.now) list }
@@ -101,7 +101,7 @@ impl HistoryIndex {
         }
         let list = self.lists.len() as u32;
         let first = self.list_of.len() as u32;
-        log_all(
+        add_all(
             &mut self.list_of,
             &mut self.index,
             list,

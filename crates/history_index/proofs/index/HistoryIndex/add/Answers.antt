@@ -30,20 +30,20 @@ invariant_of-self c =
     let room : length entries ≤ c.self.inside.room = omega (arith, c.requires, ap (λ (i : Index). i.room) c.self.view_is) in
     let differs : ¬ (length c.get.result.now ≡ 0) = eqb-false (length c.get.result.now) 0 (sym c.is_empty.ensures ∙ c.if-is_empty.false) in
     let some : 0 < length entries = omega (arith, differs, ap length c.get.ensures) in
-    let numbers : c.log_all.new.list_of.items ≡ list_of ++ replicate (length entries) (length lists) = c.log_all.ensures.list_of ∙ (λ i. list_of ++ replicate (length (given i)) (list i)) in
-    let long : length c.log_all.new.list_of.items ≡ length list_of + length entries =
+    let numbers : c.add_all.new.list_of.items ≡ list_of ++ replicate (length entries) (length lists) = c.add_all.ensures.list_of ∙ (λ i. list_of ++ replicate (length (given i)) (list i)) in
+    let long : length c.add_all.new.list_of.items ≡ length list_of + length entries =
     ap length numbers ∙ length-append list_of (replicate (length entries) (length lists)) ∙ ap (λ n. length list_of + n) (length-replicate (length entries) (length lists)) in (
-      subst (λ (ls : List Listed). AreIn ls c.log_all.new.list_of.items) (sym c.push_reserved.ensures.items)
+      subst (λ (ls : List Listed). AreIn ls c.add_all.new.list_of.items) (sym c.push_reserved.ensures.items)
           (subst (AreIn (lists ++ listed ∷ [])) (sym numbers) (all_in lists listed list_of c.self.invariant.0 first)),
-      c.log_all.ensures.index
+      c.add_all.ensures.index
           ∙ (λ i. c.self.invariant.1 i ++ hashes_of (given i))
           ∙ sym (hashes_more lists listed)
           ∙ ap (λ (ls : List Listed). hashes_of (all_entries ls)) (sym c.push_reserved.ensures.items),
-      omega (arith, c.log_all.new.list_of.ok),
+      omega (arith, c.add_all.new.list_of.ok),
       omega arith,
-      omega (arith, long, room, c.self.invariant.4, c.log_all.new.list_of.ok.0, c.self.inside.list_of.ok.0),
+      omega (arith, long, room, c.self.invariant.4, c.add_all.new.list_of.ok.0, c.self.inside.list_of.ok.0),
       λ none. absurd (omega (arith, none)),
-      omega (arith, long, some, c.self.invariant.6, c.push_reserved.ensures.len, c.log_all.new.list_of.ok.0, c.self.inside.list_of.ok.0),
+      omega (arith, long, some, c.self.invariant.6, c.push_reserved.ensures.len, c.add_all.new.list_of.ok.0, c.self.inside.list_of.ok.0),
     )
 
 pub returns : goal.returns

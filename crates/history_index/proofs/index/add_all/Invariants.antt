@@ -1,7 +1,7 @@
 use Rattle.std.proofs.Common.{◌≡◌, ◌+◌, ◌++◌, take, replicate}
 use Rattle.std.specs.Vec.{vec_len, vec_capacity}
 use Rattle.history_index.specs.Lists.{hashes_of}
-use Rattle.history_index.proofs.index.log_all.Given as goal
+use Rattle.history_index.proofs.index.add_all.Given as goal
 
 abbrev pub invariant-loop-entry : goal.invariant-loop-entry
 invariant-loop-entry l = record {
