@@ -8,7 +8,7 @@ ghost use Rattle.rules.specs.Linked.{IsRefused};
 ghost use Rattle.ledger.specs.NextDelta.{IsDeltaOfJob};
 ghost use Rattle.commit.specs.Prepared.{AreHanded, IsNextDeltaOr, IsNextOfHashed, IsPrepared, IsTakenIn};
 
-use crate::looking_up::rows_of;
+use crate::looking_up::rows_by;
 use crate::means::Means;
 use crate::prepared::{Prepared, take_in};
 use crate::workers::Workers;
@@ -123,13 +123,9 @@ pub(crate) fn next_delta<'b, R: Threads + Wait + Sync, V: Verify, G: Gate + Sync
     let Prepared { hashed, foreseen } = prepared;
     let (block, kept) = linked(world, hashed)?;
     let (chained, ids) = marked_of(means.alloc, world, foreseen)?;
-    let found = rows_of(
-        means.rt,
-        means.alloc,
-        means.workers,
-        world.state(),
-        chained.keys(),
-    )?;
+    let (state, keys) = (world.state(), chained.keys());
+    let threads = means.workers.looking_up(keys.len(), state.pages());
+    let found = rows_by(means.rt, means.alloc, threads, state, keys)?;
     let job = job_over(means.channel, world, chained, found);
     let delta = checked_delta(
         means,

@@ -3,16 +3,16 @@ ghost use Rattle.std.specs.Prelude.{◌≡◌, IfOk};
 ghost use Rattle.std.specs.Thread.{IsSync};
 ghost use Rattle.state_db.specs.LookedUp.{AreRows};
 
-use crate::workers::Workers;
 use state_db::{FoundRows, StateDb};
 use state_keys::StateKey;
 use std::alloc::{AllocError, Global};
 use std::thread;
 use std::thread::Threads;
 
-/// By so many threads, each of which halves its keys for as long as there are others.
+/// The rows of keys, each at its key's place, by so many threads, each of which halves its keys for as long as there are others. A
+/// look-up for each; memory for lists of them.
 #[cycle(halves)]
-fn rows_by<'s, R: Threads + Sync>(
+pub(crate) fn rows_by<'s, R: Threads + Sync>(
     rt: &R,
     alloc: Global,
     threads: usize,
@@ -39,23 +39,4 @@ fn rows_by<'s, R: Threads + Sync>(
     let mut found = first?;
     found.append(second?)?;
     Ok(found)
-}
-
-/// The rows of keys, each at its key's place. A look-up for each; memory for lists of them.
-pub(crate) fn rows_of<'s, R: Threads + Sync>(
-    rt: &R,
-    alloc: Global,
-    workers: Workers,
-    state: &'s StateDb,
-    keys: &[StateKey<'_>],
-) -> Result<FoundRows<'s>, AllocError>
-    ensures { IfOk result (λ found. AreRows state.now.state keys.now found.rows.items) }
-{
-    rows_by(
-        rt,
-        alloc,
-        workers.looking_up(keys.len(), state.pages()),
-        state,
-        keys,
-    )
 }

@@ -91,7 +91,7 @@ impl HistoryIndex {
         Ok(())
     }
 
-    /// Adds entries one after the other, each the newest of its key, and gives up what room is left. Linear in them, no memory.
+    /// Adds entries one after the other, each the newest of its key. What room is left may be given up. Linear in them, no memory.
     pub fn add(&mut self, entries: Shared<Items<KeptEntry>>)
         requires { length entries ≤ self.old.room }
         ensures history { self.new.history ≡ with_entries self.old.history (entries_in entries) }

@@ -10,7 +10,7 @@ use Rattle.rules.specs.declared.first_use.FirstUse.{FirstUse}
 use Rattle.rules.specs.FirstUses.{FirstUses, with_uses}
 use Rattle.rules.specs.Delta.{uses_in}
 use Rattle.rules.proofs.IdUses.{with_uses-append, with_uses-none}
-use Rattle.txid_index.specs.declared.lists.Place.{Place}
+use Rattle.txid_index.specs.declared.lists.UsePlace.{UsePlace}
 use Rattle.txid_index.specs.Hash.{id_hash}
 use Rattle.txid_index.specs.Lists.{no_use, use_in, IsThere, AreThere, IsAt, IsListAt, listed, uses_of}
 use Rattle.txid_index.specs.Found.{first_at, other_of, found_from, IsIndex}
@@ -18,7 +18,7 @@ use Rattle.txid_index.proofs.Finding.{Places, Others}
 
 -- ---- what stands in lists that are there stands there still
 
-stands : (lists more : List (List NewUse)) (p : Place) → IsThere lists p → use_in (lists ++ more) p ≡ use_in lists p
+stands : (lists more : List (List NewUse)) (p : UsePlace) → IsThere lists p → use_in (lists ++ more) p ≡ use_in lists p
 stands lists more p there = ap (λ us. get_or us p.index no_use) (get_or-append lists more [] p.list there.0)
 
 pub there_more : (lists more : List (List NewUse)) (firsts : Places) → AreThere lists firsts → AreThere (lists ++ more) firsts
@@ -30,7 +30,7 @@ there_more lists more firsts are hash p e =
 pub index_more : (lists more : List (List NewUse)) (firsts : Places) (others : Others) (uses : FirstUses) → AreThere lists firsts → IsIndex lists firsts others uses → IsIndex (lists ++ more) firsts others uses
 index_more lists more firsts others uses are index = record { finds = λ id. by id (first_at firsts (id_hash id)) refl ∙ index.finds id; behind = index.behind }
   where
-    by : (id : List ℕ) (o : Option Place) → first_at firsts (id_hash id) ≡ o → found_from (lists ++ more) others id o ≡ found_from lists others id o
+    by : (id : List ℕ) (o : Option UsePlace) → first_at firsts (id_hash id) ≡ o → found_from (lists ++ more) others id o ≡ found_from lists others id o
     by id None e = refl
     by id (Some p) e = ap (λ (u : NewUse). cond (bytes_eq u.id id) (Some u.first_use) (other_of others id)) (stands lists more p (are (id_hash id) p e))
 
@@ -77,10 +77,10 @@ index_alike lists same firsts next others more index e at of = subst (λ ls. IsI
   behind = λ id none. of id ∙ index.behind id (sym (at (id_hash id)) ∙ none);
 })
   where
-    by : (id : List ℕ) (o : Option Place) → first_at next (id_hash id) ≡ first_at firsts (id_hash id) → found_from lists more id (first_at next (id_hash id)) ≡ found_from lists others id (first_at firsts (id_hash id))
+    by : (id : List ℕ) (o : Option UsePlace) → first_at next (id_hash id) ≡ first_at firsts (id_hash id) → found_from lists more id (first_at next (id_hash id)) ≡ found_from lists others id (first_at firsts (id_hash id))
     by id o e2 = ap (found_from lists more id) e2 ∙ from id (first_at firsts (id_hash id))
       where
-        from : (id : List ℕ) (o : Option Place) → found_from lists more id o ≡ found_from lists others id o
+        from : (id : List ℕ) (o : Option UsePlace) → found_from lists more id o ≡ found_from lists others id o
         from id None = refl
         from id (Some p) = ap (λ (x : Option FirstUse). cond (bytes_eq (use_in lists p).id id) (Some (use_in lists p).first_use) x) (of id)
 

@@ -12,13 +12,13 @@ use Rattle.rules.specs.declared.first_use.FirstUse.{FirstUse}
 use Rattle.rules.specs.FirstUses.{FirstUses, with_uses}
 use Rattle.rules.proofs.IdUses.{get-with_uses}
 use Rattle.rules.proofs.Keys.{bytes_ties}
-use Rattle.txid_index.specs.declared.lists.Place.{Place}
+use Rattle.txid_index.specs.declared.lists.UsePlace.{UsePlace}
 use Rattle.txid_index.specs.Hash.{id_hash}
 use Rattle.txid_index.specs.Lists.{use_in, IsThere, AreThere}
 use Rattle.txid_index.specs.Found.{first_at, other_of, found_from, found, IsIndex, if_its, IsOneMore}
 
 abbrev pub Places : Type 0
-Places = List (ℕ × Place)
+Places = List (ℕ × UsePlace)
 
 abbrev pub Others : Type 0
 Others = List (List ℕ × FirstUse)
@@ -58,7 +58,7 @@ other_hash id q e = by (bytes_eq q id) refl
     by false s = refl
     by true s = let same : (id_hash id == id_hash q) ≡ true = eq-eqb (id_hash id) (id_hash q) (ap id_hash (sym ((bytes_decides q id).0 s))) in absurd cc
 
-not_this : (firsts : Places) (id q : List ℕ) (first : Place) → first_at firsts (id_hash id) ≡ Some first → first_at firsts (id_hash q) ≡ None → bytes_eq q id ≡ false
+not_this : (firsts : Places) (id q : List ℕ) (first : UsePlace) → first_at firsts (id_hash id) ≡ Some first → first_at firsts (id_hash q) ≡ None → bytes_eq q id ≡ false
 not_this firsts id q first at none = by (bytes_eq q id) refl
   where
     by : (b : Bool) → bytes_eq q id ≡ b → b ≡ false
@@ -67,12 +67,12 @@ not_this firsts id q first at none = by (bytes_eq q id) refl
 
 -- ---- the first id with its hash
 
-module _ (lists : List (List NewUse)) (firsts next : Places) (place : Place) (hash : ℕ) (kept : (q : ℕ) → first_at next q ≡ (if hash == q then Some place else first_at firsts q)) where
+module _ (lists : List (List NewUse)) (firsts next : Places) (place : UsePlace) (hash : ℕ) (kept : (q : ℕ) → first_at next q ≡ (if hash == q then Some place else first_at firsts q)) where
   pub there_with : AreThere lists firsts → IsThere lists place → AreThere lists next
   there_with are own q p e = by (hash == q) (sym (kept q) ∙ e)
     where
       by : (b : Bool) → cond b (Some place) (first_at firsts q) ≡ Some p → IsThere lists p
-      by true is = subst (IsThere lists) (ap (λ (o : Option Place). unwrap_or o place) is) own
+      by true is = subst (IsThere lists) (ap (λ (o : Option UsePlace). unwrap_or o place) is) own
       by false is = are q p is
 
   pub with_first : (others : Others) (uses : FirstUses) (u : NewUse) → IsIndex lists firsts others uses → use_in lists place ≡ u → hash ≡ id_hash u.id → first_at firsts hash ≡ None
@@ -87,7 +87,7 @@ module _ (lists : List (List NewUse)) (firsts next : Places) (place : Place) (ha
               let same : first_at firsts (id_hash q) ≡ None = ap (first_at firsts) (sym (eqb-true hash (id_hash q) e)) ∙ none in
               ap (λ (x : NewUse). cond (bytes_eq x.id q) (Some x.first_use) (other_of others q)) here
               ∙ (λ i. cond (turned u.id q i) (Some u.first_use) (index.behind q same i))
-              ∙ ap (λ (o : Option Place). option_or (found_from lists others q o) (if_its u q)) (sym same)
+              ∙ ap (λ (o : Option UsePlace). option_or (found_from lists others q o) (if_its u q)) (sym same)
           by false e =
               or_none (found lists firsts others q)
               ∙ ap (λ (b : Bool). option_or (found lists firsts others q) (cond b (Some u.first_use) None)) (sym (other_hash u.id q (ap (λ h. h == id_hash q) (sym own) ∙ e)))
@@ -101,7 +101,7 @@ module _ (lists : List (List NewUse)) (firsts next : Places) (place : Place) (ha
 
 -- ---- an id whose hash has a place
 
-module _ (lists : List (List NewUse)) (firsts : Places) (others : Others) (uses : FirstUses) (u : NewUse) (first : Place) (index : IsIndex lists firsts others uses)
+module _ (lists : List (List NewUse)) (firsts : Places) (others : Others) (uses : FirstUses) (u : NewUse) (first : UsePlace) (index : IsIndex lists firsts others uses)
     (at : first_at firsts (id_hash u.id) ≡ Some first) where
   -- the place of a use of it
   pub with_none : bytes_eq (use_in lists first).id u.id ≡ true → IsIndex lists firsts others (with_uses uses ((u.id, u.first_use) ∷ []))
@@ -120,7 +120,7 @@ module _ (lists : List (List NewUse)) (firsts : Places) (others : Others) (uses 
   pub with_other : (more : Others) → IsOneMore others u more → IsIndex lists firsts more (with_uses uses ((u.id, u.first_use) ∷ []))
   with_other more one = index_with lists firsts firsts others more uses u index (λ q. by q (first_at firsts (id_hash q)) refl) behind
     where
-      by : (q : List ℕ) (o : Option Place) → first_at firsts (id_hash q) ≡ o → found_from lists more q o ≡ option_or (found_from lists others q o) (if_its u q)
+      by : (q : List ℕ) (o : Option UsePlace) → first_at firsts (id_hash q) ≡ o → found_from lists more q o ≡ option_or (found_from lists others q o) (if_its u q)
       by q None e = ap (λ (b : Bool). cond b (Some u.first_use) None) (sym (not_this firsts u.id q first at e))
       by q (Some p) e = on (bytes_eq (use_in lists p).id q)
         where

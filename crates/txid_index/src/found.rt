@@ -7,7 +7,7 @@ ghost use Rattle.txid_index.specs.Lists.{IsAt, AreThere};
 
 use crate::hash::id_hash;
 use crate::id_key::IdKey;
-use crate::lists::{Place, SharedUses};
+use crate::lists::{SharedUses, UsePlace};
 use rules::{FirstUse, NewUse};
 use std::alloc::AllocError;
 use std::collections::HashMap;
@@ -16,7 +16,7 @@ use transaction::TxId;
 /// Where an id was used first, of the uses in these lists.
 pub(crate) fn first_use_of(
     lists: &[SharedUses],
-    firsts: &HashMap<u32, Place>,
+    firsts: &HashMap<u32, UsePlace>,
     others: &HashMap<IdKey, FirstUse>,
     id: &TxId,
 ) -> Option<FirstUse>
@@ -34,7 +34,7 @@ pub(crate) fn first_use_of(
 /// Makes room for one list more, of so many uses. An `Err` changes nothing but the room.
 pub(crate) fn make_room(
     lists: &mut Vec<SharedUses>,
-    firsts: &mut HashMap<u32, Place>,
+    firsts: &mut HashMap<u32, UsePlace>,
     others: &mut HashMap<IdKey, FirstUse>,
     additional: usize,
 ) -> Result<(), AllocError>
@@ -51,7 +51,7 @@ pub(crate) fn make_room(
 }
 
 /// Keeps the place for a hash that has none. Takes no memory.
-fn keep_first(firsts: &mut HashMap<u32, Place>, hash: u32, place: Place)
+fn keep_first(firsts: &mut HashMap<u32, UsePlace>, hash: u32, place: UsePlace)
     requires { 0 < spare firsts.old }
     ensures kept { (q : ℕ) → first_at firsts.new.entries q ≡ (if hash == q then Some place else first_at firsts.old.entries q) }
     ensures spare { spare firsts.old ≤ spare firsts.new + 1 }
@@ -74,9 +74,9 @@ fn keep_other(others: &mut HashMap<IdKey, FirstUse>, used: &NewUse)
 /// Finds the use at this place from now on, where its id has none yet. Takes no memory.
 pub(crate) fn add_one(
     lists: &[SharedUses],
-    firsts: &mut HashMap<u32, Place>,
+    firsts: &mut HashMap<u32, UsePlace>,
     others: &mut HashMap<IdKey, FirstUse>,
-    place: Place,
+    place: UsePlace,
     used: &NewUse,
 )
     requires there { AreThere lists.now firsts.old.entries }

@@ -9,7 +9,7 @@ ghost use Rattle.txid_index.specs.Marks.{marks};
 
 use crate::found::{add_one, first_use_of, make_room};
 use crate::id_key::IdKey;
-use crate::lists::{Place, SharedUses};
+use crate::lists::{SharedUses, UsePlace};
 use crate::marks::marked;
 use rules::{FirstUse, NewUse};
 use std::alloc::{AllocError, Global};
@@ -26,7 +26,7 @@ const MOST: usize = u32::MAX as usize;
 pub struct TxIds {
     lists: Vec<SharedUses>,
     // for each hash of an id where the first use stands of the first id that has it
-    firsts: HashMap<u32, Place>,
+    firsts: HashMap<u32, UsePlace>,
     // the first uses of all other ids, of which there are hardly any
     others: HashMap<IdKey, FirstUse>,
     // how many uses more are sure to fit, in one list
@@ -56,7 +56,7 @@ impl Model for TxIds {
 /// Finds the uses of the list of this number from now on. Takes no memory.
 fn add_all(
     lists: &[SharedUses],
-    firsts: &mut HashMap<u32, Place>,
+    firsts: &mut HashMap<u32, UsePlace>,
     others: &mut HashMap<IdKey, FirstUse>,
     list: u32,
     uses: &[NewUse],
@@ -71,7 +71,7 @@ fn add_all(
     ensures there { AreThere lists.now firsts.new.entries }
 {
     for (index, used) in uses.iter().enumerate() {
-        let place = Place {
+        let place = UsePlace {
             list,
             index: index as u32,
         };
@@ -107,8 +107,8 @@ impl TxIds {
         self.room
     }
 
-    /// Makes room for a list of so many uses; refused where it, or the lists, would be 2^32. An `Err` changes nothing. Linear in the ids
-    /// where the map grows, which it does seldom enough that all calls together are linear in the room that they ask for.
+    /// Makes room for a list of so many uses; refused for 2^32 or more, and where there are 2^32 lists. An `Err` changes nothing. Linear in
+    /// the ids where the map grows, which it does seldom enough that all calls together are linear in the room that they ask for.
     pub fn reserve(&mut self, additional: usize) -> Result<(), AllocError>
         ensures ok { OnOk result (additional ≤ self.new.room) }
         ensures room { self.old.room ≤ self.new.room }
@@ -128,7 +128,7 @@ impl TxIds {
         Ok(())
     }
 
-    /// Counts uses of ids one after the other, each of which changes nothing where its id was used before, and gives up what room is left.
+    /// Counts uses of ids one after the other, each of which changes nothing where its id was used before. What room is left may be given up.
     /// Linear in them, no memory.
     pub fn add(&mut self, uses: Shared<Items<NewUse>>)
         requires { length uses ≤ self.old.room }

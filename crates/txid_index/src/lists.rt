@@ -9,12 +9,12 @@ pub(crate) type SharedUses = Shared<Items<NewUse>>;
 
 /// Where a use stands: in which list, and where there.
 #[derive(Clone, Copy)]
-pub(crate) struct Place {
+pub(crate) struct UsePlace {
     pub list: u32,
     pub index: u32,
 }
 
-impl Place {
+impl UsePlace {
     pub fn used<'a>(&self, lists: &'a [SharedUses]) -> &'a NewUse
         requires { IsThere lists.now self.now }
         ensures { result.now ≡ use_in lists.now self.now }
