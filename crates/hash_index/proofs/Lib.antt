@@ -1,3 +1,4 @@
 pub mod Places
 mod Chains
 mod Linking
+mod Worked
