@@ -40,6 +40,7 @@ SUBJECTS = {
     "publishing": ("query_tests", "memory.rt", "outcome_of_publishing(&rt, rt.alloc())"),
     "queries": ("query_tests", "memory.rt", "outcome_of_asking(&rt, rt.alloc())"),
     "state": ("state_tests", "pages.rt", "outcome(rt.alloc())"),
+    "growing history": ("state_tests", "histories.rt", "outcome(rt.alloc())"),
     "world": ("state_tests", "worlds.rt", "outcome(rt.alloc())"),
     "given delta": ("state_tests", "worlds.rt", "outcome_of_giving(rt.alloc())"),
     "drafting": ("draft_tests", "memory.rt", "outcome(rt.alloc())"),

@@ -73,7 +73,7 @@ def program_of(top, folder):
         left.writelines(line.replace(" sanitize_address", " mustprogress") for line in lines if not TESTS.search(line))
     subprocess.run([clang, f"--sysroot={KIT}/toolchain", *FLAGS, "-c", "-x", "ir", untested, "-o", file], check=True)
     words = [KIT / "bin" / "rattle-link", "--target", "x86_64-unknown-linux-gnu", "--toolchain", KIT / "toolchain", "-o", program, file]
-    subprocess.run([*words, KIT / "c" / "libos_c.a", KIT / "c" / "liblibc_c.a"], stdout=subprocess.DEVNULL, check=True)
+    subprocess.run([*words, KIT / "c" / "libos_c.a", KIT / "c" / "liblibc_c.a"], capture_output=True, check=True)
     return str(program)
 
 
