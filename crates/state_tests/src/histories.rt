@@ -1,5 +1,5 @@
 //! Entries of keys, which are lent newest first.
-ghost use Rattle.std.specs.Prelude.{◌≤◌, OnOk};
+ghost use Rattle.std.specs.Prelude.{◌<◌, ◌≤◌, OnOk};
 
 use crate::fixture::{entry, key, name};
 use failing::{Failed, Outcome, begins, check};
@@ -90,12 +90,9 @@ static PLACES_OF_MANY: [Places; 2] = [
 ];
 
 // Adds lists of one entry each, at so many keys, one key after the other.
-fn add_in_turn(
-    alloc: Global,
-    index: &mut HistoryIndex,
-    lists: u32,
-    keys: u32,
-) -> Result<(), Failed> {
+fn add_in_turn(alloc: Global, index: &mut HistoryIndex, lists: u32, keys: u32) -> Result<(), Failed>
+    requires { 0 < keys }
+{
     for place in 0..lists {
         add(
             alloc,
