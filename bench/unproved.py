@@ -6,8 +6,8 @@ another checkout of this repository; neither needs a built library. `peer.py` te
 
 `rt try` compiles a program with all libraries from their sources in a minute or two, with tests in it of what a proof would have shown,
 and without the optimizer. Here it is given a compiler that keeps what it is to compile; the tests, and the bytes that fill what isn't set
-yet, are taken out, and the rest is compiled and linked as a proved program is. Such a program took up to 1.5 times as long as the proved
-one, so it is compared with another such alone; what is told of a change is measured of proved programs.
+yet, are taken out, and the rest is optimized and linked. Such a program took up to 1.5 times as long as the proved one, at another
+time, so it is compared with another such alone; what is told of a change is measured of proved programs.
 """
 
 import argparse
@@ -22,7 +22,7 @@ import peer
 import scratch
 
 KIT = pathlib.Path(shutil.which("rt")).resolve().parent.parent
-# What the compiler is called with for a proved program, but for the paths.
+# Some of what `rt try` gives the compiler, with the optimizer on; a proved program is for x86-64-v2, and its other flags may differ.
 FLAGS = ["--target=x86_64-unknown-linux-gnu", "-march=x86-64", "-ffunction-sections", "-fdata-sections", "-fPIE", "-O3"]
 TESTS = re.compile(r'call void (@"rattle-llvm-checks::|@llvm\.memset\.p0\.i64\(ptr %r\d+, i8 -86,)')
 
