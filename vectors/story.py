@@ -1,4 +1,4 @@
-"""The long chain: every flag, most of them in several ways. The flags were written down by hand."""
+"""The long chain: every flag but 6, most of them in several ways. The flags were written down by hand."""
 
 from drafts import ADMIN, CLIENT, P0, P1, P2, Q0, Chain, absent, delete, nopolicy, part, policy, read, whole, within, write
 from encoding import spelled_tx, tx_id, u8

@@ -1,4 +1,4 @@
-//! The verdicts of one block, found by workers in threads of their own, in whatever order they come to them.
+//! The verdicts of one block, found by workers, each but one in a thread of its own, in whatever order they come to them.
 //!
 //! Each verdict has a word, which all workers read and write. Whatever they do and when, a word is unknown or the verdict
 //! of the candidates taken one by one.

@@ -1,5 +1,5 @@
-//! The program `fabcommit`: drafts blocks of a Fabric channel, takes blocks one by one and says of each
-//! what a committing peer makes of it, and why, and answers what the ledger behind them holds.
+//! The program `fabcommit`: drafts blocks of a Fabric channel and shows them as scripts, takes blocks and says of each what a
+//! committing peer makes of it, and why, and answers what the ledger behind them holds.
 #![tactic(auto)]
 
 mod committing;

@@ -1,5 +1,5 @@
 //! The words of the program `fabcommit`: its subcommands with their options and help, and what words ask for. What is then done
-//! stands in `command_line`.
+//! stands in `ledger_commands`, and of `run` in `command_line`.
 #![tactic(auto)]
 
 mod arguments;

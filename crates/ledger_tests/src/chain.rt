@@ -1,4 +1,4 @@
-//! The chain of 32 blocks that reaches every flag, and what is refused between them.
+//! The chain of 32 blocks that reaches every flag but 6, and what is refused between them.
 
 use crate::fixture::{Peer, are_numbered};
 use crate::refusals::check_refusals;

@@ -1,4 +1,4 @@
-//! At each height of the chain of 32 blocks each query answers what a world of its own answers.
+//! At each height of the chain of 32 blocks each query but `definition` answers what a world of its own answers.
 
 use crate::asking::{check_blocks, check_key, check_range, check_use};
 use crate::opening::opened_publisher;

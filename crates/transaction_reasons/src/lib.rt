@@ -1,5 +1,5 @@
-//! The reasons that a transaction or an update tells without the state before it: of its form, its names, its id and its
-//! channel.
+//! The reasons that a transaction or an update tells without the state before it: of its form, its names, its id, its channel, its
+//! creator's signature, and why an update may not be made.
 #![tactic(auto)]
 
 mod first_uses;

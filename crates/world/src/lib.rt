@@ -1,5 +1,5 @@
-//! What a ledger holds: its state, the history of each key, the first use of each id, its blocks. A block's delta is
-//! applied at the cost of the delta and of a search for each key and id that it has, which is logarithmic in what is there.
+//! What a ledger holds: its state, the history of each key, the first use of each id, the policies of its chaincodes, its blocks. A
+//! block's delta is applied at the cost of the delta and of a search for each row that it changes, which is logarithmic in their number.
 #![tactic(auto)]
 
 mod deltas;
