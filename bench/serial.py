@@ -35,10 +35,10 @@ SAMPLE = re.compile(r"\s*(\d+)/(\d+)\s+(\d+)\.(\d+):\s+[0-9a-f]+ (.*) \((.*)\)$"
 OF_STD = {"core", "std", "std_alloc", "std_collections", "std_io", "std_heap", "rattle_alloc", "rattle_realloc", "rattle_dealloc"}
 
 
-def sampled(program, workers, blocks, folder):
-    """How many nanoseconds the first thread was in each function of each shared object, and how many `run` took, for one transaction."""
+def recorded(program, workers, blocks, folder, words):
+    """The samples of a run, by these words of `perf record`: their path, and the nanoseconds at which `run` began and ended."""
     data = folder / "perf.data"
-    words = ["perf", "record", "-q", "-e", "cpu-clock", "-F", str(RATE), "-k", "mono", "-o", data]
+    words = ["perf", "record", "-q", "-e", "cpu-clock", "-k", "mono", "-o", data, *words]
     words += [*UNDER, program, workers, str(blocks.setup), *blocks.paths]
     process = subprocess.Popen(words, cwd=blocks.folder, stdout=subprocess.PIPE, text=True)
     end, line = 0, ""
@@ -46,15 +46,24 @@ def sampled(program, workers, blocks, folder):
         end = time.monotonic_ns()
     if process.wait() != 0 or not line:
         sys.exit(f"the run with {workers} workers failed: {process.returncode}")
-    nanos, count = int(line.split()[0]), sum(blocks.sizes[blocks.setup:])
-    words = ["perf", "script", "-i", data, "-F", "pid,tid,time,ip,sym,dso", "--ns"]
-    script = subprocess.run(words, stdout=subprocess.PIPE, text=True, check=True)
+    return data, end - int(line.split()[0]), end
+
+
+def script(data, fields):
+    words = ["perf", "script", "-i", data, "-F", fields, "--ns"]
+    return subprocess.run(words, stdout=subprocess.PIPE, text=True, check=True).stdout
+
+
+def sampled(program, workers, blocks, folder):
+    """How many nanoseconds the first thread was in each function of each shared object, and how many `run` took, for one transaction."""
+    data, begin, end = recorded(program, workers, blocks, folder, ["-F", str(RATE)])
+    count = sum(blocks.sizes[blocks.setup:])
     found = collections.Counter()
-    for sample in filter(None, map(SAMPLE.match, script.stdout.splitlines())):
+    for sample in filter(None, map(SAMPLE.match, script(data, "pid,tid,time,ip,sym,dso").splitlines())):
         of_process, of_thread, seconds, fraction, function, shared = sample.groups()
-        if of_process == of_thread and end - nanos <= int(seconds) * 1_000_000_000 + int(fraction) <= end:
+        if of_process == of_thread and begin <= int(seconds) * 1_000_000_000 + int(fraction) <= end:
             found[function, pathlib.Path(shared).name] += 1_000_000_000 / RATE / count
-    return found, nanos / count
+    return found, (end - begin) / count
 
 
 def part_of(function, shared):

@@ -64,13 +64,13 @@ def module_of(top, folder):
     return kept[-1]
 
 
-def program_of(top, folder):
-    """The path of the program over the crates of a checkout, which nothing proved."""
+def program_of(top, folder, attribute="mustprogress"):
+    """The path of the program over the crates of a checkout, which nothing proved. Each of its functions has this attribute."""
     module, clang = module_of(top, folder), KIT / "toolchain" / "bin" / "clang"
     text, untested, file, program = (folder / name for name in ("module.ll", "untested.ll", "module.o", "program"))
     subprocess.run([clang, "-S", "-emit-llvm", "-Xclang", "-disable-llvm-passes", "-x", "ir", module, "-o", text], check=True)
     with text.open() as lines, untested.open("w") as left:
-        left.writelines(line.replace(" sanitize_address", " mustprogress") for line in lines if not TESTS.search(line))
+        left.writelines(line.replace(" sanitize_address", f" {attribute}") for line in lines if not TESTS.search(line))
     subprocess.run([clang, f"--sysroot={KIT}/toolchain", *FLAGS, "-c", "-x", "ir", untested, "-o", file], check=True)
     words = [KIT / "bin" / "rattle-link", "--target", "x86_64-unknown-linux-gnu", "--toolchain", KIT / "toolchain", "-o", program, file]
     subprocess.run([*words, KIT / "c" / "libos_c.a", KIT / "c" / "liblibc_c.a"], capture_output=True, check=True)
