@@ -40,7 +40,7 @@ fn make_one<P, X: Drop, W: Work<P, X>>(
     Ok(Made { place, item })
 }
 
-/// Makes what is to be made of pieces for as long as there are places to draw.
+/// Makes what is to be made of pieces for as long as there are places to draw, and lets other threads run behind each.
 pub(crate) fn draw<P, X: Drop, W: Work<P, X>>(alloc: Global, kind: &Kind<'_, P, W>) -> Drawn<X>
     ensures { IfOk result (λ all. All (λ made. IsMade (W.gives kind.now.work.now) kind.now.pieces.now made.place made.item) all.items) }
 {
@@ -51,6 +51,8 @@ pub(crate) fn draw<P, X: Drop, W: Work<P, X>>(alloc: Global, kind: &Kind<'_, P, 
             break;
         }
         all.push(make_one(alloc, kind.pieces, place, kind.work)?)?;
+        // threads at work may be more than processors, and whoever waits for one isn't to wait until all is drawn
+        thread::yield_now();
     }
     Ok(all)
 }
