@@ -5,22 +5,28 @@ Run as `bench/steps.py [WORKLOAD ..]` from anywhere, on a quiet machine with fou
 linux-perf). It builds the program of `peer.py`, which also tells the workloads, from sources alone, as `unproved.py` does, with frame
 pointers; and samples all its threads 8,000 times a second by the processor's clock, while `run` is at work with four workers.
 
-A line is a tenth of the run: how many processors are at work for the first thread and for all others, and the steps in which each of
-them is most of that time. The last line is the whole run, in microseconds for a transaction. A step is that of the first name of
-STEPS that stands among a sample's callers; the C library and the kernel hide theirs, so what is asked of them is `memory` or `system`.
-
-Samples take time themselves, which none of them tells: a thread that never sleeps is seen at work four fifths of its time.
+First stands what part of the run's time the first thread is on a processor, waits for one, and sleeps, by the system's own account
+(`schedstat`), of a run that isn't sampled. Then a line is a tenth of the run: how many processors are at work for the first thread and
+for all others, and the steps in which each of them is most of that time. The last line is the whole run, in microseconds for a
+transaction. A step is that of the first name of STEPS that stands among a sample's callers; the C library and the kernel hide theirs,
+so what is asked of them is `memory` or `system`.
 """
 
 import argparse
+import bisect
 import collections
 import pathlib
 import re
+import subprocess
+import sys
 import tempfile
+import threading
+import time
 
 import peer
 import scratch
 import unproved
+from scratch import UNDER
 from serial import recorded, script
 
 RATE = 8_000
@@ -39,6 +45,45 @@ STEPS = {
     "Candidate+Destruct": "dropping",
 }
 FIRST = re.compile(r"\s*(\d+)/(\d+)\s+(\d+)\.(\d+):")
+
+
+class Account:
+    """What a process's first thread has done, read each 2 ms until it ends: nanoseconds on a processor, and waiting for one."""
+
+    def __init__(self, process):
+        self.file, self.times, self.told = pathlib.Path(f"/proc/{process.pid}/task/{process.pid}/schedstat"), [], []
+        self.reader = threading.Thread(target=self.read)
+        self.reader.start()
+
+    def read(self):
+        while True:
+            try:
+                ran, waited, _ = map(int, self.file.read_text().split())
+            except OSError:
+                return
+            self.times.append(time.monotonic_ns())
+            self.told.append((ran, waited))
+            time.sleep(0.002)
+
+    def parts(self, begin, end):
+        """The parts of a time that it was on a processor, and waited for one."""
+        self.reader.join()
+        first, last = (min(bisect.bisect(self.times, at), len(self.times) - 1) for at in (begin, end))
+        took = self.times[last] - self.times[first]
+        return [(after - before) / took for before, after in zip(self.told[first], self.told[last])]
+
+
+def told_account(program, blocks):
+    words = [*UNDER, program, "4", str(blocks.setup), *blocks.paths]
+    process = subprocess.Popen(words, cwd=blocks.folder, stdout=subprocess.PIPE, text=True)
+    account = Account(process)
+    end, line = 0, ""
+    for line in process.stdout:
+        end = time.monotonic_ns()
+    if process.wait() != 0 or not line:
+        sys.exit(f"the run failed: {process.returncode}")
+    ran, waited = account.parts(end - int(line.split()[0]), end)
+    print(f"{'':>8} {ran:.2f} on a processor, {waited:.2f} waiting for one, {1 - ran - waited:.2f} asleep", flush=True)
 
 
 def step_of(frames):
@@ -79,6 +124,7 @@ def told_steps(program, title, blocks, folder):
     tenths, took = stepped(program, blocks, folder)
     count = sum(blocks.sizes[blocks.setup:])
     print(f"{title}: {took / count / 1000:.2f} µs for a transaction; at work: the thread that commits; the others")
+    told_account(program, blocks)
     for number, pair in enumerate(tenths):
         line_of(f"{number / TENTHS:.0%}", pair, 1_000_000_000 / RATE / (took / TENTHS), 4)
     whole = tuple(sum(parts, collections.Counter()) for parts in zip(*tenths))
