@@ -4,7 +4,7 @@
 Run as `bench/peer.py [--beside FOLDER] [WORKLOAD ..]` from anywhere, on a quiet machine with four cores that has the kit; it needs
 4 GB under TMPDIR. It builds a program over the repository's crates in a scratch folder, which hands the blocks of a workload in: those
 that make its state by themselves, and all others at once, to `run` of a `commit::Committer` of 1, 2 and 4 workers; or one by
-one to the `commit::Ledger`, which has one thread and none to start. A state is made by blocks of at most 50,000 keys.
+one to the `ledger::Ledger`, which has one thread and none to start. A state is made by blocks of at most 50,000 keys.
 
 Each transaction has two endorsements, which its policy asks for; values are of 100 bytes, keys of 16. The seed is fixed.
 
@@ -61,7 +61,7 @@ from scratch import RUNS, UNDER, Machine, build, built_of, times_as_long
 from encoding import Namespace, Tx, data_hash, header_hash, identity, spelled_block, spelled_tx, tx_id
 from signing import Keys
 
-CRATES = ["block", "transaction", "values", "header_hash", "policy_eval", "key_book", "rules", "gates", "commit"]
+CRATES = ["block", "transaction", "values", "header_hash", "policy_eval", "key_book", "rules", "gates", "ledger", "commit"]
 WORKERS = [1, 2, 4]
 # How many keys a transaction writes that makes the state, and how many of them a block has.
 STEP, STEPS = 2500, 20
@@ -84,10 +84,11 @@ ghost use Rattle.key_book.specs.Hmac.{hmac};
 
 use anyhow::bail;
 use block::decode_block;
-use commit::{Channel, Committer, Flag, Ledger};
+use commit::{Channel, Committer, Flag};
 use gates::Open;
 use header_hash::{DataHasher, commit_hash, tx_id};
 use key_book::{KeyBook, hmac_sha256};
+use ledger::Ledger;
 use policy_eval::Verify;
 use rules::Delta;
 use std::alloc::Global;

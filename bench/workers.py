@@ -36,7 +36,7 @@ from scratch import RUNS, UNDER, Machine, build, built_of, times_as_long
 from encoding import Namespace, Tx, data_hash, header_hash, identity, spelled_block, spelled_tx, tx_id
 from signing import Keys
 
-CRATES = ["block", "channel", "check_workers", "commit", "gates", "intake", "key_book", "key_chains", "rules", "serial_checks"]
+CRATES = ["block", "channel", "check_workers", "gates", "intake", "key_book", "key_chains", "ledger", "rules", "serial_checks"]
 ONE_WORKER, FOUR_WORKERS = 1.3, 2.5
 TIMED, TIMES = ["loop", "1", "2", "4", "threads"], 10
 CHANNEL = "channel ch\nchaincode cc AND('Org1.peer','Org2.peer')\n"
@@ -56,10 +56,10 @@ use block::{MAX_TXS, decode_block};
 use channel::{Channel, Configuration};
 use check_workers::{Checked, check_all};
 use gates::Open;
-use commit::Ledger;
 use intake::{foreseen, take_in};
 use key_book::KeyBook;
 use key_chains::Job;
+use ledger::Ledger;
 use rules::Flag;
 use std::alloc::{AllocError, Global};
 use std::io::Print;

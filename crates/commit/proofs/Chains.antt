@@ -9,7 +9,7 @@ use Rattle.rules.specs.Chain.{Chain}
 use Rattle.commit.specs.declared.not_committed.NotCommitted.{NotCommitted}
 use Rattle.commit.specs.declared.not_committed.NotCommitted.TheVariants.{Refused, MemoryInCommit, Stopped}
 use Rattle.commit.specs.Committing.{Committing, Submits, Runs, answer_in, world_of}
-use Rattle.ledger.specs.Submissions.{submissions}
+use Rattle.next_block.specs.Submissions.{submissions}
 
 abbrev Answer : Type 0
 Answer = Result Receipt NotCommitted

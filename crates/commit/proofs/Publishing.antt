@@ -12,10 +12,10 @@ use Rattle.rules.specs.World.{World, empty_world, height_of}
 use Rattle.rules.proofs.Deltas.{delta-is_linked}
 use Rattle.query.specs.declared.receipt.Receipt.{Receipt}
 use Rattle.query.specs.Published.{Publishing, applied_all, published_world}
-use Rattle.ledger.specs.NextDelta.{IsNextDelta}
+use Rattle.next_block.specs.NextDelta.{IsNextDelta}
 use Rattle.commit.specs.Committing.{IsCommitted, accepted_in}
 use Rattle.commit.specs.Running.{BelongsTo, committing}
-use Rattle.ledger.proofs.NextDeltas.{next_delta-step, next-names}
+use Rattle.next_block.proofs.NextDeltas.{next_delta-step, next-names}
 
 applied_all-more : (w : World) (ds : List Delta) (d : Delta) → applied_all w (ds ++ d ∷ []) ≡ applied (applied_all w ds) d
 applied_all-more w [] d = refl

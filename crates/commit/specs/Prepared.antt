@@ -11,9 +11,9 @@ use Rattle.intake_workers.specs.declared.handed.Handed.{Handed}
 use Rattle.intake_workers.specs.declared.hashed.Hashed.{Hashed}
 use Rattle.intake_workers.specs.Made.{block_in}
 use Rattle.intake_workers.specs.Pieces.{txs_in, items_in, all_taken}
-use Rattle.ledger.specs.Foreseen.{AreForeseenIn}
-use Rattle.ledger.specs.NextDelta.{IsNextDelta}
-use Rattle.ledger.specs.Taken.{IsTaken}
+use Rattle.next_block.specs.Foreseen.{AreForeseenIn}
+use Rattle.next_block.specs.NextDelta.{IsNextDelta}
+use Rattle.next_block.specs.Taken.{IsTaken}
 use Rattle.policy_eval.specs.Accepts.{Accepts}
 use Rattle.rules.specs.declared.answer.Refused.{Refused}
 use Rattle.rules.specs.declared.delta.Delta.{Delta}

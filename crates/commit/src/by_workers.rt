@@ -5,7 +5,7 @@ ghost use Rattle.block.specs.Limits.{max_txs};
 ghost use Rattle.rules.specs.declared.answer.Refused.TheVariants.{Memory};
 ghost use Rattle.rules.specs.Names.{HasNamesOf};
 ghost use Rattle.rules.specs.Linked.{IsRefused};
-ghost use Rattle.ledger.specs.NextDelta.{IsDeltaOfJob};
+ghost use Rattle.next_block.specs.NextDelta.{IsDeltaOfJob};
 ghost use Rattle.commit.specs.Prepared.{AreHanded, IsNextDeltaOr, IsNextOfHashed, IsPrepared, IsTakenIn};
 
 use crate::looking_up::rows_by;
@@ -17,7 +17,7 @@ use check_workers::check_all;
 use gates::Gate;
 use intake_workers::{Handed, Hashed};
 use key_chains::{Chained, Job};
-use ledger::{Unhashed, job_over, marked_of, unhashed_of};
+use next_block::{Unhashed, job_over, marked_of, unhashed_of};
 use policy_eval::Verify;
 use rules::Refused;
 use std::alloc::{AllocError, Global};

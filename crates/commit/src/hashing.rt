@@ -5,7 +5,7 @@ ghost use Rattle.commit.specs.Prepared.{StaysAhead};
 use crate::prepared::Ahead;
 use crate::workers::Workers;
 use key_chains::Chained;
-use ledger::Unhashed;
+use next_block::Unhashed;
 use query::Publisher;
 use std::alloc::{AllocError, Global};
 use std::sync::Wait;
@@ -59,6 +59,31 @@ fn hash_beside<R: Threads + Wait + Sync>(
     hash
 }
 
+/// The commit hash of a delta, for which both worlds have room: where it changes much by two threads, if there may be some, and
+/// then the next block is prepared too. What its job had is dropped meanwhile.
+fn hash_of<R: Threads + Wait + Sync>(
+    rt: &R,
+    alloc: Global,
+    workers: Workers,
+    publisher: &mut Publisher,
+    room: Room,
+    unhashed: &Unhashed,
+    spent: &mut Option<Chained<'_>>,
+    ahead: &mut Ahead<'_>,
+) -> Result<Hash, AllocError>
+    ensures hash { IfOk result (λ hash. hash ≡ unhashed.now.block.commit_hash) }
+    ensures same { publisher.new ≡ publisher.old }
+    ensures ahead { StaysAhead ahead.old ahead.new }
+{
+    if workers.count == 1 || unhashed.update_len() < WORTH_A_THREAD {
+        *spent = None;
+        publisher.make_room(rt, room)?;
+        unhashed.commit_hash(alloc)
+    } else {
+        hash_beside(rt, alloc, publisher, room, unhashed, spent, ahead)
+    }
+}
+
 /// The delta, with its commit hash, for which both worlds have room: where it changes much by two threads, if there may be some, and
 /// then the next block is prepared too. What its job had is dropped meanwhile.
 pub(crate) fn hashed<R: Threads + Wait + Sync>(
@@ -76,12 +101,8 @@ pub(crate) fn hashed<R: Threads + Wait + Sync>(
 {
     let mut spent = spent;
     let room = unhashed.room_in(publisher.published());
-    let hash = if workers.count == 1 || unhashed.update_len() < WORTH_A_THREAD {
-        spent = None;
-        publisher.make_room(rt, room)?;
-        unhashed.commit_hash(alloc)?
-    } else {
-        hash_beside(rt, alloc, publisher, room, &unhashed, &mut spent, ahead)?
-    };
+    let hash = hash_of(
+        rt, alloc, workers, publisher, room, &unhashed, &mut spent, ahead,
+    )?;
     unhashed.with_commit_hash(alloc, hash)
 }

@@ -4,7 +4,7 @@ ghost use Rattle.query.specs.declared.receipt.Receipt.{Receipt};
 ghost use Rattle.rules.specs.Chain.{Chain};
 ghost use Rattle.commit.specs.declared.not_committed.NotCommitted.{NotCommitted};
 ghost use Rattle.commit.specs.Committing.{Committing, Runs, answer_in, world_of};
-ghost use Rattle.ledger.specs.Submissions.{submissions};
+ghost use Rattle.next_block.specs.Submissions.{submissions};
 
 /// A law, and no work: what a committer answers to a list of strings, and the world that it has published after them, are
 /// what a ledger may answer that takes them on one thread. Where the committer stops, that is the ledger's want of memory.

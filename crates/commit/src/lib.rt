@@ -1,4 +1,4 @@
-//! The committer, whose workers check blocks while others query; and the ledger, which takes blocks on one thread.
+//! The committer, whose workers check blocks while others query.
 #![tactic(auto)]
 
 mod by_workers;
@@ -17,11 +17,9 @@ mod workers;
 pub use channel::{Channel, ChannelFault};
 pub use committer::Committer;
 pub use laws::a_run_is_a_chain;
-pub use ledger::Ledger;
 pub use not_committed::NotCommitted;
 pub use opening::OpenFault;
 pub use query::{QueryFault, QueryHandle, RangeRows, Receipt, Reply};
-pub use reasons::Reason;
 pub use rules::{Accepted, CommittedBlock, Delta, Flag, Refused};
 pub use workers::MAX_WORKERS;
 pub use world::World;

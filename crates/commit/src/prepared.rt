@@ -10,7 +10,7 @@ use block_steps::DecodedBlock;
 use gates::Gate;
 use intake::Taken;
 use intake_workers::{Handed, Hashed, TakenIn, take_in_beside};
-use ledger::{Foreseen, foreseen_of};
+use next_block::{Foreseen, foreseen_of};
 use policy_eval::Verify;
 use rules::Refused;
 use std::alloc::{AllocError, Global};

@@ -5,8 +5,9 @@
 ghost use Rattle.std.specs.Prelude.{◌≡◌, ◌==◌, length, All};
 
 use answer_lines::{write_accepted, write_reason, write_row};
-use commit::{Channel, Committer, Ledger, QueryFault, QueryHandle};
+use commit::{Channel, Committer, QueryFault, QueryHandle};
 use gates::Open;
+use ledger::Ledger;
 use policy_eval::Verify;
 use std::alloc::Global;
 use std::fs::File;

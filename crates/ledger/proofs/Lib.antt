@@ -1,7 +1,4 @@
-pub mod Crossing
+mod Applying
 mod Found
 mod Gathered
-mod Marking
-pub mod NextDeltas
 mod Steps
-pub mod Taken

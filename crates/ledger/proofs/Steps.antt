@@ -8,7 +8,7 @@ use Rattle.rules.specs.declared.answer.Refused.{Refused}
 use Rattle.rules.specs.World.{World}
 use Rattle.rules.specs.Step.{Step}
 use Rattle.rules.specs.Chain.{Submission, Chain}
-use Rattle.ledger.specs.Submissions.{submissions}
+use Rattle.next_block.specs.Submissions.{submissions}
 
 -- a chain goes on by one step
 pub Chain-push : (channel : Configuration) (old mid new : World) (submissions : List Submission) (answers : List (Result Accepted Refused)) (s : Submission) (answer : Result Accepted Refused)

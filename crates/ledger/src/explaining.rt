@@ -9,11 +9,11 @@ ghost use Rattle.rules.specs.Linked.{IsRefused};
 ghost use Rattle.key_chains.specs.Shown.{Shows};
 ghost use Rattle.ledger.specs.NextReasons.{AreNextReasons, AreFound};
 
-use crate::next_delta::job_of;
 use crate::serial::take_in_next;
 use channel::Configuration;
 use explanations::reason_of;
 use key_chains::{Job, PlainBoard};
+use next_block::job_of;
 use policy_eval::Verify;
 use reasons::{Reason, each_place_has_one_reason};
 use rules::{Flag, Refused};

@@ -7,9 +7,9 @@ ghost use Rattle.rules.specs.Names.{HasNamesOf};
 ghost use Rattle.rules.specs.Step.{Step};
 ghost use Rattle.rules.specs.Chain.{Chain};
 ghost use Rattle.first_version.specs.AsBefore.{StepsAsBefore};
-ghost use Rattle.ledger.specs.NextDelta.{IsNextDelta, answer_to};
+ghost use Rattle.next_block.specs.NextDelta.{IsNextDelta, answer_to};
 ghost use Rattle.ledger.specs.NextReasons.{AreNextReasons};
-ghost use Rattle.ledger.specs.Submissions.{submissions};
+ghost use Rattle.next_block.specs.Submissions.{submissions};
 
 use crate::explaining::next_reasons;
 use crate::serial::next_delta;

@@ -5,14 +5,14 @@ ghost use Rattle.block.specs.Limits.{max_txs};
 ghost use Rattle.rules.specs.declared.answer.Refused.TheVariants.{Memory};
 ghost use Rattle.rules.specs.Names.{HasNamesOf};
 ghost use Rattle.rules.specs.Linked.{IsLinked, IsRefused};
-ghost use Rattle.ledger.specs.NextDelta.{IsDeltaOfJob, IsNextDelta};
-ghost use Rattle.ledger.specs.Taken.{IsNextTakenIn};
+ghost use Rattle.next_block.specs.NextDelta.{IsDeltaOfJob, IsNextDelta};
+ghost use Rattle.next_block.specs.Taken.{IsNextTakenIn};
 
-use crate::next_delta::{delta_of, job_of};
 use block_steps::{DecodedBlock, LinkedBlock};
 use channel::Configuration;
 use intake::{Taken, take_in};
 use key_chains::Job;
+use next_block::{delta_of, job_of};
 use policy_eval::Verify;
 use rules::Refused;
 use serial_checks::flags;

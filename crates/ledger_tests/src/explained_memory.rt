@@ -3,9 +3,9 @@
 use crate::explained_memory::vectors::{first_block, flags, keys, second_block};
 use crate::fixture::{explained, have_flags, ledger_with, read_keys, submitted};
 use crate::shown::shown;
-use commit::Ledger;
 use failing::{Failed, Outcome, begins, check};
 use key_book::KeyBook;
+use ledger::Ledger;
 use rules::Refused;
 use std::alloc::Global;
 

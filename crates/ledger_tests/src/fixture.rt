@@ -2,11 +2,12 @@
 
 use chain_vectors::CHANNEL;
 use channel::{Channel, ChannelFault};
-use commit::{Ledger, Reason};
 use failing::{Failed, Text};
 use key_book::{KeyBook, KeyBookFault};
+use ledger::Ledger;
 use policy::Definitions;
 use policy_eval::Verify;
+use reasons::Reason;
 use rules::{Accepted, Flag, Refused, Row};
 use std::alloc::{AllocError, Global};
 use values::{Items, Key, KeyRef, Name, NameRef, is_key, is_name};

@@ -2,9 +2,10 @@
 
 use crate::fixture::{bare_ledger, read_keys};
 use crate::scripted::ScriptedPeer;
-use commit::{Accepted, Ledger, Refused};
+use commit::{Accepted, Refused};
 use failing::{Failed, check};
 use key_book::KeyBook;
+use ledger::Ledger;
 use std::alloc::Global;
 use values::{Bytes, Hash};
 

@@ -1,7 +1,6 @@
 //! Why updates aren't valid, as bytes.
 
-use commit::Reason;
-use reasons::UpdateFault;
+use reasons::{Reason, UpdateFault};
 use std::alloc::{AllocError, Global};
 use transaction::{OwnedIdentity, Role};
 

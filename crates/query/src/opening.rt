@@ -1,5 +1,5 @@
 //! Opens a publisher with its handles.
-ghost use Rattle.std.specs.Prelude.{◌≡◌, ◌≤◌, ◌<◌, ◌↔◌, [], false, drop, length, All, IfOk, vec_capacity};
+ghost use Rattle.std.specs.Prelude.{◌≡◌, ◌≤◌, ◌<◌, ◌↔◌, [], false, drop, length, All, IfOk, IfErr, vec_capacity};
 ghost use Rattle.left_right.specs.Sides.{view};
 ghost use Rattle.query.specs.Limits.{max_readers};
 ghost use Rattle.query.specs.Rule.{IsTold};
@@ -82,24 +82,56 @@ fn hand_out<R: Wait>(
     mut writer: ShownWriter,
     readers: usize,
     mut handles: Vec<QueryHandle>,
-) -> Result<(ShownWriter, Vec<QueryHandle>), AllocError>
+) -> Result<(ShownWriter, Vec<QueryHandle>), OpenFault>
     requires told { IsTold (view writer.desk.place) writer.desk.shown.value.world writer.desk.shown.value.front.book }
     requires room { (handles.items ≡ []) × (readers ≤ vec_capacity handles) }
     ensures place { IfOk result (λ r. view r.0.desk.place ≡ view writer.desk.place) }
     ensures same { IfOk result (λ r. (r.0.desk.shown ≡ writer.desk.shown) × (r.0.log ≡ writer.log) × (r.0.behind ≡ writer.behind)) }
     ensures count { IfOk result (λ r. length r.1.items ≡ readers) }
     ensures handles { IfOk result (λ r. All (λ h. h ≡ record { book = writer.desk.shown.value.front.book; base = writer.desk.shown.value.world; list = writer.desk.shown.value.front.list }) r.1.items) }
+    ensures fault { IfErr result (λ fault. fault ≡ OpenFault.NoPlace) }
 {
     for _ in 0..readers {
         match handle(&mut writer) {
             Ok(handle) => handles.push_reserved(handle),
             Err(_) => {
                 drop(writer.take(rt));
-                return Err(AllocError);
+                return Err(OpenFault::NoPlace);
             }
         }
     }
     Ok((writer, handles))
+}
+
+/// The writer over two worlds that hold the same, and so many handles, at most 32.
+fn begin<R: Wait>(
+    alloc: Global,
+    rt: &R,
+    front: &Front,
+    first: World,
+    second: World,
+    readers: usize,
+) -> Result<(ShownWriter, Vec<QueryHandle>), OpenFault>
+    requires alike { first ≡ second }
+    requires empty { front.now.list ≡ [] }
+    ensures told { IfOk result (λ r. IsTold (view r.0.desk.place) first front.now.book) }
+    ensures shown { IfOk result (λ r. r.0.desk.shown.value ≡ record { world = first; front = front.now }) }
+    ensures none { IfOk result (λ r. drop r.0.behind r.0.log.items ≡ []) }
+    ensures count { IfOk result (λ r. length r.1.items ≡ readers) }
+    ensures handles { IfOk result (λ r. All (λ h. h ≡ record { book = front.now.book; base = first; list = [] }) r.1.items) }
+    ensures readers { (result ≡ Err OpenFault.Readers) ↔ (max_readers < readers) }
+{
+    if readers > MAX_READERS {
+        return Err(OpenFault::Readers);
+    }
+    let Ok(writer) = start(alloc, rt, front, first, second, readers.max(1)) else {
+        return Err(OpenFault::Memory);
+    };
+    let Ok(handles) = Vec::with_capacity(alloc, readers) else {
+        drop(writer.take(rt));
+        return Err(OpenFault::Memory);
+    };
+    hand_out(rt, writer, readers, handles)
 }
 
 /// Opens a publisher over two worlds that hold the same, and so many handles, at most 32, which have seen nothing yet.
@@ -119,18 +151,9 @@ pub fn open<R: Wait>(
     ensures handles { IfOk result (λ r. All (λ h. h ≡ record { book = r.0.book; base = first; list = [] }) r.1.items) }
     ensures readers { (result ≡ Err OpenFault.Readers) ↔ (max_readers < readers) }
 {
-    if readers > MAX_READERS {
-        return Err(OpenFault::Readers);
-    }
-    let Ok(handles) = Vec::with_capacity(alloc, readers) else {
-        return Err(OpenFault::Memory);
-    };
     let (counter, front) = Front::open();
-    let Ok(writer) = start(alloc, rt, &front, first, second, readers.max(1)) else {
-        return Err(OpenFault::Memory);
-    };
-    match hand_out(rt, writer, readers, handles) {
+    match begin(alloc, rt, &front, first, second, readers) {
         Ok((writer, handles)) => Ok((Publisher::over(alloc, counter, front, writer), handles)),
-        Err(_) => Err(OpenFault::NoPlace),
+        Err(fault) => Err(fault),
     }
 }

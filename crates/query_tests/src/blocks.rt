@@ -5,10 +5,11 @@ ghost use Rattle.rules.specs.World.{empty_world};
 
 use block::{BlockFault, BlockVersion, Header, decode_block};
 use channel::{Channel, ChannelFault};
-use commit::{Accepted, Ledger, Refused};
+use commit::{Accepted, Refused};
 use drafts::draft;
 use failing::Failed;
 use key_book::KeyBook;
+use ledger::Ledger;
 use policy::Definitions;
 use rules::Delta;
 use std::alloc::{AllocError, Global};

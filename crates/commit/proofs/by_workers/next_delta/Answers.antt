@@ -2,9 +2,9 @@ use Rattle.std.proofs.Common.{◌≤◌, length, sym, ap, subst, ◌∙◌}
 use Rattle.std.proofs.lemmas.Result.{MatchResult-weaker}
 use Rattle.block.specs.declared.block.Block.{Block}
 use Rattle.block.specs.Limits.{max_txs}
-use Rattle.ledger.proofs.NextDeltas.{count-job, is_next}
-use Rattle.ledger.proofs.Taken.{as_many, few, few-foreseen}
-use Rattle.ledger.specs.Taken.{IsTaken}
+use Rattle.next_block.proofs.NextDeltas.{count-job, is_next}
+use Rattle.next_block.proofs.Taken.{as_many, few, few-foreseen}
+use Rattle.next_block.specs.Taken.{IsTaken}
 use Rattle.rules.specs.declared.answer.Refused.{Refused}
 use Rattle.rules.specs.Commit.{items_of}
 use Rattle.rules.specs.Job.{Job}

@@ -1,5 +1,5 @@
 use Rattle.rules.proofs.Crossing.{crossing}
-use Rattle.ledger.proofs.Crossing.{unhashed_sync}
+use Rattle.next_block.proofs.Crossing.{unhashed_sync}
 use Rattle.commit.proofs.hashing.hash_beside.Goals as goal
 
 pub join_mut-hash-requires-send-F : goal.join_mut-hash-requires-send-F

@@ -7,8 +7,8 @@ use Rattle.rules.specs.Candidate.{used_id}
 use Rattle.rules.specs.Commit.{items_of}
 use Rattle.rules.specs.Linked.{IsRefused}
 use Rattle.ledger.proofs.Found.{are_there, are_found}
-use Rattle.ledger.proofs.NextDeltas.{count-job}
-use Rattle.ledger.proofs.Taken.{few}
+use Rattle.next_block.proofs.NextDeltas.{count-job}
+use Rattle.next_block.proofs.Taken.{few}
 use Rattle.ledger.proofs.explaining.next_reasons.Goals as goal
 
 pub job_of-requires : goal.job_of-requires

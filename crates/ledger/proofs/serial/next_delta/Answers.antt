@@ -4,8 +4,8 @@ use Rattle.block.specs.Grammar.{bytes_of}
 use Rattle.rules.specs.declared.answer.Refused.{Refused}
 use Rattle.rules.specs.Commit.{items_of}
 use Rattle.rules.specs.Linked.{IsRefused}
-use Rattle.ledger.proofs.NextDeltas.{count-job, is_next}
-use Rattle.ledger.proofs.Taken.{few}
+use Rattle.next_block.proofs.NextDeltas.{count-job, is_next}
+use Rattle.next_block.proofs.Taken.{few}
 use Rattle.ledger.proofs.serial.next_delta.Goals as goal
 
 pub job_of-requires : goal.job_of-requires

@@ -1,6 +1,6 @@
 use Rattle.std.proofs.Common.{◌≡◌, ◌≤◌, length, take, vec_len, vec_capacity}
 use Rattle.rules.specs.Chain.{Chain}
-use Rattle.ledger.specs.Submissions.{submissions}
+use Rattle.next_block.specs.Submissions.{submissions}
 use Rattle.ledger.proofs.ledger.Ledger.submit_all.Given as goal
 
 abbrev pub invariant-loop-bytes : goal.invariant-loop-bytes

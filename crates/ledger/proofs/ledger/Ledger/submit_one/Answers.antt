@@ -2,8 +2,9 @@ use Rattle.std.proofs.Common.{subst}
 use Rattle.rules.specs.Delta.{applied}
 use Rattle.rules.specs.Names.{HasNamesOf}
 use Rattle.ledger.specs.Contents.{Contents}
-use Rattle.ledger.specs.NextDelta.{IsNextDelta}
-use Rattle.ledger.proofs.NextDeltas.{applying-step, next-names}
+use Rattle.next_block.specs.NextDelta.{IsNextDelta}
+use Rattle.next_block.proofs.NextDeltas.{next-names}
+use Rattle.ledger.proofs.Applying.{applying-step}
 use Rattle.ledger.proofs.ledger.Ledger.submit_one.Goals as goal
 
 pub apply-requires : goal.apply-requires

@@ -10,9 +10,9 @@ ghost use Rattle.rules.specs.Fold.{final_state, definitions_to};
 ghost use Rattle.rules.specs.State.{State, with_changes};
 ghost use Rattle.state_db.specs.Batch.{changed};
 ghost use Rattle.state_db.specs.LookedUp.{AreRows};
-ghost use Rattle.ledger.specs.Changes.{AddEntriesOf};
-ghost use Rattle.ledger.specs.Foreseen.{AreForeseenIn};
-ghost use Rattle.ledger.specs.NextDelta.{AreIdsOfTaken, IsDeltaOfJob, IsJobOfTaken, job_over};
+ghost use Rattle.next_block.specs.Changes.{AddEntriesOf};
+ghost use Rattle.next_block.specs.Foreseen.{AreForeseenIn};
+ghost use Rattle.next_block.specs.NextDelta.{AreIdsOfTaken, IsDeltaOfJob, IsJobOfTaken, job_over};
 
 use crate::foreseen::{Foreseen, foreseen_of, with_marks};
 use crate::unhashed::{Place, Unhashed};
@@ -76,7 +76,7 @@ pub fn job_over<'s, 'b>(
 
 /// The job of the next block, of what was taken in of it, and the id that each of its transactions uses. A search for the row of each key
 /// that it writes.
-pub(crate) fn job_of<'s, 'b>(
+pub fn job_of<'s, 'b>(
     alloc: Global,
     channel: &'s Configuration,
     world: &'s World,

@@ -1,5 +1,5 @@
 use Rattle.std.proofs.Common.{◌∙◌}
-use Rattle.ledger.proofs.next_delta.job_of.Goals as goal
+use Rattle.next_block.proofs.next_delta.job_of.Goals as goal
 
 pub returns-clause-job : goal.returns-clause-job
 returns-clause-job c names accepts items same = c.job_over.ensures ∙ c.in_ok-chained.ensures.job c.args.channel.now c.args.taken.items c.in_ok-foreseen.ensures names accepts items same

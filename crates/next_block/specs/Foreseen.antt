@@ -2,7 +2,7 @@
 use Rattle.std.specs.Prelude.{List}
 use Rattle.intake.specs.declared.taking.Taken.{Taken}
 use Rattle.intake.specs.Foreseen.{AreForeseen}
-use Rattle.ledger.specs.declared.foreseen.Foreseen.{Foreseen}
+use Rattle.next_block.specs.declared.foreseen.Foreseen.{Foreseen}
 
 -- of a block of which this was taken in
 abbrev pub AreForeseenIn : List Taken → Foreseen → Type 0

@@ -2,7 +2,7 @@
 ghost use Rattle.std.specs.Prelude.{◌≡◌, ◌<◌, ◌^◌, length, IfOk};
 ghost use Rattle.std.specs.List.{list_any};
 ghost use Rattle.intake.specs.Foreseen.{marked};
-ghost use Rattle.ledger.specs.Foreseen.{AreForeseenIn};
+ghost use Rattle.next_block.specs.Foreseen.{AreForeseenIn};
 
 use intake::{Taken, foreseen, marked};
 use key_chains::Chained;

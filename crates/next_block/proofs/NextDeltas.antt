@@ -1,6 +1,5 @@
 -- What the candidates of the next block change is its delta, and a world with it applied is a step.
 use Rattle.std.proofs.Common.{◌≡◌, ℕ, ◌==◌, List, [], length, map, Option, Result, Ok, Err, refl, sym, ap, subst, ◌∙◌}
-use Rattle.std.specs.Prelude.{IfOk, IfErr, OnOk, OnErr}
 use Rattle.std.proofs.lemmas.List.{length-map}
 use Rattle.block.specs.declared.block.Block.{Block}
 use Rattle.block.specs.Grammar.{Spells}
@@ -24,9 +23,8 @@ use Rattle.rules.specs.World.{World, height_of, last_commit_hash}
 use Rattle.rules.proofs.Candidates.{length-candidates_from}
 use Rattle.rules.proofs.Deltas.{committed-is_delta}
 use Rattle.rules.proofs.OpenUpdates.{steps_keep_names}
-use Rattle.ledger.specs.Changes.{Changes}
-use Rattle.ledger.specs.Contents.{Contents}
-use Rattle.ledger.specs.NextDelta.{IsDeltaOfJob, IsNextDelta, answer_to}
+use Rattle.next_block.specs.Changes.{Changes}
+use Rattle.next_block.specs.NextDelta.{IsDeltaOfJob, IsNextDelta, answer_to}
 
 module _ (channel : Configuration) (accepts : Accepts) (w : World) where
   -- one id or none for each candidate
@@ -87,14 +85,3 @@ module _ (channel : Configuration) (accepts : Accepts) (w : World) where
   next-names bytes d names next chaincode =
       steps_keep_names channel accepts w (applied w d) bytes (Ok (answer_to w d)) chaincode (next_delta-step bytes d (answer_to w d) (applied w d) next refl refl)
       ∙ names chaincode
-
--- The same of a ledger, where want of memory may be answered in place of applying the delta.
-pub applying-step : (accepts : Accepts) (old new : Contents) (bytes : List ℕ) (d : Delta) (answer : Result Accepted Refused)
-    → IsNextDelta old.channel accepts old.world bytes d
-    → IfOk answer (λ a. a ≡ answer_to old.world d) → OnOk answer (new ≡ record old { world = applied old.world d })
-    → IfErr answer (λ r. r ≡ Memory) → OnErr answer (new ≡ old)
-    → Step old.channel accepts old.world bytes answer new.world
-applying-step accepts old new bytes d (Ok a) next is made refused same =
-    next_delta-step old.channel accepts old.world bytes d a new.world next is (ap (λ (l : Contents). l.world) made)
-applying-step accepts old new bytes d (Err r) next is made refused same =
-    (subst (λ (x : Refused). IsRefused old.world bytes x) (sym refused) tt, ap (λ (l : Contents). l.world) same)

@@ -10,9 +10,9 @@ use Rattle.intake.specs.Place.{taken_of, shown}
 use Rattle.policy_eval.specs.Accepts.{Accepts}
 use Rattle.rules.specs.Candidate.{Candidate}
 use Rattle.rules.specs.Commit.{items_of}
-use Rattle.ledger.specs.declared.foreseen.Foreseen.{Foreseen}
-use Rattle.ledger.specs.Foreseen.{AreForeseenIn}
-use Rattle.ledger.specs.Taken.{IsTaken}
+use Rattle.next_block.specs.declared.foreseen.Foreseen.{Foreseen}
+use Rattle.next_block.specs.Foreseen.{AreForeseenIn}
+use Rattle.next_block.specs.Taken.{IsTaken}
 
 pub few : (channel : Configuration) (accepts : Accepts) (bytes : List ℕ) (b : Block) (taken : List Taken) → IsTaken channel accepts bytes b taken → length taken ≤ max_txs
 few channel accepts bytes b taken is =

@@ -5,10 +5,10 @@ use Rattle.rules.specs.Commit.{commit_hash_in, committed_of}
 use Rattle.rules.specs.Delta.{AreRealChanges, changes_in, uses_in, definitions_in}
 use Rattle.rules.specs.State.{with_changes}
 use Rattle.rules.proofs.BlockFlags.{length-flags}
-use Rattle.ledger.specs.Changes.{AddEntriesOf, Changes}
-use Rattle.ledger.specs.Unhashed.{hash_by_parts}
-use Rattle.ledger.proofs.NextDeltas.{changes-is_delta}
-use Rattle.ledger.proofs.next_delta.unhashed_of.Goals as goal
+use Rattle.next_block.specs.Changes.{AddEntriesOf, Changes}
+use Rattle.next_block.specs.Unhashed.{hash_by_parts}
+use Rattle.next_block.proofs.NextDeltas.{changes-is_delta}
+use Rattle.next_block.proofs.next_delta.unhashed_of.Goals as goal
 
 pub uses_of-requires-clause-same : goal.uses_of-requires-clause-same
 uses_of-requires-clause-same c = c.requires.ids ∙ sym (ap length (c.as_slice.ensures.value ∙ c.requires.flags) ∙ length-flags c.args.job.now)

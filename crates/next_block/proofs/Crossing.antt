@@ -4,8 +4,8 @@ use denote.Struct.Declared.{shape}
 use Rattle.rules.proofs.Crossing.{crossing, policy_send, policy_sync}
 use Rattle.rules.specs.contracts.delta.NewUse as new_use
 use Rattle.state_db.specs.contracts.batch.Batch as batch
-use Rattle.ledger.specs.contracts.unhashed.Unhashed as unhashed
-use Rattle.ledger.specs.contracts.unhashed.Unhashed.TheInside as inside
+use Rattle.next_block.specs.contracts.unhashed.Unhashed as unhashed
+use Rattle.next_block.specs.contracts.unhashed.Unhashed.TheInside as inside
 
 batch_sync : IsSync batch.the_row
 batch_sync = search (crossing, policy_send, policy_sync) depth 40 fits 100000

@@ -3,7 +3,7 @@ ghost use Rattle.std.specs.Prelude.{◌≡◌, IfOk};
 ghost use Rattle.rules.specs.Delta.{changes_in, definitions_in};
 ghost use Rattle.rules.specs.State.{State, with_changes};
 ghost use Rattle.state_db.specs.Batch.{changed};
-ghost use Rattle.ledger.specs.Unhashed.{hash_by_parts};
+ghost use Rattle.next_block.specs.Unhashed.{hash_by_parts};
 
 use block_steps::next_commit_hash;
 use effects::Effects;
@@ -49,7 +49,7 @@ impl Model for Unhashed {
     ghost use Rattle.rules.specs.Delta.{changes_in, definitions_in};
     ghost use Rattle.rules.specs.State.{State, with_changes};
     ghost use Rattle.state_db.specs.Batch.{changed};
-    ghost use Rattle.ledger.specs.Unhashed.{hash_by_parts};
+    ghost use Rattle.next_block.specs.Unhashed.{hash_by_parts};
 
     ghost view = { λ u. record {
       changes = u.effects.changes.items;

@@ -4,9 +4,9 @@ use Rattle.intake.specs.Foreseen.{marked}
 use Rattle.txid_index.specs.Marks.{marks}
 use Rattle.rules.specs.Candidate.{Candidate}
 use Rattle.rules.proofs.Names.{candidates_same}
-use Rattle.ledger.specs.NextDelta.{job_over}
-use Rattle.ledger.proofs.Marking.{as_many-marks, few_marked}
-use Rattle.ledger.proofs.next_delta.marked_of.Goals as goal
+use Rattle.next_block.specs.NextDelta.{job_over}
+use Rattle.next_block.proofs.Marking.{as_many-marks, few_marked}
+use Rattle.next_block.proofs.next_delta.marked_of.Goals as goal
 
 pub with_marks-requires-clause-count : goal.with_marks-requires-clause-count
 with_marks-requires-clause-count c =

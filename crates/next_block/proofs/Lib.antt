@@ -1,0 +1,4 @@
+pub mod Crossing
+mod Marking
+pub mod NextDeltas
+pub mod Taken
