@@ -137,7 +137,7 @@ def main():
     words = words.parse_args()
     with tempfile.TemporaryDirectory() as name:
         folder = pathlib.Path(name)
-        program = unproved.program_of(scratch.TOP, folder / "program", '"frame-pointer"="all"')
+        program = unproved.program_of(scratch.TOP, folder / "program", has_frames=True)
         machine = scratch.Machine()
         for title in words.workloads:
             told_steps(program, title, peer.made_in(folder, title), folder)

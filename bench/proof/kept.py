@@ -3,7 +3,7 @@
 
 kept.py CRATE [COUNT]: reads crates/CRATE/out/incremental, which `rt check` fills, with `--test` for its tests too, and tells the
 COUNT (30) largest. A function keeps about a megabyte for each processor second of its proof, on any machine and beside anything;
-one that keeps ten is worth another form (docs/proofs/tests.md). What is gone from the sources stays listed until the folder is removed.
+one that keeps ten is worth another form (docs/proving.md). What is gone from the sources stays listed until the folder is removed.
 """
 
 import collections
@@ -11,7 +11,7 @@ import pathlib
 import re
 import sys
 
-CRATES = pathlib.Path(__file__).resolve().parent.parent / "crates"
+CRATES = pathlib.Path(__file__).resolve().parent.parent.parent / "crates"
 # The modules that a check makes of each function, under its name.
 PARTS = {"Code", "Kinds", "Layout", "Lts", "Met", "Named", "Proof", "Reads", "Statement", "Symbol", "TheLink", "Tie", "View"}
 

@@ -3,8 +3,8 @@
 
 gate.py [--commit REV] [--processors N] [--keep FILE] [WORD ..]: clones the repository's commit into a temporary folder and runs
 the words there, `rt ci` if none is given, by a copy of the kit's `rt` before whose prover a recorder stands. Prints what it said,
-and then a table. `gate.py --read FILE [--by-call]` prints the table of a run that was kept, and `gate.py --read FILE --shares` what
-`shares.txt` has: the seconds of each crate's first proof, by which the launcher tells how long it still takes.
+and then a table. `gate.py --read FILE [--by-call]` prints the table of a run that was kept, and `gate.py --read FILE --costs` what
+`launch/costs.txt` has: the seconds and MB of each crate's first proof, by which `./prove` plans.
 """
 
 import argparse
@@ -17,6 +17,9 @@ import subprocess
 import sys
 import tempfile
 import time
+
+sys.dont_write_bytecode = True
+sys.path.append(str(pathlib.Path(__file__).resolve().parent.parent))
 
 import scratch
 
@@ -89,10 +92,10 @@ def kinds_of(calls):
         yield crate, kind, call
 
 
-def shares(file):
-    for crate, kind, call in kinds_of(calls_in(file)):
+def costs(file):
+    for crate, kind, call in sorted(kinds_of(calls_in(file)), key=lambda told: told[0]):
         if kind == "proof":
-            print(crate, round(call["processor"]))
+            print(crate, round(call["processor"]), call["megabytes"])
 
 
 def calls_in(file):
@@ -141,11 +144,11 @@ def main():
     words.add_argument("--keep", type=pathlib.Path)
     words.add_argument("--read", type=pathlib.Path)
     words.add_argument("--by-call", action="store_true")
-    words.add_argument("--shares", action="store_true")
+    words.add_argument("--costs", action="store_true")
     words.add_argument("command", nargs="*", default=["rt", "ci"])
     given = words.parse_args()
     if given.read:
-        return shares(given.read) if given.shares else read(given.read, given.by_call)
+        return costs(given.read) if given.costs else read(given.read, given.by_call)
     with tempfile.TemporaryDirectory(prefix="gate-") as folder:
         room = pathlib.Path(folder)
         record = (given.keep or room / "record").absolute()
