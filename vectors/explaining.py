@@ -1,4 +1,4 @@
-"""Why each transaction of a block has its flag, in the lines of `fabcommit explain`: written from docs/format.md and
+"""Why each transaction of a block has its flag, in the lines of `fabcommit explain`: written from docs/cli.md and
 docs/behaviour.md, and not from the crates.
 """
 

@@ -1,4 +1,4 @@
-"""What `show` prints of a block: written from docs/format.md, and not from the crates."""
+"""What `show` prints of a block: written from docs/cli.md, and not from the crates."""
 
 from answers import FAULTS
 from encoding import (

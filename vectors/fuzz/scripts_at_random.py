@@ -1,7 +1,7 @@
 #!/usr/bin/env python3
 """Drafts scripts made at random, and compares what `fabcommit` makes of them with what is read here.
 
-`python3 vectors/scripts_at_random.py [PROGRAM [COUNT [SEED]]]` makes at least COUNT scripts (1000) from SEED (1), in
+`python3 vectors/fuzz/scripts_at_random.py [PROGRAM [COUNT [SEED]]]` makes at least COUNT scripts (1000) from SEED (1), in
 chains of up to five blocks. Each is drafted by PROGRAM (`./fabcommit`): a good one has to give the block that
 `scripts.py` gives, a faulty one the line that it names, with OUT left as it was. Each block is explained, in the lines of
 `explaining.py`, at times with ids, or by an id that it has, that a block before has used, or that none has. Each chain is then handed
@@ -23,6 +23,7 @@ from collections import Counter
 from functools import partial
 
 sys.dont_write_bytecode = True
+sys.path.append(str(pathlib.Path(__file__).resolve().parent.parent))
 
 import answers
 from committer import World, is_inside
@@ -32,7 +33,7 @@ from policies import read_policy
 from scripts import LONGEST, Faulty, accepts, drafted, keys_of, txs_of, word_bytes
 from words import word
 
-TOP = pathlib.Path(__file__).resolve().parent.parent
+TOP = pathlib.Path(__file__).resolve().parent.parent.parent
 ORGS = ("Org1", "Org2")
 CHANNEL = {
     "cc": "OR('Org1.peer','Org2.peer')",

@@ -1,7 +1,7 @@
 #!/usr/bin/env python3
 """Chains at random that are dense in updates, run by `fabcommit` and by the serial committer here.
 
-`python3 vectors/updates_at_random.py [PROGRAM [COUNT [SEED]]]` makes COUNT chains (1000) of six to eight blocks from SEED (1).
+`python3 vectors/fuzz/updates_at_random.py [PROGRAM [COUNT [SEED]]]` makes COUNT chains (1000) of six to eight blocks from SEED (1).
 PROGRAM (`./fabcommit`) runs each chain with 1, 2 and 5 workers; at every height it tells the definition of each name, and of the
 whole chain all rows, histories and first uses, at times by an id. Its lines have to be those of `committer.py`. It ends with figures:
 the outcomes of updates, and how many valid ones changed a later flag, which is told by a world that doesn't take the update. It
@@ -15,6 +15,7 @@ import tempfile
 from copy import deepcopy
 
 sys.dont_write_bytecode = True
+sys.path.append(str(pathlib.Path(__file__).resolve().parent.parent))
 
 import answers
 from encoding import data_hash, header_hash, read_block, spelled_block

@@ -1,7 +1,7 @@
 #!/usr/bin/env python3
 """Shows blocks made at random, and drafts them again from what is shown.
 
-`python3 vectors/shown_at_random.py [PROGRAM [COUNT [SEED]]]` makes COUNT lists (1000) of one to three blocks from SEED (1), of both
+`python3 vectors/fuzz/shown_at_random.py [PROGRAM [COUNT [SEED]]]` makes COUNT lists (1000) of one to three blocks from SEED (1), of both
 versions. Of their transactions and updates some are cut or have a byte changed, are of another channel, have ids or signatures that
 aren't their own, or texts that no line has; some blocks have a wrong hash, and some files hold none. PROGRAM (`./fabcommit`) has to
 show them as `showing.py` does, with the keys and without, and to draft the same transactions again from each text, and the same block
@@ -18,6 +18,7 @@ import tempfile
 from collections import Counter
 
 sys.dont_write_bytecode = True
+sys.path.append(str(pathlib.Path(__file__).resolve().parent.parent))
 
 from encoding import (
     LONGEST,
