@@ -2,10 +2,11 @@
 """Proves all that the program is made of, builds it as crates/fabcommit/out/fabcommit, and tries it on its sample.
 
 `./prove` calls this. It proves as many crates side by side as there are processors and memory, first those that the longest chain
-stands on, and gives a proof that would be alone the processors that are idle. What is proved is kept, so that a call that was ended
-goes on, and another one behind a change proves what changed and what stands on that. Each crate is proved by the kit's prover over what is
-proved of those below it, as the merge gate does; tests, must-fail edits, the second compiler and the search for contracts that no call
-can meet are the gate's alone. The status is 0 where the program stands proved, 1 where not, and 130 where the call was ended.
+waits for, with as many processors each as make all of them end first (planning.py). What is proved is kept, so that a call that was
+ended goes on, and another one behind a change proves what changed and what stands on that. Each crate is proved by the kit's prover
+over what is proved of those below it, as the merge gate does; tests, must-fail edits, the second compiler and the search for
+contracts that no call can meet are the gate's alone. The status is 0 where the program stands proved, 1 where not, and 130 where the
+call was ended.
 """
 
 import contextlib
@@ -22,11 +23,11 @@ from concurrent.futures import FIRST_COMPLETED, ThreadPoolExecutor, wait
 sys.dont_write_bytecode = True
 
 import sources
-from processes import Running, alone, end_by_signals, say
 from optimize import TARGET
+from planning import Plan
+from processes import Running, alone, end_by_signals, say
 from sources import PROGRAM, TOP, NoKit
 
-MOST_JOBS = 4
 # What a job beside the first takes of a proof's memory, and what a proof takes that was never measured: seconds and MB.
 JOB_PART, UNKNOWN = 0.6, (150, 2000)
 
@@ -57,10 +58,7 @@ class Proofs:
                     shutil.copy2(source, to)
         known = costs()
         self.costs = {name: known.get(name, UNKNOWN) for name in self.crates}
-        self.chain = {}
-        for name in reversed(self.crates):
-            above = [self.chain[it] for it in self.chain if name in self.below[it]]
-            self.chain[name] = self.costs[name][0] + max(above, default=0)
+        self.plan = Plan({name: seconds for name, (seconds, _) in self.costs.items()}, self.below, sources.processors())
 
     def sum_of(self, name):
         """A sum of all that the crate's proof reads: the kit, its own files, and the libraries below as they were built."""
@@ -140,7 +138,7 @@ class Shown:
         if not left or self.done < (self.done + left) / 10:
             return ""
         by_all = left * (time.monotonic() - self.began) / self.done
-        by_chain = max(self.proofs.chain[name] for name in self.left) * self.took / self.done / 2
+        by_chain = max(self.proofs.plan.chain[name] for name in self.left) * self.took / self.done / 2
         return f", about {max(by_all, by_chain) / 60:.0f} min left"
 
     def kept(self, name):
@@ -161,44 +159,39 @@ class Shown:
         sys.stderr.flush()
 
 
-def jobs_of(proofs, name, others, idle, left, lanes):
-    """How many processors a proof gets: those that no other one waits for, and two where the chain behind it takes longer than all that is left."""
-    spare = idle // (others + 1)
-    if proofs.chain[name] > sum(proofs.costs[it][0] for it in left) / lanes:
-        spare = max(spare, min(2, idle))
-    return max(1, min(MOST_JOBS, spare))
-
-
 def prove_all(proofs, running):
     """Proves each crate that isn't kept, once those below it are."""
-    left, begun, ended, lanes, memory = set(proofs.crates), {}, set(), sources.processors(), free_memory()
-    say(f"proving {len(left)} crates by {lanes} processors, but those that are kept")
+    left, begun, ended, plan, memory = set(proofs.crates), {}, set(), proofs.plan, free_memory()
+    say(f"proving {len(left)} crates by {plan.processors} processors, but those that are kept")
 
     def timed(name, jobs):
         began = time.monotonic()
         proofs.prove(running.run, name, jobs)
         return time.monotonic() - began
 
-    with ThreadPoolExecutor(lanes) as pool, Shown(proofs) as shown, running.ending():
+    def at_work():
+        return {name: (max(end - time.monotonic(), 0), jobs) for name, end, jobs, _ in begun.values()}
+
+    with ThreadPoolExecutor(plan.processors) as pool, Shown(proofs) as shown, running.ending():
         while left or begun:
-            ready = sorted((it for it in left if all(below in ended for below in proofs.below[it])), key=lambda it: -proofs.chain[it])
-            kept = [name for name in ready if proofs.is_kept(name)]
+            kept = [name for name in plan.ready(left, ended) if proofs.is_kept(name)]
             for name in kept:
                 left.discard(name)
                 ended.add(name)
                 shown.kept(name)
             if kept:
                 continue
-            for at, name in enumerate(ready):
+            for name in plan.ready(left, ended):
                 needs = proofs.costs[name][1]
-                idle = lanes - sum(jobs for _, jobs, _ in begun.values())
-                room = memory - sum(much for _, _, much in begun.values())
+                idle = plan.processors - sum(jobs for _, _, jobs, _ in begun.values())
+                room = memory - sum(much for _, _, _, much in begun.values())
                 if idle < 1 or begun and needs > room:
                     continue
-                jobs = jobs_of(proofs, name, len(ready) - at - 1, idle, left, lanes)
+                jobs = plan.jobs(name, left, ended, at_work())
                 jobs = max(1, min(jobs, 1 + int((room / needs - 1) / JOB_PART)))
                 left.discard(name)
-                begun[pool.submit(timed, name, jobs)] = name, jobs, needs * (1 + JOB_PART * (jobs - 1))
+                end = time.monotonic() + plan.took(name, jobs)
+                begun[pool.submit(timed, name, jobs)] = name, end, jobs, needs * (1 + JOB_PART * (jobs - 1))
             for done in wait(begun, return_when=FIRST_COMPLETED).done:
                 name = begun.pop(done)[0]
                 took = done.result()
