@@ -59,7 +59,7 @@ def faults():
     if f"`{kit}`" not in (TOP / "README.md").read_text():
         yield f"README.md doesn't name the kit of the file KIT, {kit}"
     version = re.search(r"## \[(\d+\.\d+\.\d+)\]", (TOP / "CHANGELOG.md").read_text())[1]
-    source = (TOP / "crates" / "command_words" / "src" / "command.rt").read_text()
+    source = (TOP / "crates" / "cli_words" / "src" / "command.rt").read_text()
     if f'"{version}, for' not in source:
         yield f"the program's version isn't {version}, the newest one in CHANGELOG.md"
 

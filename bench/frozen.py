@@ -26,7 +26,7 @@ CUT_OUT |= {
     ("block", "first_version/Faults"): ("block", "Faults"),
 }
 # What knows both versions, and so isn't frozen.
-OF_BOTH = {"Seen", "AsBefore", "Lib"}
+OF_BOTH = {"Seen", "AnswersThen", "AsBefore", "Lib"}
 # Records that were declared by a type in Rust.
 WERE_TYPES = {
     ("block", "first_version/Grammar", "Block"): ("block", "declared/block/Block"),

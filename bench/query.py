@@ -34,8 +34,8 @@ ghost use Rattle.rules.specs.Linked.{IsLinkedDelta};
 
 use anyhow::bail;
 use block::{Block, Header, Previous, encode_block};
-use block_steps::{DecodedBlock, LinkedBlock};
 use header_hash::{data_hash, header_hash};
+use linking::{DecodedBlock, LinkedBlock};
 use policy::Definitions;
 use query::{Publisher, QueryHandle, open};
 use rules::{Change, CommittedBlock, Delta, FirstUse, Flag, KeptEntry, KeptId, KeptKey, KeyedRow, NewUse, Row};

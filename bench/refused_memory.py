@@ -1,19 +1,22 @@
 #!/usr/bin/env python3
-"""Refuses each allocation of each test of memory in turn, and fails where anything comes of it but what may.
+"""Refuses each allocation of each call that tests of memory make, once, and fails where anything comes of it but what
+may.
 
-Run as `bench/refused_memory.py [SUBJECT ..]` from anywhere, on a machine that has the kit; it proves nothing. For each subject
-it builds the tests' crate in a scratch folder, by `rt try`, with a test for each allocation: that one first makes so many
-allocations of its own that the one which is refused is the first, second, third .. of the subject's.
+Run as `bench/refused_memory.py [SUBJECT ..]` from anywhere, on a machine that has the kit; it proves nothing. For
+each subject it builds the tests' crate in a scratch folder, by `rt try`, with a test for each allocation: that one
+first makes so many allocations of its own that the one which is refused is the first, second, third .. of the
+subject's.
 
-What a test then tells is counted: `beside`, where memory was refused to what the test does before or behind the call, which
-ended the test by that error; `made good`, where the call answered want of memory, left all as it was, and did what it was to do
-when it was called again; `done`, where the call did what it does otherwise, so that it does without that memory. Anything else is a
-failure, and is shown; `stopped` too, where a committer or a publisher stopped, and handles answer what was published before.
+What a test then tells is counted: `beside`, where memory was refused to what the test does before or behind the call,
+which ended the test by that error; `made good`, where the call answered want of memory, left all as it was, and did
+what it was to do when it was called again; `done`, where the call did what it does otherwise, so that it does without
+that memory. Anything else is a failure, and is shown; `stopped` too, where a committer or a publisher stopped, and
+handles answer what was published before.
 
-Of a subject at most so many allocations are refused as `--at-most` says, 400 where it isn't given, evenly drawn from those from the
-call on; `allocations` is how many these are, with those by which the test looks at what is left. Each of the five crates is built
-three times, and a build with its tests is ended after `--minutes`, 15 where it isn't given: so it takes three hours at most. What
-wasn't tried by then is a failure.
+`allocations` is how many there are from the call on, with those by which the test looks at what is left: each of them
+is refused once, or with `--at-most` so many of a subject, evenly drawn. The last line sums the columns up. Each crate
+is built twice to count them, and then once for each thousand that are refused; a build with its tests is ended after
+`--minutes`, 30 where it isn't given. What wasn't tried by then is a failure.
 """
 
 import argparse
@@ -31,11 +34,15 @@ TOP = pathlib.Path(__file__).resolve().parent.parent
 SUBJECTS = {
     "ledger": ("ledger_tests", "memory.rt", "outcome(rt.alloc())"),
     "update": ("ledger_tests", "memory.rt", "outcome_of_update(rt.alloc())"),
-    "explanations": ("ledger_tests", "explained_memory.rt", "outcome(rt.alloc())"),
+    "reasons_from_state": ("ledger_tests", "explained_memory.rt", "outcome(rt.alloc())"),
     "committer": ("query_tests", "committer_memory.rt", "outcome(&rt, rt.alloc(), &SUBMITTING)"),
     "run of a committer": ("query_tests", "committer_memory.rt", "outcome(&rt, rt.alloc(), &RUNNING)"),
     "committer's update": ("query_tests", "committer_memory.rt", "outcome(&rt, rt.alloc(), &UPDATING)"),
     "run of updates": ("query_tests", "committer_memory.rt", "outcome(&rt, rt.alloc(), &RUNNING_UPDATES)"),
+    "channel text": ("text_tests", "channels/memory.rt", "outcome(rt.alloc())"),
+    "key book": ("text_tests", "key_books.rt", "outcome_of_good(rt.alloc())"),
+    "faulty key book": ("text_tests", "key_books.rt", "outcome_of_faulty(rt.alloc())"),
+    "bytes of an update": ("bytes_tests", "updates/memory.rt", "outcome(rt.alloc())"),
     "opening": ("query_tests", "memory.rt", "outcome_of_opening(&rt, rt.alloc())"),
     "publishing": ("query_tests", "memory.rt", "outcome_of_publishing(&rt, rt.alloc())"),
     "queries": ("query_tests", "memory.rt", "outcome_of_asking(&rt, rt.alloc())"),
@@ -97,6 +104,9 @@ fn outcome_told(outcome: Result<Outcome, Failed>, was_refused: bool) -> Result<(
     }
 }
 """
+
+# How many tests one build has at most.
+AT_ONCE = 1_000
 
 # What the runtime of a crate's tests has; outside a test only what is named.
 WITH_THREADS = "AllocGlobal + std::thread::Threads + std::sync::Wait + Sync"
@@ -183,7 +193,7 @@ def with_counting(text):
 
 def said_of(folder, crate, tests, seconds, counts=False):
     """What is said of each test of a crate that has these tests alone: texts by subjects, appended to their files."""
-    mark = pathlib.Path("failing/src/outcome.rt")
+    mark = pathlib.Path("test_support/src/outcome.rt")
     text = (folder / "originals" / mark).read_text()
     (folder / "crates" / mark).write_text(with_counting(text) if counts else text)
     sources = folder / "crates" / crate / "src"
@@ -223,8 +233,27 @@ def numbers_of(folder, crate, text, subjects, seconds, counts):
     return numbers
 
 
+def in_parts(places):
+    """The places of all subjects, in lists of at most as many as a build has tests."""
+    flat = [(subject, place) for subject, some in places.items() for place in some]
+    for start in range(0, len(flat), AT_ONCE):
+        part = {}
+        for subject, place in flat[start : start + AT_ONCE]:
+            part.setdefault(subject, []).append(place)
+        yield part
+
+
 def told_of(folder, crate, places, seconds):
     """What each place of each subject tells, or how its test failed."""
+    told = {subject: {} for subject in places}
+    for part in in_parts(places):
+        for subject, of_part in told_of_part(folder, crate, part, seconds).items():
+            told[subject].update(of_part)
+    return told
+
+
+def told_of_part(folder, crate, places, seconds):
+    """The same of places for which one build has tests."""
     tests = {subject: TELL + "".join(PLACE.replace("PLACE", str(place)) for place in some) for subject, some in places.items()}
     said, parts = said_of(folder, crate, tests, seconds)
     told = {subject: {} for subject in places}
@@ -238,12 +267,14 @@ def told_of(folder, crate, places, seconds):
     return told
 
 
-def is_fine(subject, calls, wanted, told):
-    """Prints the subject's line, and its failures."""
+def is_fine(subject, calls, wanted, told, sums):
+    """Prints the subject's line, and its failures, and adds the line to the sums."""
     counts = {what: list(told.values()).count(what) for what in ("beside", "done", "made good", "stopped")}
     failures = {place: what for place, what in told.items() if what not in counts and what != "not reached"}
     tries = sum(counts.values()) + len(failures)
-    print(ROW.format(subject, calls, tries, *counts.values(), len(failures)), flush=True)
+    line = [calls, tries, *counts.values(), len(failures)]
+    print(ROW.format(subject, *line), flush=True)
+    sums[:] = [one + other for one, other in zip(sums, line)]
     for place, what in failures.items():
         print(f"{subject}: allocation {place}: {what}", flush=True)
     left = len(wanted) - len(told)
@@ -257,15 +288,16 @@ def is_fine(subject, calls, wanted, told):
 
 
 def evenly(before, total, at_most):
-    """At most so many of the numbers behind the one up to the other."""
-    return range(before + 1, total + 1, max(1, -(-(total - before) // at_most)))
+    """The numbers behind the one up to the other, or at most so many of them."""
+    step = -(-(total - before) // at_most) if at_most else 1
+    return range(before + 1, total + 1, max(1, step))
 
 
 def main():
     words = argparse.ArgumentParser(description=__doc__, formatter_class=argparse.RawDescriptionHelpFormatter)
     words.add_argument("subjects", nargs="*", metavar="SUBJECT", help=", ".join(SUBJECTS))
-    words.add_argument("--at-most", type=int, default=400)
-    words.add_argument("--minutes", type=float, default=15)
+    words.add_argument("--at-most", type=int)
+    words.add_argument("--minutes", type=float, default=30)
     asked = words.parse_args()
     unknown = set(asked.subjects) - set(SUBJECTS)
     if unknown:
@@ -273,7 +305,7 @@ def main():
     wanted = asked.subjects or list(SUBJECTS)
     print(ROW.format("call", "allocations", *COLUMNS))
     print("|---" + "|---:" * 7 + "|", flush=True)
-    are_fine = True
+    are_fine, sums = True, [0] * 7
     with tempfile.TemporaryDirectory() as name:
         folder = pathlib.Path(name)
         copied(folder)
@@ -285,7 +317,8 @@ def main():
             places = {subject: evenly(before[subject], total[subject], asked.at_most) for subject in subjects}
             told = told_of(folder, crate, places, seconds)
             for subject in subjects:
-                are_fine &= is_fine(subject, total[subject] - before[subject], places[subject], told[subject])
+                are_fine &= is_fine(subject, total[subject] - before[subject], places[subject], told[subject], sums)
+    print(ROW.format("all", *sums))
     sys.exit(0 if are_fine else 1)
 
 

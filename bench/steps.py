@@ -34,13 +34,13 @@ TENTHS = 10
 WANTED = ["typical", "drawn"]
 STEPS = {
     "check_workers::checking": "checks",
-    "commit::looking_up": "rows",
-    "ledger::next_delta::marked_of": "ids",
-    "ledger::next_delta": "delta",
+    "row_workers::looking_up": "rows",
+    "next_block::next_delta::flag_duplicates": "ids",
+    "next_block::next_delta": "delta",
     "next_prepared": "linking",
     "take_in_one": "intake",
     "intake_workers::made": "copying",
-    "Unhashed::commit_hash": "commit hash",
+    "PendingDelta::commit_hash": "commit hash",
     "left_right": "worlds",
     "Candidate+Destruct": "dropping",
 }

@@ -56,7 +56,7 @@ use block::{MAX_TXS, decode_block};
 use channel::{Channel, Configuration};
 use check_workers::{Checked, check_all};
 use gates::Open;
-use intake::{foreseen, take_in};
+use intake::{tentative, take_in};
 use key_book::KeyBook;
 use key_chains::Job;
 use ledger::Ledger;
@@ -179,7 +179,7 @@ fn time_block<R: Clock + Print + Threads + Wait + Sync>(
         bail!("no block");
     };
     let taken = take_in(alloc, channel, keys, block.version, block.txs.as_slice())?;
-    let (_ids, candidates) = foreseen(alloc, taken)?;
+    let (_ids, candidates) = tentative(alloc, taken)?;
     if candidates.as_slice().len() > MAX_TXS {
         bail!("too many");
     }

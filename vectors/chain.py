@@ -41,10 +41,10 @@ def rust_block(octets, header_hash, flags):
     yield "    },"
 
 
-def rust_blocks(name, blocks):
+def rust_blocks(doc, name, blocks):
     yield "//! Blocks of one chain, made by vectors/make.py.\n"
     yield "use super::Committed;\n"
-    yield from rust_table(name, "Committed", ["\n".join(rust_block(*block)) for block in blocks])
+    yield from rust_table(doc, name, "Committed", ["\n".join(rust_block(*block)) for block in blocks])
 
 
 def written_keys(world, *others):
@@ -89,7 +89,8 @@ def rust_left(world, place):
 def rust_rows(world):
     yield "//! What the chain leaves at each key, made by vectors/make.py.\n"
     yield "use super::{Left, LeftRow};\n"
-    yield from rust_table("rows", "Left", ["\n".join(rust_left(world, place)) for place in story_keys(world)])
+    doc = "What is left at each key that the blocks write, and at `j` of `cc` and `x` of `zz`, in their order."
+    yield from rust_table(doc, "rows", "Left", ["\n".join(rust_left(world, place)) for place in story_keys(world)])
 
 
 def use_octets(world):
@@ -99,7 +100,7 @@ def use_octets(world):
 def rust_uses(world):
     yield "//! Where the chain uses each id first, made by vectors/make.py.\n"
     octets = use_octets(world)
-    yield "/// The id's 64 bytes, then the block, the place and the number of the flag, a byte each."
+    yield "/// The first use of each id: its 64 bytes, then block, place and the number of the flag, a byte each."
     yield "pub fn uses() -> &'static [[u8; 67]] {\n    USES.as_chunks().0\n}\n"
     yield f"static USES: &[u8; {len(octets)}] =\n    {rust_string(octets)};"
 
@@ -132,10 +133,10 @@ def rust_chain(name, world):
     yield "    },"
 
 
-def rust_worked(name, groups):
+def rust_worked(doc, name, groups):
     yield "//! Chains that each show one thing, made by vectors/make.py.\n"
     yield "use super::{Left, LeftRow, Scripted, WorkedChain};\n"
-    yield from rust_table(name, "WorkedChain", ["\n".join(rust_chain(*row)) for row in worked(groups)])
+    yield from rust_table(doc, name, "WorkedChain", ["\n".join(rust_chain(*row)) for row in worked(groups)])
 
 
 def told_blocks(blocks, reasons):
@@ -167,14 +168,24 @@ def told_worked():
         yield from told_blocks(world.blocks, world.reasons)
 
 
+WORKED = [
+    ("worked_reads", "reads and policies of keys", READS),
+    ("worked_endorsers", "policy writes, endorsers, faults and ids", ENDORSERS),
+    ("worked_ranges", "ranges", RANGES),
+]
+
+
 def files():
     world = story()
     half = len(world.blocks) // 2
-    yield "first_blocks.rt", rust_file(rust_blocks("first_blocks", world.blocks[:half]))
-    yield "later_blocks.rt", rust_file(rust_blocks("later_blocks", world.blocks[half:]))
+    halves = (("first_blocks", "first", world.blocks[:half]), ("later_blocks", "last", world.blocks[half:]))
+    for name, which, blocks in halves:
+        doc = f"The {which} {len(blocks)} of the chain's {len(world.blocks)} blocks, in order."
+        yield f"{name}.rt", rust_file(rust_blocks(doc, name, blocks))
     yield "rows.rt", rust_file(rust_rows(world))
     yield "uses.rt", rust_file(rust_uses(world))
-    for name, groups in (("worked_reads", READS), ("worked_endorsers", ENDORSERS), ("worked_ranges", RANGES)):
-        yield f"{name}.rt", rust_file(rust_worked(name, groups))
+    for name, subject, groups in WORKED:
+        doc = f"Chains about {subject}, each of which shows one thing."
+        yield f"{name}.rt", rust_file(rust_worked(doc, name, groups))
     yield "story.txt", rust_file(told_story(world))
     yield "worked.txt", rust_file(told_worked())

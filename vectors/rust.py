@@ -48,8 +48,9 @@ def rust_octets(octets):
     return 'b"' + "\\\n    ".join("".join(f"\\x{octet:02x}" for octet in line) for line in lines) + '"'
 
 
-def rust_table(name, item, rows):
+def rust_table(doc, name, item, rows):
     """A table behind a function: a proof that calls it doesn't read the table. The rows have their indentation."""
+    yield f"/// {doc}"
     yield f"pub fn {name}() -> &'static [{item}] {{\n    &{name.upper()}\n}}\n"
     yield f"static {name.upper()}: [{item}; {len(rows)}] = ["
     yield from rows

@@ -136,15 +136,18 @@ def rust_case(text, after, version):
 def rust_drafts():
     yield "//! Scripts with the blocks that they draft or their first faulty lines, made by vectors/make.py.\n"
     yield "use super::DraftCase;\n"
+    yield "/// The key book of all who sign in the scripts."
     yield "pub fn keys() -> &'static str {\n    KEYS\n}\n"
     yield f"static KEYS: &str =\n    {rust_text(KEYS)};\n"
-    yield from rust_table("drafts", "DraftCase", ["\n".join(rust_case(*case, 1)) for case in cases()])
+    doc = "Scripts of blocks of version 1."
+    yield from rust_table(doc, "drafts", "DraftCase", ["\n".join(rust_case(*case, 1)) for case in cases()])
 
 
 def rust_updates():
     yield "//! Scripts of blocks of version 2, with these or their first faulty lines, made by vectors/make.py.\n"
     yield "use super::DraftCase;\n"
-    yield from rust_table("updates", "DraftCase", ["\n".join(rust_case(*case, 2)) for case in update_cases()])
+    doc = "Scripts of blocks of version 2."
+    yield from rust_table(doc, "updates", "DraftCase", ["\n".join(rust_case(*case, 2)) for case in update_cases()])
 
 
 def files():

@@ -18,7 +18,7 @@ BLOCK = (
     [
         ("bytes", "handed in", "commit/src/committer.rt", "the caller"),
         ("a decoded block", "the grammar of blocks", "block/src/reader.rt", "the caller"),
-        ("a linked block", "number, previous hash, data hash, version", "block_steps/src/linking.rt", "the caller"),
+        ("a linked block", "number, previous hash, data hash, version", "linking/src/linked.rt", "the caller"),
         ("candidates", "transactions read, signatures checked, policies evaluated", "intake/src/taking.rt", "all workers"),
         ("a job", "used ids, and the writers of each key in order", "key_chains/src/job.rt", "the caller"),
         ("verdicts", "endorsements, then reads, over what is known of those before", "check_workers/src/checking.rt", "all workers"),
@@ -41,8 +41,8 @@ FLAG = (
         ("workers", "in any order, by any number: the same verdicts", "crates/check_workers/src/checking.rt", "proof"),
         ("the committer", "flags, state, history and hashes of the step", "crates/commit/src/committer.rt", "proof"),
         ("a wrong body", "takes the newest writer, whatever its flag", "crates/mvcc/must-fail/takes_the_newest_writer_whatever_its_flag.edit", "refused by proof"),
-        ("the reason", "which read, what it had, what there is, by whom", "crates/explanations/src/state_reasons.rt", "proof"),
-        ("its line", "0 11 MVCC_READ_CONFLICT read cc m was 0 0 is absent", "crates/answer_lines/src/reason_lines.rt", "tests"),
+        ("the reason", "which read, what it had, what there is, by whom", "crates/reasons_from_state/src/state_reasons.rt", "proof"),
+        ("its line", "0 11 MVCC_READ_CONFLICT read cc m was 0 0 is absent", "crates/cli_lines/src/reason_lines.rt", "tests"),
         ("another program", "the same rule in Python, over chains at random", "vectors/committer.py", "comparing"),
     ],
 )

@@ -24,7 +24,7 @@ pub struct Header {
 }
 
 /// A version, a header, and the bytes of each transaction in order, lent.
-#[derive(Debug, Drop)]
+#[derive(Drop)]
 pub struct Block<'a> {
     /// The header's hash doesn't cover it.
     pub version: BlockVersion,

@@ -24,7 +24,8 @@ pub fn one_reading()
     ensures some_reading { (bytes : List ℕ) → ((i : ℕ) → slice_index bytes i < 256) → ((b : Block) × Spells bytes b) ⊎ ((f : BlockFault) × HasFault bytes f) }
 {}
 
-/// The same laws of the grammar of version 1 alone, as it was when there was no other.
+/// Laws of the grammar of version 1 alone, as it was when there was no other, and no work: no two blocks share a
+/// spelling, no block has two, no bytes have two faults, and each string of bytes has a block or a fault, and not both.
 pub fn one_first_version_reading()
     ensures one_block { (bytes : List ℕ) (a b : first.Block) → first.Spells bytes a → first.Spells bytes b → a ≡ b }
     ensures one_spelling { (x y : List ℕ) (b : first.Block) → first.Spells x b → first.Spells y b → x ≡ y }

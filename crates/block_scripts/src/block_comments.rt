@@ -1,6 +1,6 @@
 //! Comments that tell of a block by itself.
-use answer_lines::write_hash;
 use block::{Block, BlockVersion, Header, Previous};
+use cli_lines::write_hash;
 use header_hash::{data_hash, header_hash};
 use std::io;
 use std::io::Write;
@@ -46,8 +46,8 @@ fn write_data_hash<W: Write>(out: &mut W, block: &Block<'_>) -> io::Result<()> {
     writeln!(out)
 }
 
-/// Writes the block's number, version and count of transactions, and its hashes: whether they are right, as far as that is
-/// known by the block before it.
+/// Writes the block's number, version and count of transactions, and its hashes: whether they are right, as far as that
+/// is known by the block before it.
 pub(crate) fn write_block_comments<W: Write>(
     out: &mut W,
     before: Option<&Header>,

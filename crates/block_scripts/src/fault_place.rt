@@ -59,8 +59,8 @@ fn behind_txs(bytes: &[u8]) -> Result<&[u8], &[u8]> {
     Ok(rest)
 }
 
-/// The place, from 0, of the field at which bytes stop being a block: the first one that can't be read, or what follows the last
-/// transaction. Of a block it is its length. Linear in the number of transactions; takes no memory.
+/// The place, from 0, of the field at which bytes stop being a block: the first one that can't be read, or what follows
+/// the last transaction. Of a block it is its length. Linear in the number of transactions; takes no memory.
 pub fn place_of_fault(bytes: &[u8]) -> usize {
     let rest = match behind_txs(bytes) {
         Ok(rest) | Err(rest) => rest,

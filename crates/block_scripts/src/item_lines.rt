@@ -1,5 +1,5 @@
 //! The lines by which a script says a transaction or an update.
-use answer_lines::write_identity;
+use cli_lines::write_identity;
 use std::io;
 use std::io::Write;
 use text_lines::Word;

@@ -4,7 +4,7 @@ use crate::raw_lines::write_raw;
 use crate::raw_reasons::write_raw_reasons;
 use crate::saying::says;
 use crate::signing::Signing;
-use answer_lines::LineFault;
+use cli_lines::LineFault;
 use std::alloc::Global;
 use std::io;
 use std::io::Write;
@@ -80,8 +80,8 @@ fn write_spelled(
     write_unsaid(alloc, out, signing, spelled, lines, bytes)
 }
 
-/// Writes what stands in this place of a block of this version: lines that say it where drafting them gives these bytes, else
-/// the bytes, and in comments what can be read of them.
+/// Writes what stands in this place of a block of this version: lines that say it where drafting them gives these
+/// bytes, else the bytes, and in comments what can be read of them.
 pub(crate) fn write_place(
     alloc: Global,
     out: &mut Vec<u8>,

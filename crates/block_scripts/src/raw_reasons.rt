@@ -1,7 +1,7 @@
 //! Comments that tell why no lines say a transaction which can be read.
 use crate::item_lines::ends_a_line;
 use crate::signing::Signing;
-use answer_lines::{LineFault, write_identity};
+use cli_lines::{LineFault, write_identity};
 use header_hash::tx_id;
 use key_book::KeyBook;
 use policy_eval::Verify;
@@ -148,8 +148,8 @@ fn write_opening_reasons<W: Write>(
     Ok(())
 }
 
-/// Writes what keeps lines from saying it: another channel, another id than its own, signatures that the book doesn't give,
-/// and texts with which no line ends.
+/// Writes what keeps lines from saying it: another channel, another id than its own, signatures that the book doesn't
+/// give, and texts with which no line ends.
 pub(crate) fn write_raw_reasons<W: Write>(
     alloc: Global,
     out: &mut W,

@@ -12,8 +12,8 @@ use crate::place::write_place;
 use crate::raw_lines::raw_lines;
 use crate::saying::says;
 use crate::signing::Signing;
-use answer_lines::LineFault;
 use block::{Block, Header};
+use cli_lines::LineFault;
 use key_book::KeyBook;
 use std::alloc::{AllocError, Global};
 use values::{Bytes, Name};
@@ -39,19 +39,20 @@ fn lines_of(
     Ok(Bytes::from_vec(lines))
 }
 
-/// The script that a block is shown as: drafted again on this channel by these keys, it gives the block's transactions to the
-/// byte. `before` is the header of the block before it, where that is known, and is spoken of in comments alone.
+/// The script that a block is shown as: drafted again on this channel by these keys, it gives the block's transactions
+/// to the byte. `before` is the header of the block before it, where that is known, and is spoken of in comments alone.
 ///
-/// A transaction or an update is said by lines where drafting these gives its bytes. Else a `raw` line has its bytes, and comments
-/// above it tell what can be read of it, and what keeps lines from saying it: another channel, an id that isn't its own, signatures
-/// that the book doesn't give, a policy's text that isn't of printable ASCII alone. Above each stands its place and id, and above
-/// all the block's number, version and hashes, and whether these are right. All is printable ASCII.
+/// A transaction or an update is said by lines where drafting these gives its bytes. Else a `raw` line has its bytes,
+/// and comments above it tell what can be read of it, and what keeps lines from saying it: another channel, an id that
+/// isn't its own, signatures that the book doesn't give, a policy's text that isn't of printable ASCII alone. Above
+/// each stands its place and id, and above all the block's number, version and hashes, and whether these are right. All
+/// is printable ASCII.
 ///
-/// That the text says the block is looked at before it is answered, by drafting it; if it didn't, `raw` lines without comments would
-/// take its place, so that there is always an answer.
+/// That the text says the block is looked at before it is answered, by drafting it; if it didn't, `raw` lines without
+/// comments would take its place, so that there is always an answer.
 ///
-/// Each transaction is drafted twice, once alone and once with the others: linear in the block, and for each endorser in the body
-/// that it signs. The memory is linear in the block.
+/// Each transaction is drafted twice, once alone and once with the others: linear in the block, and for each endorser
+/// in the body that it signs. The memory is linear in the block.
 pub fn block_script(
     alloc: Global,
     channel: &Name,
@@ -94,8 +95,9 @@ fn is_said_by_any(alloc: Global, block: &Block<'_>, lines: &Bytes) -> Result<boo
     Ok(says(alloc, &signing, block.version, lines.as_slice(), txs)?)
 }
 
-/// The same where no channel and no keys are known: each transaction by a `raw` line, with comments of what can be read of it.
-/// Drafted again on any channel by any keys, it gives the block's transactions to the byte.
+/// The script that a block is shown as where no channel and no keys are known: a `raw` line for each transaction, with
+/// comments of what can be read of it. An `Err` is want of memory; time and memory are linear in the block. Drafted
+/// again on any channel by any keys, it gives the block's transactions to the byte.
 pub fn raw_script(
     alloc: Global,
     before: Option<&Header>,

@@ -4,10 +4,10 @@ ghost use Rattle.std.specs.Prelude.{◌≡◌, length, IfOk};
 use crate::building::{Ground, state_key};
 use crate::cases::{JobCase, KeyPlace, LETTERS, TXS};
 use crate::sure::KnownCase;
-use failing::Failed;
 use key_chains::{Cells, Decision, Job, PlainBoard};
 use rules::ReadVerdict;
 use std::alloc::{AllocError, Global};
+use test_support::Failed;
 use transaction::Version;
 
 fn cells_at(known: &KnownCase, i: u32) -> Cells {

@@ -5,13 +5,13 @@ use crate::cases::{
 use crate::spelling::{spelled, spelled_update, text_of};
 use block::MAX_TXS;
 use candidates::OpenUpdate;
-use failing::Failed;
 use key_chains::{Candidate, Job, StateKey};
 use policy::{Definitions, Policy};
 use policy_eval::{Verify, signers, update_signers};
 use rules::{EarlyFlag, Row};
 use state_db::{Batch, StateDb};
 use std::alloc::{AllocError, Global};
+use test_support::Failed;
 use transaction::{BlockVersion, Identity, Item, decode_item, decode_tx};
 use values::{Bytes, Key, KeyRef, Name, NameRef, Part, Shared, is_key, is_name};
 
@@ -245,6 +245,7 @@ pub struct Ground {
 }
 
 impl Ground {
+    /// What the jobs of this case stand on. The error is `Missing` or want of memory.
     pub fn of(alloc: Global, case: &JobCase) -> Result<Ground, Failed> {
         Ok(Ground {
             bytes: bytes_of(alloc, case)?,
@@ -254,6 +255,7 @@ impl Ground {
         })
     }
 
+    /// The job of this case.
     pub fn job(&self, alloc: Global, case: &JobCase) -> Result<Job<'_, '_>, Failed> {
         let candidates = candidates_of(alloc, &self.definitions, case, &self.bytes)?;
         if candidates.as_slice().len() > MAX_TXS {

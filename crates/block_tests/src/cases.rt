@@ -31,12 +31,14 @@ impl KeyPlace {
         KeyPlace { namespace, key }
     }
 
+    /// The number of the namespace.
     pub fn namespace(self) -> usize
         ensures { result < 3 }
     {
         self.namespace % NAMESPACES
     }
 
+    /// The number of the key.
     pub fn key(self) -> usize
         ensures { result < 6 }
     {
@@ -80,6 +82,7 @@ pub struct KeyUse {
 }
 
 impl KeyUse {
+    /// Whether a value or a policy is written.
     pub fn is_write(&self) -> bool {
         self.value.is_some() || self.policy.is_some()
     }
@@ -96,6 +99,7 @@ pub struct Query {
 }
 
 impl Query {
+    /// Whether this key stands between the bounds.
     pub fn is_in_bounds(&self, letter: u8) -> bool {
         let is_from = match self.start {
             None => true,

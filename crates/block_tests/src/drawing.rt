@@ -5,8 +5,8 @@ use crate::cases::{
     RowCase, Rule, SetCase, Signed, TXS, TxCase, UNUSED_SET,
 };
 use crate::sure::KnownCase;
-use random_numbers::Random;
 use rules::Flag;
+use test_support::Random;
 use transaction::Version;
 
 /// Keys of a namespace that transactions use; the others have rows at most.
@@ -19,6 +19,7 @@ pub struct Drawing {
 }
 
 impl Drawing {
+    /// Draws by a seed of its own.
     pub fn new() -> Drawing {
         Drawing {
             random: Random::new(20261123),
@@ -156,6 +157,7 @@ impl Drawing {
         tx
     }
 
+    /// The next case.
     pub fn job(&mut self) -> JobCase {
         let mut case = NOTHING;
         for n in 0..NAMESPACES {

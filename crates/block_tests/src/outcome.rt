@@ -4,11 +4,11 @@ use crate::building::Ground;
 use crate::cases::{JobCase, Rule};
 use crate::spelling::text_of;
 use effects::{Effects, effects_of};
-use failing::Failed;
 use key_chains::Job;
 use rules::{Change, Flag, NewDefinition};
 use serial_checks::flags;
 use std::alloc::Global;
+use test_support::Failed;
 use values::{Bytes, Shared};
 
 #[derive(Clone, Copy)]

@@ -4,10 +4,10 @@ use crate::asking::{Answers, Said, ask};
 use crate::cases::{JobCase, KeyPlace, TXS, TxCase};
 use crate::drawing::Drawing;
 use crate::sure::{KnownCase, is_right_of_endorsement, is_right_of_reads, is_right_of_version};
-use failing::Failed;
 use key_chains::Decision;
 use rules::ReadVerdict;
 use std::alloc::Global;
+use test_support::Failed;
 
 const JOBS: u32 = 2500;
 

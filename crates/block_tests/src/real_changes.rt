@@ -2,8 +2,8 @@
 
 use crate::cases::{FLAGGED, JobCase, KEYS, KeyUse, NOTHING, NewValue, RowCase, TxCase, UNUSED};
 use crate::outcome::{Outcome, comes_out};
-use failing::Failed;
 use rules::Flag;
+use test_support::Failed;
 use transaction::Version;
 
 fn write_of(value: NewValue) -> KeyUse {

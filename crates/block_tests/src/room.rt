@@ -11,6 +11,7 @@ pub struct Room {
 }
 
 impl Room {
+    /// Without bytes.
     pub fn new() -> Room {
         Room {
             bytes: [0; ROOM],
@@ -18,6 +19,7 @@ impl Room {
         }
     }
 
+    /// Adds the bytes, as far as there is room.
     pub fn put(&mut self, bytes: &[u8]) {
         for byte in bytes {
             if self.len < ROOM {
@@ -42,6 +44,7 @@ impl Room {
         }
     }
 
+    /// What was put.
     pub fn as_slice(&self) -> &[u8] {
         self.bytes.get(..self.len).unwrap_or_default()
     }

@@ -5,10 +5,10 @@ use crate::cases::{
     BLOCK, FLAGGED, JobCase, KEYS, KeyUse, NOTHING, NewValue, RowCase, Rule, TXS, TxCase, UNUSED,
 };
 use crate::sure::KnownCase;
-use failing::Failed;
 use key_chains::Decision;
 use rules::{Flag, ReadVerdict};
 use std::alloc::Global;
+use test_support::Failed;
 use transaction::Version;
 
 pub const UNKNOWN: KnownCase = KnownCase {

@@ -18,6 +18,7 @@ const FIRST: &[u8] = b"\x04Org1\x02\x02p0\0\x02ok";
 
 const SECOND: &[u8] = b"\x04Org2\x02\x02q0\0\x02ok";
 
+/// The rule's text.
 pub fn text_of(rule: Rule) -> &'static [u8] {
     match rule {
         Rule::First => b"'Org1.peer'",

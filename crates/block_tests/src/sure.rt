@@ -113,6 +113,7 @@ fn unknown_before<'a>(
     None
 }
 
+/// Whether the answer is that of every assignment of the unknown verdicts, or names one that the check depends on.
 pub fn is_right_of_endorsement(
     case: &JobCase,
     tx: &TxCase,
@@ -129,6 +130,7 @@ pub fn is_right_of_endorsement(
     }
 }
 
+/// Whether the verdict is that of every assignment of the unknown verdicts, or names one that the check depends on.
 pub fn is_right_of_reads(
     case: &JobCase,
     tx: &TxCase,
@@ -146,6 +148,7 @@ pub fn is_right_of_reads(
     }
 }
 
+/// Whether the version is that of every assignment of the unknown verdicts, or names one that it depends on.
 pub fn is_right_of_version(
     case: &JobCase,
     place: KeyPlace,

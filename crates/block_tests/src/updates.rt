@@ -4,10 +4,10 @@ use crate::asking::{Said, said_of};
 use crate::cases::{JobCase, NOTHING, Rule, Signed, UpdateCase};
 use crate::outcome::{Outcome, comes_out};
 use crate::rows::UNKNOWN;
-use failing::Failed;
 use key_chains::Decision;
 use rules::{Flag, ReadVerdict};
 use std::alloc::Global;
+use test_support::Failed;
 
 // The admin policy, which peers signed, and whether the update is valid.
 type Row = (Option<Rule>, bool, bool, bool);

@@ -62,10 +62,12 @@ pub fn state_under(case: &JobCase, called: &Assignment) -> State {
     state
 }
 
+/// The version of the row at a place, if there is one.
 pub fn version_at(state: &State, place: KeyPlace) -> Option<Version> {
     state[place.namespace()][place.key()]
 }
 
+/// Whether the transaction writes a value or a policy there.
 pub fn writes_at(tx: &TxCase, place: KeyPlace) -> bool {
     tx.sets[place.namespace()].uses[place.key()].is_write()
 }

@@ -18,6 +18,7 @@ impl Field {
         }
     }
 
+    /// The bytes of the field.
     pub fn bytes(&self, alloc: Global) -> Result<Vec<u8>, AllocError> {
         let (front, unit, times, back) = self.parts();
         let middle = unit.repeat(alloc, times)?;

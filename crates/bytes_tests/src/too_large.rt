@@ -14,6 +14,7 @@ pub enum TooLarge {
 }
 
 impl TooLarge {
+    /// What is answered when the body, what is signed of it and the whole are written.
     pub fn faults(self) -> Faults {
         let fault = Some(EncodeFault::TooLarge);
         match self {

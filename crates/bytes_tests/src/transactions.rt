@@ -11,6 +11,7 @@ use values::{Bytes, Slice};
 mod faults;
 mod identities;
 mod limits;
+mod lists;
 mod places;
 
 // Channel `ch`, creator `Org1:client:c0`, nonce `n1`, chaincode `cc`, one namespace `cc` with a read

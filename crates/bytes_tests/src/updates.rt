@@ -9,7 +9,7 @@ use transaction::{
 
 mod faults;
 mod limits;
-mod memory;
+pub mod memory;
 mod versions;
 
 // In channel `ch`, `cc` gets the policy `OR('Org2.peer')`. Creator `Org1:admin:a0`, nonce `n2`, one endorsement of the creator's.

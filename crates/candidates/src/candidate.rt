@@ -25,8 +25,8 @@ impl<'a> Candidate<'a> {
     ghost use Rattle.candidates.specs.SetsFault.{sets_fault};
     ghost use Rattle.candidates.specs.Seen.{seen};
 
-    /// Of a transaction whose origin is good and whose id is new: flagged for its read and write sets, or open with
-    /// these signers. It takes what [`InForm::check`] takes.
+    /// The candidate of a transaction whose origin is good and whose id is new: flagged for its read and write sets, or open with
+    /// these signers. Memory, errors and cost are those of [`InForm::check`].
     pub fn open(
         alloc: Global,
         tx: Tx<'a>,

@@ -6,7 +6,7 @@ ghost use Rattle.rules.specs.ReadWriteSets.{has_results_in_form};
 ghost use Rattle.candidates.specs.Form.{have_lists_in_form, are_lists_in_form};
 
 use crate::labels::{are_distinct, are_rising};
-use block_steps::is_within;
+use rules::is_within;
 use std::alloc::{AllocError, Global};
 use transaction::{KeyVersion, NsSet, Range, Tx};
 use values::BoundRef;
@@ -33,7 +33,12 @@ fn has_results_in_form(range: &Range<'_>) -> bool
 fn have_results_in_form(ranges: &[Range<'_>]) -> bool
     ensures { result ≡ list_all has_results_in_form ranges.now }
 {
-    ranges.iter().all(has_results_in_form)
+    for range in ranges {
+        if !has_results_in_form(range) {
+            return false;
+        }
+    }
+    true
 }
 
 fn have_lists_in_form(alloc: Global, set: &NsSet<'_>) -> Result<bool, AllocError>

@@ -138,7 +138,7 @@ fn in_order<'a>(mut written: Vec<WrittenKey<'a>>) -> Vec<WrittenKey<'a>>
     ensures moved { IsPermutation written.entry.items result.items }
     ensures sorted { IsSortedByKey (λ w. w.key) key_cmp result.items }
 {
-    written.sort_unstable_by_key(|write| write.key.again());
+    written.sort_unstable_by_key(|write| write.key.reborrow());
     written
 }
 

@@ -31,7 +31,8 @@ impl<'a> Model for InForm<'a> {
 }
 
 impl<'a> InForm<'a> {
-    /// The transaction, where its sets are in form and its chaincodes defined, else the flag that it gets.
+    /// The transaction, where its sets are in form and its chaincodes defined, else the flag that it gets. The outer `Err` comes
+    /// only where memory is refused.
     ///
     /// Each policy that it writes is read once. Each list takes n log n comparisons of keys, n where it is in their order,
     /// and each namespace with writes a look-up. Memory for the keys that it writes and for their policies, and in passing
@@ -52,13 +53,14 @@ impl<'a> InForm<'a> {
         Ok(Ok(InForm { tx, written }))
     }
 
+    /// The transaction.
     pub fn tx(&self) -> &Tx<'a>
         ensures { result.now ≡ self.now }
     {
         &self.tx
     }
 
-    /// The same transaction, open with its signers.
+    /// The transaction, open with its signers and what it writes. Takes no memory.
     pub fn with_signers(self, signers: Signers<'a>) -> OpenTx<'a>
         ensures tx { result.tx ≡ self.entry }
         ensures signers { result.signers ≡ signers.entry }

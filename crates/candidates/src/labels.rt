@@ -8,8 +8,8 @@ ghost use Rattle.values.specs.Order.{bytes_cmp};
 ghost use Rattle.rules.specs.ReadWriteSets.{are_distinct};
 ghost use Rattle.candidates.specs.Rising.{are_rising};
 
-use block_steps::Labelled;
 use std::alloc::{AllocError, Global};
+use transaction::Labelled;
 
 /// The most items that are compared pair by pair.
 const FEW: usize = 16;
@@ -37,7 +37,7 @@ pub(crate) fn are_rising<T: Labelled>(items: &[T]) -> bool
     true
 }
 
-/// Whether one of the items has the label.
+/// Whether one of the items has the label. Linear in their number.
 pub fn is_among<T: Labelled>(label: &[u8], items: &[T]) -> bool
     ensures { result ≡ list_any (bytes_eq label.now) (map T.label items.now) }
 {

@@ -5,7 +5,7 @@ use values::Slice;
 
 /// Where a namespace, a key in it and the key's value may stand in other bytes. No clause speaks of these places: who goes to one
 /// compares the bytes that it finds there.
-#[derive(Clone, Copy, Debug)]
+#[derive(Clone, Copy)]
 pub struct Spots {
     pub namespace: usize,
     pub key: usize,
@@ -32,11 +32,12 @@ impl<'a> WrittenValue<'a> {
         ensures { result ≡ bytes.now }
     {
         WrittenValue {
-            bytes: bytes.again(),
+            bytes: bytes.reborrow(),
             spots,
         }
     }
 
+    /// The value's bytes.
     pub fn as_slice(&self) -> &'a [u8]
         ensures { result.now ≡ self.now }
     {

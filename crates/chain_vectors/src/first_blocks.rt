@@ -2,6 +2,7 @@
 
 use super::Committed;
 
+/// The first 16 of the chain's 32 blocks, in order.
 pub fn first_blocks() -> &'static [Committed] {
     &FIRST_BLOCKS
 }

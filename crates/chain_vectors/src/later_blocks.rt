@@ -2,6 +2,7 @@
 
 use super::Committed;
 
+/// The last 16 of the chain's 32 blocks, in order.
 pub fn later_blocks() -> &'static [Committed] {
     &LATER_BLOCKS
 }

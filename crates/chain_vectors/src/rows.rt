@@ -2,6 +2,7 @@
 
 use super::{Left, LeftRow};
 
+/// What is left at each key that the blocks write, and at `j` of `cc` and `x` of `zz`, in their order.
 pub fn rows() -> &'static [Left] {
     &ROWS
 }

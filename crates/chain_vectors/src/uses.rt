@@ -1,6 +1,6 @@
 //! Where the chain uses each id first, made by vectors/make.py.
 
-/// The id's 64 bytes, then the block, the place and the number of the flag, a byte each.
+/// The first use of each id: its 64 bytes, then block, place and the number of the flag, a byte each.
 pub fn uses() -> &'static [[u8; 67]] {
     USES.as_chunks().0
 }

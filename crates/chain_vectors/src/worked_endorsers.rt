@@ -2,6 +2,7 @@
 
 use super::{Left, LeftRow, Scripted, WorkedChain};
 
+/// Chains about policy writes, endorsers, faults and ids, each of which shows one thing.
 pub fn worked_endorsers() -> &'static [WorkedChain] {
     &WORKED_ENDORSERS
 }

@@ -2,6 +2,7 @@
 
 use super::{Left, LeftRow, Scripted, WorkedChain};
 
+/// Chains about ranges, each of which shows one thing.
 pub fn worked_ranges() -> &'static [WorkedChain] {
     &WORKED_RANGES
 }

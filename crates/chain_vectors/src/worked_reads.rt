@@ -2,6 +2,7 @@
 
 use super::{Left, LeftRow, Scripted, WorkedChain};
 
+/// Chains about reads and policies of keys, each of which shows one thing.
 pub fn worked_reads() -> &'static [WorkedChain] {
     &WORKED_READS
 }

@@ -9,8 +9,8 @@ use std::alloc::Global;
 use std::marker::Model;
 use values::Name;
 
-/// What a channel text configures, and the policies of its chaincodes once more: those in the configuration stay, and the
-/// others may be updated. A contract sees the configuration.
+/// What a channel text configures, and the policies of its chaincodes once more: those in the configuration stay, and
+/// the others may be updated. A contract sees the configuration.
 #[derive(Drop)]
 pub struct Channel {
     configuration: Configuration,
@@ -57,8 +57,8 @@ impl Channel {
         })
     }
 
-    /// Reads a channel text: one line `channel NAME`, up to 256 lines `chaincode NAME POLICY` whose names differ, and at
-    /// most one line `admin POLICY`, in any order.
+    /// Reads a channel text: one line `channel NAME`, up to 256 lines `chaincode NAME POLICY` whose names differ, and
+    /// at most one line `admin POLICY`, in any order.
     ///
     /// Lines end with `\n`, which the last may lack; a `\r` before it is dropped, and so are spaces
     /// (0x20) at both ends. An empty line, and one that begins with `#`, says nothing. The parts of
@@ -77,12 +77,14 @@ impl Channel {
         Channel::from_lines(read_lines(alloc, text)?)
     }
 
+    /// The channel's name.
     pub fn name(&self) -> &Name
         ensures { result.now ≡ self.now.name }
     {
         self.configuration.name()
     }
 
+    /// What the text configures.
     pub fn configuration(&self) -> &Configuration
         ensures { result.now ≡ self.now }
     {

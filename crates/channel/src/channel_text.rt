@@ -102,8 +102,8 @@ fn set_in_both(
     other.set(&chaincode, copied)
 }
 
-// What the lines so far say, with the definitions once more. A line takes it by value: where memory runs out between the two
-// maps they differ, and then nothing is left of it.
+// What the lines so far say, with the definitions once more. A line takes it by value: where memory runs out between
+// the two maps they differ, and then nothing is left of it.
 #[derive(Drop)]
 pub(crate) struct SoFar {
     pub(crate) name: Option<Name>,

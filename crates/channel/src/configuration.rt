@@ -6,8 +6,8 @@ use policy::{Definitions, Policy};
 use std::marker::Model;
 use values::Name;
 
-/// What a channel text configures: the channel's name, the policies of its chaincodes, and whose signatures an update of
-/// one of these needs.
+/// What a channel text configures: the channel's name, the policies of its chaincodes, and whose signatures an update
+/// of one of these needs.
 #[derive(Drop)]
 pub struct Configuration {
     pub(crate) name: Name,
@@ -31,6 +31,7 @@ impl Model for Configuration {
 }
 
 impl Configuration {
+    /// The channel's name.
     pub fn name(&self) -> &Name
         ensures { result.now ≡ self.now.name }
     {

@@ -1,4 +1,5 @@
-//! Channel texts: the channel's name, the policies of its chaincodes, and whose signatures an update of one of them needs.
+//! Channel texts: the channel's name, the policies of its chaincodes, and whose signatures an update of one of them
+//! needs.
 #![tactic(auto)]
 
 mod channel;

@@ -5,7 +5,7 @@ ghost use Rattle.check_workers.specs.Words.{fresh};
 
 use crate::gathering::gather;
 use crate::lent::Lent;
-use crate::rule::{Place, Words};
+use crate::rule::{Steps, TableSeat, Words};
 use crate::seat::VerdictSeat;
 use crate::turns::Turns;
 use crate::workers::run;
@@ -13,6 +13,7 @@ use gates::Gate;
 use key_chains::Job;
 use rules::Flag;
 use std::alloc::{AllocError, Global};
+use std::marker::Brand;
 use std::sync::Wait;
 use std::thread::Threads;
 
@@ -32,7 +33,7 @@ fn zero_words(alloc: Global, count: usize) -> Result<Vec<u64>, AllocError>
 }
 
 /// The words of a job, all unknown, and the first seat.
-fn open<'a>(alloc: Global, lent: &Lent<'a>) -> Result<(Words<'a>, Place), AllocError>
+fn open<'a>(alloc: Global, lent: &Lent<'a>) -> Result<(Words<'a>, TableSeat), AllocError>
     ensures key { IfOk result (λ t. t.0.shared.key ≡ lent.now) }
     ensures words { IfOk result (λ t. t.0.shared.table_id.words ≡ 2 * length lent.now.candidates) }
     ensures table { IfOk result (λ t. t.1.table_id ≡ t.0.shared.table_id) }
@@ -40,6 +41,25 @@ fn open<'a>(alloc: Global, lent: &Lent<'a>) -> Result<(Words<'a>, Place), AllocE
 {
     let zeros = zero_words(alloc, 2 * lent.job().len() as usize)?;
     Words::of_words(alloc, zeros.as_slice(), lent)
+}
+
+/// Runs so many workers over the words of a job, until nothing is left for them.
+fn find_by_workers<R: Threads + Wait + Sync, G: Gate + Sync>(
+    rt: &R,
+    alloc: Global,
+    lent: &Lent<'_>,
+    steps: &Steps<'_>,
+    workers: usize,
+    gate: &G,
+) -> Result<(), AllocError>
+    requires job { steps.now.key ≡ lent.now }
+    requires words { steps.now.table_id.words ≡ 2 * length lent.now.candidates }
+    requires some { 0 < length lent.now.candidates }
+    requires workers { workers ≤ max_workers }
+{
+    let turns = Turns::new(alloc, lent.job().len(), workers)?;
+    run::<Brand, R, G>(rt, alloc, lent, steps, &turns, gate);
+    Ok(())
 }
 
 /// Those of a job that has some.
@@ -55,13 +75,17 @@ fn check_some<'j, R: Threads + Wait + Sync, G: Gate + Sync>(
     ensures { IfOk result (λ c. c.flags.items ≡ fold.flags job.now) }
 {
     let lent = Lent::new(job);
-    let (words, place) = open(alloc, &lent)?;
-    let count = job.len();
-    let workers = workers.min(count as usize);
-    let turns = Turns::new(alloc, count, workers as u32)?;
+    let (words, own) = open(alloc, &lent)?;
     let steps = &words.shared;
-    run(rt, alloc, &lent, steps, &turns, workers, gate);
-    let mut seat = VerdictSeat::first(steps, place);
+    find_by_workers(
+        rt,
+        alloc,
+        &lent,
+        steps,
+        workers.min(job.len() as usize),
+        gate,
+    )?;
+    let mut seat = VerdictSeat::first(steps, own);
     gather(alloc, job, &mut seat)
 }
 

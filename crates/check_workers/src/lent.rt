@@ -21,12 +21,14 @@ impl<'j> Model for Lent<'j> {
 }
 
 impl<'j> Lent<'j> {
+    /// Lends a job.
     pub fn new(job: &'j Job<'j, 'j>) -> Lent<'j>
         ensures { result ≡ job.entry.now }
     {
         Lent { inner: job }
     }
 
+    /// The job.
     pub fn job(&self) -> &'j Job<'j, 'j>
         ensures { result.now ≡ self.now }
     {

@@ -17,6 +17,7 @@ mod view;
 mod workers;
 
 pub use checking::{Checked, check_all};
+pub use gates::{Gate, Open, Phase, Reverse};
 pub use laws::words_show_a_sound_board;
 pub use seat::VerdictSeat;
 pub use view::View;

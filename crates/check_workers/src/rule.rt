@@ -37,4 +37,5 @@ pub(crate) type Words<'a> = Table<u8, View, Lent<'a>, IsFound, Global>;
 
 pub(crate) type Steps<'a> = Shared<u8, View, Lent<'a>, IsFound>;
 
-pub(crate) type Place = Seat<u8, View>;
+/// A seat at a table of words, apart from the table.
+pub(crate) type TableSeat = Seat<u8, View>;

@@ -11,10 +11,11 @@ ghost use Rattle.check_workers.specs.Board.{IsSound, board_in};
 ghost use Rattle.check_workers.specs.Seats.{Moves, Waits};
 
 use crate::cells::{endorsed_in, endorsed_word, flag_in, flag_word};
-use crate::rule::{Begins, Place, Sees, Steps};
+use crate::rule::{Begins, Sees, Steps, TableSeat};
 use key_chains::{Board, Decision, Job};
 use rules::{Flag, ReadVerdict};
 use std::marker::Model;
+use task_desk::Task;
 
 /// A worker's seat at the words of one job. A contract sees what it knows: each verdict that it has read or found.
 ///
@@ -22,7 +23,7 @@ use std::marker::Model;
 #[derive(Drop)]
 pub struct VerdictSeat<'t, 'a> {
     steps: &'t Steps<'a>,
-    place: Place,
+    own: TableSeat,
 }
 
 impl<'t, 'a> Model for VerdictSeat<'t, 'a> {
@@ -36,9 +37,9 @@ impl<'t, 'a> Model for VerdictSeat<'t, 'a> {
 
     ghost coded = { Prim.hlevel (codes, job_code) };
 
-    ghost view = { λ s. s.place.me.0 };
+    ghost view = { λ s. s.own.me.0 };
 
-    ghost invariant = { λ s. (s.place.table_id ≡ s.steps.now.table_id) × Sits s.steps.now.key s.steps.now.table_id.words s.place.me };
+    ghost invariant = { λ s. (s.own.table_id ≡ s.steps.now.table_id) × Sits s.steps.now.key s.steps.now.table_id.words s.own.me };
 }
 
 impl<'t, 'a> VerdictSeat<'t, 'a> {
@@ -48,18 +49,18 @@ impl<'t, 'a> VerdictSeat<'t, 'a> {
         requires words { steps.now.table_id.words ≡ 2 * length steps.now.key.candidates }
         ensures { result.job ≡ steps.now.key }
     {
-        let (_, place) = steps.load_new_seat::<Begins>(0);
-        VerdictSeat { steps, place }
+        let (_, own) = steps.load_new_seat::<Begins>(0);
+        VerdictSeat { steps, own }
     }
 
     /// The first seat, which knows nothing.
-    pub(crate) fn first(steps: &'t Steps<'a>, place: Place) -> VerdictSeat<'t, 'a>
-        requires table { place.table_id ≡ steps.now.table_id }
-        requires fresh { place.me ≡ (fresh steps.now.key, []) }
+    pub(crate) fn first(steps: &'t Steps<'a>, own: TableSeat) -> VerdictSeat<'t, 'a>
+        requires table { own.table_id ≡ steps.now.table_id }
+        requires fresh { own.me ≡ (fresh steps.now.key, []) }
         requires words { steps.now.table_id.words ≡ 2 * length steps.now.key.candidates }
         ensures { result.job ≡ steps.now.key }
     {
-        VerdictSeat { steps, place }
+        VerdictSeat { steps, own }
     }
 
     fn load(&mut self, task: usize) -> u64
@@ -68,7 +69,7 @@ impl<'t, 'a> VerdictSeat<'t, 'a> {
         ensures word { slice_index self.new.known task ≡ result }
         ensures fold { Within self.new.known (verdict_word self.new.job) }
     {
-        self.steps.load::<Sees>(&mut self.place, task)
+        self.steps.load::<Sees>(&mut self.own, task)
     }
 
     /// Stores a verdict that is the fold's, if what the seat knows is the fold's.
@@ -78,11 +79,11 @@ impl<'t, 'a> VerdictSeat<'t, 'a> {
         ensures moves { Moves self.old self.new }
         ensures word { slice_index self.new.known task ≡ word }
     {
-        self.steps.store::<Sees>(&mut self.place, task, word);
+        self.steps.store::<Sees>(&mut self.own, task, word);
     }
 
     /// Whether the verdict of a task is known.
-    pub(crate) fn knows(&mut self, task: u32) -> bool
+    pub(crate) fn knows(&mut self, task: Task) -> bool
         requires { task < 2 * length self.old.job.candidates }
         ensures moves { Moves self.old self.new }
         ensures known { IsTrue result ↔ IsKnown self.new.known task }
@@ -173,7 +174,7 @@ impl<'t, 'a> VerdictSeat<'t, 'a> {
     /// `Blocked` names a smaller task that it waits for, whose verdict this seat doesn't know: the endorsement check of
     /// the same candidate, which is open, or a check of the same kind that this one depends on. What the seat knows then shows a
     /// sound board of the verdict machine. Takes no memory; costs what the check costs.
-    pub fn settle(&mut self, job: &Job<'_, '_>, task: u32) -> Decision<()>
+    pub fn settle(&mut self, job: &Job<'_, '_>, task: Task) -> Decision<()>
         requires job { self.old.job ≡ job.now }
         requires task { task < 2 * length job.now.candidates }
         ensures moves { Moves self.old self.new }

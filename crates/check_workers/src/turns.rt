@@ -1,13 +1,14 @@
 //! Whose turn it is: the desk of tasks, under a lock.
 ghost use Rattle.std.specs.Prelude.{◌≡◌, ◌+◌, ◌*◌, ◌<◌, ◌≤◌, All};
 ghost use Rattle.arrayvec.specs.ArrayVec.{array_vec_len};
+ghost use Rattle.check_workers.specs.Limits.{max_workers};
 
 use crate::deques::{BATCH, Owner, Tasks, push};
 use arrayvec::ArrayVec;
 use key_chains::Decision;
 use std::alloc::{AllocError, Global};
 use std::sync::{Condvar, Mutex, Wait};
-use task_desk::{Desk, Run};
+use task_desk::{Desk, Run, Task};
 
 /// The most tasks that a worker settles between two turns.
 pub(crate) const MOST: usize = 256;
@@ -15,7 +16,7 @@ pub(crate) const MOST: usize = 256;
 /// What a worker has done with a task.
 #[derive(Clone, Copy)]
 pub(crate) struct Settled {
-    pub task: u32,
+    pub task: Task,
     pub decision: Decision<()>,
 }
 
@@ -33,7 +34,14 @@ impl Default for Settled {
 pub(crate) type Settlings = ArrayVec<Settled, MOST>;
 
 /// Tasks that a worker keeps for itself.
-pub(crate) type Kept = ArrayVec<u32, MOST>;
+pub(crate) type Kept = ArrayVec<Task, MOST>;
+
+/// What a worker has in its hands between two turns.
+#[derive(Drop)]
+pub(crate) struct Hands {
+    pub(crate) settled: Settlings,
+    pub(crate) kept: Kept,
+}
 
 /// What a worker does next.
 #[derive(Clone, Copy)]
@@ -118,7 +126,7 @@ impl Waited {
     }
 
     /// Hands the least task that is ready, and takes it out: whoever pops or steals it later works on it with no lock.
-    fn hand(&mut self) -> Option<u32> {
+    fn hand(&mut self) -> Option<Task> {
         let Some(task) = self.desk.hand() else {
             return None;
         };
@@ -169,25 +177,34 @@ impl Waited {
 /// The desk as workers share it.
 #[derive(Drop)]
 pub(crate) struct Turns {
+    workers: usize,
     waited: Mutex<Waited>,
     woken: Condvar,
 }
 
 impl Turns {
-    pub fn new(alloc: Global, n: u32, workers: u32) -> Result<Turns, AllocError>
-        requires { n ≤ 4096 }
+    /// The desk of a job of n candidates, all tasks ready, for so many workers.
+    pub fn new(alloc: Global, n: u32, workers: usize) -> Result<Turns, AllocError>
+        requires n { n ≤ 4096 }
+        requires workers { workers ≤ max_workers }
     {
         let desk = Desk::new(alloc, n)?;
         Ok(Turns {
+            workers,
             waited: Mutex::new(Waited {
                 desk,
-                workers,
+                workers: workers as u32,
                 batches: 0,
                 has_sleepers: false,
                 was_blocked: false,
             }),
             woken: Condvar::new(),
         })
+    }
+
+    /// How many workers it is for.
+    pub fn workers(&self) -> usize {
+        self.workers
     }
 
     /// One turn of the lock, unless it sleeps: a worker whose deque is empty hands in what it did, and hears what it does
@@ -197,18 +214,17 @@ impl Turns {
         rt: &R,
         own: &mut Owner<J>,
         tasks: u32,
-        settled: &[Settled],
-        kept: &mut Kept,
+        hands: &mut Hands,
         seen: Option<u64>,
     ) -> Turn
         requires { tasks ≡ J.tasks }
-        ensures { All (λ task. task < J.tasks) kept.new.items }
+        ensures { All (λ task. task < J.tasks) hands.new.kept.items }
     {
         let mut waited = self.waited.lock(rt);
-        waited.report(settled);
+        waited.report(hands.settled.as_slice());
         for _ in rt.forever() {
-            waited.fill(own, tasks, kept, &self.woken);
-            if !kept.is_empty() {
+            waited.fill(own, tasks, &mut hands.kept, &self.woken);
+            if !hands.kept.is_empty() {
                 return Turn::Settle;
             }
             if waited.desk.all_done() {

@@ -4,16 +4,16 @@ use crate::deques::{Owner, Tasks, Thief, deques, pop, steal};
 use crate::lent::Lent;
 use crate::rule::Steps;
 use crate::seat::VerdictSeat;
-use crate::turns::{Kept, MOST, Settled, Settlings, Turn, Turns};
+use crate::turns::{Hands, Kept, MOST, Settled, Settlings, Turn, Turns};
 use gates::{Gate, Phase};
 use key_chains::Job;
 use std::alloc::Global;
-use std::marker::Brand;
 use std::sync::Wait;
 use std::thread;
 use std::thread::Threads;
+use task_desk::Task;
 
-fn phase_of(task: u32) -> Phase {
+fn phase_of(task: Task) -> Phase {
     if task % 2 == 0 {
         Phase::Endorse
     } else {
@@ -26,7 +26,7 @@ fn settle_one<G: Gate>(
     job: &Job<'_, '_>,
     seat: &mut VerdictSeat<'_, '_>,
     gate: &G,
-    task: u32,
+    task: Task,
 ) -> Settled
     requires job { seat.old.job ≡ job.now }
     requires task { task < 2 * length job.now.candidates }
@@ -86,14 +86,20 @@ fn settle_stolen<J: Tasks, R: Wait, G: Gate>(
     }
 }
 
+/// The ends of deques that one worker holds: its own one's, and those from which it steals.
+#[derive(Drop)]
+struct Ends<'d, J: Tasks> {
+    own: Owner<J>,
+    thieves: &'d [Thief<J>],
+}
+
 /// One worker: settles tasks until nothing is left for it.
 fn work<J: Tasks, R: Wait, G: Gate>(
     rt: &R,
     job: &Job<'_, '_>,
     steps: &Steps<'_>,
     turns: &Turns,
-    own: Owner<J>,
-    thieves: &[Thief<J>],
+    ends: Ends<'_, J>,
     gate: &G,
 )
     requires job { steps.now.key ≡ job.now }
@@ -102,27 +108,29 @@ fn work<J: Tasks, R: Wait, G: Gate>(
     requires tasks { 2 * length job.now.candidates ≡ J.tasks }
 {
     let mut seat = VerdictSeat::enter(steps);
-    let mut own = own;
+    let Ends { mut own, thieves } = ends;
     let tasks = 2 * job.len();
-    let mut kept = Kept::new();
-    let mut settled = Settlings::new();
+    let mut hands = Hands {
+        settled: Settlings::new(),
+        kept: Kept::new(),
+    };
     let mut seen = None;
     for _ in rt.forever() {
-        match turns.next(rt, &mut own, tasks, settled.as_slice(), &mut kept, seen) {
+        match turns.next(rt, &mut own, tasks, &mut hands, seen) {
             Turn::Settle => {
                 settle_own(
                     job,
                     &mut seat,
                     gate,
-                    kept.as_slice(),
+                    hands.kept.as_slice(),
                     &mut own,
-                    &mut settled,
+                    &mut hands.settled,
                 );
                 seen = None;
             }
             Turn::Find(batches) => {
-                settle_stolen(rt, job, &mut seat, gate, thieves, &mut settled);
-                seen = if settled.is_empty() {
+                settle_stolen(rt, job, &mut seat, gate, thieves, &mut hands.settled);
+                seen = if hands.settled.is_empty() {
                     Some(batches)
                 } else {
                     None
@@ -133,14 +141,14 @@ fn work<J: Tasks, R: Wait, G: Gate>(
     }
 }
 
-/// Runs workers whose deques hold tasks of this job, the last one on the calling thread, and waits until they have ended.
-fn run_all<J: Tasks + Send + Sync, R: Threads + Wait + Sync, G: Gate + Sync>(
+/// Runs workers whose deques hold tasks of this job, and waits until they have ended: as many as the desk is for, of whom one is
+/// the calling thread. One that can't be started, or gets no deque, is done without.
+pub(crate) fn run<J: Tasks + Send + Sync, R: Threads + Wait + Sync, G: Gate + Sync>(
     rt: &R,
     alloc: Global,
     lent: &Lent<'_>,
     steps: &Steps<'_>,
     turns: &Turns,
-    workers: usize,
     gate: &G,
 )
     requires job { steps.now.key ≡ lent.now }
@@ -148,7 +156,7 @@ fn run_all<J: Tasks + Send + Sync, R: Threads + Wait + Sync, G: Gate + Sync>(
     requires some { 0 < length lent.now.candidates }
     requires tasks { 2 * length lent.now.candidates ≡ J.tasks }
 {
-    let (mut owners, thieves) = deques::<J>(alloc, workers);
+    let (mut owners, thieves) = deques::<J>(alloc, turns.workers());
     let thieves = thieves.as_slice();
     let last = owners.pop();
     thread::scope(
@@ -160,32 +168,14 @@ fn run_all<J: Tasks + Send + Sync, R: Threads + Wait + Sync, G: Gate + Sync>(
             for own in owners {
                 let worker = move ||
                     requires { (steps.now.key ≡ lent.now) × (steps.now.table_id.words ≡ 2 * length lent.now.candidates) × (0 < length lent.now.candidates) × (2 * length lent.now.candidates ≡ J.tasks) }
-                { work(rt, lent.job(), steps, turns, own, thieves, gate) };
+                { work(rt, lent.job(), steps, turns, Ends { own, thieves }, gate) };
                 if scope.spawn(worker).is_err() {
                     break;
                 }
             }
             if let Some(own) = last {
-                work(rt, lent.job(), steps, turns, own, thieves, gate);
+                work(rt, lent.job(), steps, turns, Ends { own, thieves }, gate);
             }
         },
     );
-}
-
-/// Runs so many workers, one of them on the calling thread, and waits until they have ended. One that can't be started, or gets
-/// no deque, is done without.
-pub(crate) fn run<R: Threads + Wait + Sync, G: Gate + Sync>(
-    rt: &R,
-    alloc: Global,
-    lent: &Lent<'_>,
-    steps: &Steps<'_>,
-    turns: &Turns,
-    workers: usize,
-    gate: &G,
-)
-    requires job { steps.now.key ≡ lent.now }
-    requires words { steps.now.table_id.words ≡ 2 * length lent.now.candidates }
-    requires some { 0 < length lent.now.candidates }
-{
-    run_all::<Brand, R, G>(rt, alloc, lent, steps, turns, workers, gate);
 }

@@ -4,7 +4,7 @@ use Rattle.std.specs.List.{All}
 use Rattle.std.specs.Io.KnownBytes.{Appends}
 use Rattle.std.proofs.lemmas.List.{append-nil, length-append}
 use Rattle.std.proofs.lemmas.List.Elements.{All-head, All-tail}
-use Rattle.answer_lines.proofs.Written.{nothing, then, then_whole}
+use Rattle.cli_lines.proofs.Written.{nothing, then, then_whole}
 use Rattle.policy_eval.specs.Accepts.{Accepts}
 use Rattle.logbook.specs.Pages.{Book}
 use Rattle.query.specs.declared.receipt.Receipt.{Receipt}

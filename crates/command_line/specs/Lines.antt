@@ -3,8 +3,8 @@ use Rattle.std.specs.Prelude.{ℕ, suc, Bool, if◌then◌else◌, List, [], ◌
 use Rattle.query.specs.declared.receipt.Receipt.{Receipt}
 use Rattle.commit.specs.declared.not_committed.NotCommitted.{NotCommitted}
 use Rattle.commit.specs.declared.not_committed.NotCommitted.TheVariants.{Refused, MemoryInCommit, Stopped}
-use Rattle.answer_lines.specs.declared.refusal.Refusal.{Refusal}
-use Rattle.answer_lines.specs.BlockLines.{accepted_line, commit_line, refused_line, refusal_of}
+use Rattle.cli_lines.specs.declared.refusal.Refusal.{Refusal}
+use Rattle.cli_lines.specs.BlockLines.{accepted_line, commit_line, refused_line, refusal_of}
 
 -- want of memory is no refusal, and only for that a committer stops
 abbrev pub refusal_in : NotCommitted → Option Refusal

@@ -7,10 +7,11 @@ ghost use Rattle.command_line.specs.Handing.{AreHandedIn, last_receipt};
 ghost use Rattle.command_line.specs.Lines.{lines_behind};
 
 use crate::lines::write_answer;
+use command_files::{ACCEPTED, Fault};
 use commit::{Committer, NotCommitted, Receipt};
 use gates::Open;
 use key_book::KeyBook;
-use ledger_commands::{ACCEPTED, Fault, Progress};
+use ledger_commands::Progress;
 use std::alloc::{AllocError, Global};
 use std::io::Write;
 use std::sync::Wait;

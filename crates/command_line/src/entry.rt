@@ -1,7 +1,8 @@
 use crate::performing::perform;
 use clap::error::ErrorKind;
-use command_words::{Asked, not_text};
-use ledger_commands::{ACCEPTED, Fault, Files, Progress, USAGE};
+use cli_words::{Asked, not_text};
+use command_files::{ACCEPTED, Fault, Files, USAGE};
+use ledger_commands::Progress;
 use std::alloc::Global;
 use std::convert::AsStr;
 use std::io;
@@ -38,15 +39,17 @@ fn status_of<E: Write>(ended: Result<u8, Fault<'_>>, err: &mut E) -> u8 {
     }
 }
 
-/// The program `fabcommit` on these words, of which the first is its own name. Returns what the
-/// process is to end with: 0 where every block was accepted or one was drafted and for help, 1 where a
-/// block was refused, 2 where the words are no command, 3 where a file or `out` is at fault, and 4
+/// The program `fabcommit` on these words, of which the first is its own name. Returns what the process is to end with:
+/// 0 where every block was accepted or one was drafted and for help; 1 where a block was refused; 2 where the words are
+/// no command, one is a bad word, or the transaction to explain isn't there; 3 where a file or `out` is at fault; 4
 /// where memory ran out.
 ///
-/// The words are read first, then all files, and then the blocks are handed in one by one, or one is
-/// drafted. Lines and help go to `out`, and a fault's line to `err`, where a write that fails changes
-/// nothing. `progress` is told how many blocks are in, unless the words ask for silence. The memory is the files' bytes, what the ledger or the committer keeps, what one block takes,
-/// and a buffer of a fixed size. `run` alone has threads, which have ended when this returns.
+/// The words are read first, then all files. Then the blocks are handed in, up to 16 at once by `run` and else one by
+/// one; or they are shown, or one is drafted. Lines and help go to `out`, and a fault's line to `err`, where a write
+/// that fails changes nothing. `progress` is told how many blocks are in, unless the words ask for silence.
+///
+/// The memory is the files' bytes, what the ledger or the committer keeps, what one block takes (with `run` two), and a
+/// buffer of a fixed size. `run` alone has threads, which have ended when this returns.
 pub fn program<R, S, F, O, E, P>(
     rt: &R,
     words: &[S],
@@ -82,7 +85,8 @@ fn tell_not_text<'a, O: Write, E: Write>(
     tell(&not_text(alloc)?, out, err)
 }
 
-/// The program where the process's words can't be had: they aren't all UTF-8, or memory ran out.
+/// The program where the process's words can't be had. Writes to `err` that they aren't all UTF-8, or that memory ran
+/// out, and returns 2 or 4.
 pub fn without_words<R: AllocGlobal, O: Write, E: Write>(
     rt: &R,
     error: &io::Error,

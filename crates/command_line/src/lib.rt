@@ -1,5 +1,5 @@
-//! The program `fabcommit`: drafts blocks of a Fabric channel and shows them as scripts, takes blocks and says of each what a
-//! committing peer makes of it, and why, and answers what the ledger behind them holds.
+//! The program `fabcommit`: drafts blocks of a Fabric channel and shows them as scripts, takes blocks and says of each
+//! what a committing peer makes of it, and why, and answers what the ledger behind them holds.
 #![tactic(auto)]
 
 mod committing;
@@ -9,7 +9,8 @@ mod performing;
 mod readers;
 mod run;
 
-pub use answer_lines::printed_values_are_read_back;
+pub use cli_values::printed_values_are_read_back;
+pub use command_files::{DiskFiles, Fault, FileFault, Files};
 pub use entry::{program, without_words};
-pub use ledger_commands::{DiskFiles, Fault, FileFault, Files, Progress, ProgressLine, Silent};
+pub use ledger_commands::{Progress, ProgressLine, Silent};
 pub use lines::write_answer;

@@ -7,9 +7,9 @@ ghost use Rattle.commit.specs.declared.not_committed.NotCommitted.TheVariants as
 ghost use Rattle.rules.specs.declared.answer.Refused.TheVariants as refused_as;
 ghost use Rattle.command_line.specs.Lines as spec;
 
-use answer_lines::{Refusal, write_accepted, write_commit, write_refused};
+use cli_lines::{Refusal, write_accepted, write_commit, write_refused};
+use command_files::{ACCEPTED, Fault, REFUSED};
 use commit::{NotCommitted, Receipt};
-use ledger_commands::{ACCEPTED, Fault, REFUSED};
 use std::alloc::{AllocError, Global};
 use std::io::Write;
 
@@ -39,9 +39,9 @@ fn write_receipt<'a, W: Write>(
     Ok(())
 }
 
-/// Writes the lines for the answer to the block at this place, from 1: `accepted NUMBER HASH` and the flags, with `commit NUMBER HASH`
-/// behind it where hashes are asked for; or `refused PLACE FAULT`. Returns what the process ends with where the other blocks are
-/// accepted. Want of memory is a fault and has no line. Takes no memory.
+/// Writes the lines for the answer to the block at this place, from 1: `accepted NUMBER HASH` and the flags, with
+/// `commit NUMBER HASH` behind it where hashes are asked for; or `refused PLACE FAULT`. Returns what the process ends
+/// with where the other blocks are accepted. Want of memory is a fault and has no line. Takes no memory.
 pub fn write_answer<'a, W: Write>(
     out: &mut W,
     place: usize,

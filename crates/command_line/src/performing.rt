@@ -1,8 +1,9 @@
 use crate::run::run_blocks;
-use command_words::Asked;
+use cli_words::Asked;
+use command_files::{Fault, Files};
 use ledger_commands::{
-    Fault, Files, Progress, draft_block, print_definition, print_history, print_reasons, print_row,
-    print_rows, print_scripts,
+    Progress, draft_block, print_definition, print_history, print_reasons, print_row, print_rows,
+    print_scripts,
 };
 use std::io::Write;
 use std::sync::Wait;

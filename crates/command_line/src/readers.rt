@@ -1,8 +1,8 @@
 //! Readers: threads that query while blocks are handed in.
 ghost use Rattle.std.specs.Prelude.{◌≡◌, All, IfOk, IfSome};
 
+use command_files::Fault;
 use commit::{Committer, QueryFault, QueryHandle, Receipt};
-use ledger_commands::Fault;
 use std::alloc::{AllocError, Global};
 use std::io::Write;
 use std::snapshot::Snapshot;
@@ -73,6 +73,13 @@ fn height_behind(mut handle: QueryHandle, last: &Option<Receipt>) -> Result<u64,
     Ok(handle.height()?.answer)
 }
 
+// What a reader, whose thread has ended, then finds. A query of a committer that isn't closed wants nothing but memory.
+fn height_of<R: Threads>(rt: &R, reader: Reader, last: &Option<Receipt>) -> Result<u64, QueryFault>
+    requires { IfSome last.now (λ receipt. reader.promise.0.value.book ≡ receipt.front.book) }
+{
+    height_behind(reader.join(rt)?, last)
+}
+
 /// Tells the readers, whose threads have ended, of the last block, and writes for each a line with the
 /// height that it then finds: `reader J height H`, J from 1. Takes no memory.
 pub(crate) fn write_heights<'a, R: Threads, W: Write>(
@@ -86,7 +93,7 @@ pub(crate) fn write_heights<'a, R: Threads, W: Write>(
     let mut place = 0u64;
     for reader in readers {
         place = place.wrapping_add(1);
-        let height = height_behind(reader.join(rt)?, last)?;
+        let height = height_of(rt, reader, last).map_err(|_| Fault::Memory)?;
         writeln!(out, "reader {place} height {height}")?;
     }
     Ok(())

@@ -91,30 +91,18 @@ fn scenes() -> &'static [Scene<'static>] {
 }
 
 static SCENES: [Scene; 5] = [
-    // one block and the same again
+    // one block and the same again, with commit hashes
     (
         &[("c", CHANNEL), ("k", KEYS), ("b0", FIRST_BLOCK)],
-        &[
-            ("run --channel c --keys k b0", 0, ACCEPTED_0, ""),
-            (
-                "run --channel c --keys k b0 b0",
-                1,
-                "accepted 0 9cae6f5c10756febc407bba95fc23853774c1f65f10354895bfdab6443d66ed3
-refused 2 C2 want 1 got 0
-",
-                "",
-            ),
-            // with commit hashes
-            (
-                "run --channel c --keys k --hashes b0 b0",
-                1,
-                "accepted 0 9cae6f5c10756febc407bba95fc23853774c1f65f10354895bfdab6443d66ed3
+        &[(
+            "run --channel c --keys k --hashes b0 b0",
+            1,
+            "accepted 0 9cae6f5c10756febc407bba95fc23853774c1f65f10354895bfdab6443d66ed3
 commit 0 3b4cddf9527680763e1b6c8d248d0adf0f71c02b769a5ef7baebcedf887237ae
 refused 2 C2 want 1 got 0
 ",
-                "",
-            ),
-        ],
+            "",
+        )],
     ),
     // a chain and what does not continue it
     (
@@ -217,6 +205,33 @@ commit 0 cf5d05deea35f321ab2fd782421335dbf32fdd901039176ac2944050998f9fd7
 #[test]
 fn lines_of_blocks(rt: HostRuntime) -> Result<(), AllocError> {
     let unlike = unlike_of(&rt, scenes())?;
+    assert!(rt; unlike.is_none(), "{unlike:?}");
+    Ok(())
+}
+
+// The empty block 0 once, and twice.
+fn first_runs() -> &'static [Scene<'static>] {
+    &FIRST_RUNS
+}
+
+static FIRST_RUNS: [Scene; 1] = [(
+    &[("c", CHANNEL), ("k", KEYS), ("b0", FIRST_BLOCK)],
+    &[
+        ("run --channel c --keys k b0", 0, ACCEPTED_0, ""),
+        (
+            "run --channel c --keys k b0 b0",
+            1,
+            "accepted 0 9cae6f5c10756febc407bba95fc23853774c1f65f10354895bfdab6443d66ed3
+refused 2 C2 want 1 got 0
+",
+            "",
+        ),
+    ],
+)];
+
+#[test]
+fn first_run(rt: HostRuntime) -> Result<(), AllocError> {
+    let unlike = unlike_of(&rt, first_runs())?;
     assert!(rt; unlike.is_none(), "{unlike:?}");
     Ok(())
 }

@@ -1,10 +1,10 @@
 //! The files of the system.
 
 use command_line::{DiskFiles, FileFault, Files};
-use failing::Failed;
 use std::io::ErrorKind;
 use std::path::PathBuf;
 use std::{env, fs, io, process};
+use test_support::Failed;
 
 /// The path of a file of this process.
 pub(crate) fn place(rt: &HostRuntime, name: &str) -> Result<PathBuf, Failed> {

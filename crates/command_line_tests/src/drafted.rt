@@ -72,7 +72,7 @@ fn scripts_become_blocks(rt: HostRuntime) -> Result<(), AllocError> {
     Ok(())
 }
 
-// The same bytes with the magic of version 2.
+// The block with the magic of version 2.
 fn of_version_2(alloc: Global, block: &[u8]) -> Result<Vec<u8>, AllocError> {
     let mut bytes = Vec::from_slice(alloc, block)?;
     if let Some(byte) = bytes.get_mut(3) {

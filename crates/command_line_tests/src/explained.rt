@@ -7,12 +7,12 @@ use crate::files::{File, MemoryFiles};
 use crate::fixture::{CHANNEL, End, Row, answered, unlike};
 use crate::signatures::keys;
 use command_line::{FileFault, Files};
-use failing::Failed;
 use std::alloc::{AllocError, Global};
 use std::cell::Cell;
 use std::str::from_utf8;
 use std::sync::Wait;
 use std::thread::Threads;
+use test_support::Failed;
 use values::Bytes;
 
 mod each_word;
@@ -231,7 +231,7 @@ pub(crate) fn of_script<'a>(channel: &'a [u8], keys: &'a [u8], script: &'a [u8])
     [("c", channel), ("k", keys), ("s", script)]
 }
 
-// The same, behind a block.
+// These files, and the block behind which the script is.
 fn of_script_behind<'a>(keys: &'a [u8], script: &'a [u8], block: &'a [u8]) -> [File<'a>; 4] {
     [("c", CHANNEL), ("k", keys), ("s", script), ("b0", block)]
 }

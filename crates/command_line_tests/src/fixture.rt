@@ -99,7 +99,7 @@ pub(crate) fn unlike<'a, F: Files>(
     Ok(None)
 }
 
-/// The same of all rows of these scenes.
+/// The words of the first row of these scenes whose run ends otherwise.
 pub(crate) fn unlike_of(
     rt: &(impl AllocGlobal + Threads + Wait + Sync),
     scenes: &'static [Scene<'static>],

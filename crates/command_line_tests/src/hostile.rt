@@ -321,7 +321,7 @@ fn is_cut(
         && Some(out.taken.as_slice()) == lines.as_bytes().get(..room)
 }
 
-// The same of each room of less than eight bytes.
+// Whether a run is cut off so at each room of less than eight bytes.
 fn are_cut(rt: &(impl AllocGlobal + Threads + Wait + Sync), words: &[&str], lines: &str) -> bool {
     for room in 0..8 {
         if !is_cut(rt, words, lines, room) {

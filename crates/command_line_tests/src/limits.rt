@@ -4,11 +4,11 @@ use crate::disk::place;
 use crate::fixture::{CHANNEL, End, KEYS, ended, is_said, long_text};
 use crate::large::{block_of_empty, block_of_one};
 use command_line::{DiskFiles, FileFault, Files};
-use failing::Failed;
 use std::alloc::{AllocError, Global};
 use std::fs;
 use std::sync::Wait;
 use std::thread::Threads;
+use test_support::Failed;
 
 enum Large {
     /// One transaction of so many bytes.

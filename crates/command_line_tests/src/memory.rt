@@ -9,11 +9,11 @@ use crate::files::{File, MemoryFiles, OneOut};
 use crate::fixture::{CHANNEL, End, Row, answered, is_said};
 use crate::signatures::keys;
 use command_line::Files;
-use failing::{Failed, Outcome, begins};
 use std::alloc::AllocError;
 use std::cell::Cell;
 use std::sync::Wait;
 use std::thread::Threads;
+use test_support::{Failed, Outcome, begins};
 
 /// How much of its lines a run says.
 #[derive(Clone, Copy, PartialEq, Eq)]

@@ -4,11 +4,11 @@ use Rattle.std.proofs.lemmas.List.{take-map, drop-map, length-map}
 use Rattle.std.proofs.Math.Seq.{take-append_seam, drop-append_seam}
 use Rattle.channel.specs.Configuration.{Configuration}
 use Rattle.block.specs.declared.block.Block.{Block}
-use Rattle.block_steps.specs.OnItsWay.{IsDecoded}
+use Rattle.linking.specs.OnItsWay.{IsDecoded}
 use Rattle.intake.specs.declared.taking.Taken.{Taken}
 use Rattle.intake.specs.Place.{taken_of, shown}
 use Rattle.intake_workers.specs.declared.handed.Handed.{Handed}
-use Rattle.intake_workers.specs.declared.hashed.Hashed.{Hashed}
+use Rattle.intake_workers.specs.declared.with_data_hash.WithDataHash.{WithDataHash}
 use Rattle.intake_workers.specs.Made.{block_in}
 use Rattle.intake_workers.specs.Pieces.{txs_in, items_in, items_of_all}
 use Rattle.policy_eval.specs.Accepts.{Accepts}
@@ -51,7 +51,7 @@ module _ (channel : Configuration) (accepts : Accepts) where
   none_waits [] taken = tt
   none_waits (bytes ∷ blocks) taken = tt
 
-  pub all_wait : (blocks : List (List ℕ)) (handed : List Handed) (waiting : List (Result Hashed Refused)) (taken : List Taken)
+  pub all_wait : (blocks : List (List ℕ)) (handed : List Handed) (waiting : List (Result WithDataHash Refused)) (taken : List Taken)
       → AreHanded blocks handed
       → map block_in waiting ≡ map (λ (h : Handed). h.block) handed
       → map shown taken ≡ map (taken_of channel accepts) (items_of_all handed)
@@ -74,9 +74,9 @@ module _ (channel : Configuration) (accepts : Accepts) where
       )
 
 -- what waits first
-pub taken_out : (channel : Configuration) (accepts : Accepts) (bytes : List ℕ) (blocks : List (List ℕ)) (r : Result Hashed Refused) (waiting waiting' : List (Result Hashed Refused)) (taken : List Taken)
+pub taken_out : (channel : Configuration) (accepts : Accepts) (bytes : List ℕ) (blocks : List (List ℕ)) (r : Result WithDataHash Refused) (waiting waiting' : List (Result WithDataHash Refused)) (taken : List Taken)
     → waiting' ≡ r ∷ waiting → Waits channel accepts (bytes ∷ blocks) waiting' taken → Waits channel accepts (bytes ∷ blocks) (r ∷ waiting) taken
-taken_out channel accepts bytes blocks r waiting waiting' taken first waits = subst (λ (rs : List (Result Hashed Refused)). Waits channel accepts (bytes ∷ blocks) rs taken) first waits
+taken_out channel accepts bytes blocks r waiting waiting' taken first waits = subst (λ (rs : List (Result WithDataHash Refused)). Waits channel accepts (bytes ∷ blocks) rs taken) first waits
 
 -- one string more is handed in
 pub handed-push : (blocks : List (List ℕ)) (handed : List Handed) (bytes : List ℕ) (h : Handed) → AreHanded blocks handed → IsDecoded bytes h.block → AreHanded (blocks ++ bytes ∷ []) (handed ++ h ∷ [])
@@ -90,7 +90,7 @@ handed-push (b ∷ blocks) [] bytes h are is = absurd are
 module _ (channel : Configuration) (accepts : Accepts) where
   pub none_waiting : (blocks : List (List ℕ)) (waiting : Waiting) → into_iter_items waiting.blocks ≡ [] → AreWaiting channel accepts blocks waiting
   none_waiting blocks waiting none =
-      subst (λ (rs : List (Result Hashed Refused)). Waits channel accepts blocks rs (all_taken (into_iter_items waiting.lists))) (sym none) (none_waits channel accepts blocks _)
+      subst (λ (rs : List (Result WithDataHash Refused)). Waits channel accepts blocks rs (all_taken (into_iter_items waiting.lists))) (sym none) (none_waits channel accepts blocks _)
 
   pub none_prepared : (blocks : List (List ℕ)) (ahead : Ahead) → ahead.first ≡ None → AreWaiting channel accepts blocks ahead.waiting → IsAhead channel accepts blocks ahead
   none_prepared blocks ahead first are = subst (λ (next : Option (Result Prepared Refused)). IsAheadBy channel accepts next blocks ahead.waiting) (sym first) are

@@ -3,15 +3,15 @@ use Rattle.std.specs.Prelude.{◌≡◌, ◌∷◌, [], ℕ, List, map, take, dr
 use Rattle.std.specs.Vec.Iter.{into_iter_items}
 use Rattle.block.specs.declared.block.Block.{Block}
 use Rattle.block.specs.Grammar.{bytes_of}
-use Rattle.block_steps.specs.OnItsWay.{IsDecoded}
+use Rattle.linking.specs.OnItsWay.{IsDecoded}
 use Rattle.channel.specs.Configuration.{Configuration}
 use Rattle.intake.specs.declared.taking.Taken.{Taken}
 use Rattle.intake.specs.Place.{taken_of, shown}
 use Rattle.intake_workers.specs.declared.handed.Handed.{Handed}
-use Rattle.intake_workers.specs.declared.hashed.Hashed.{Hashed}
+use Rattle.intake_workers.specs.declared.with_data_hash.WithDataHash.{WithDataHash}
 use Rattle.intake_workers.specs.Made.{block_in}
 use Rattle.intake_workers.specs.Pieces.{txs_in, items_in, all_taken}
-use Rattle.next_block.specs.Foreseen.{AreForeseenIn}
+use Rattle.next_block.specs.Tentative.{AreTentativeIn}
 use Rattle.next_block.specs.NextDelta.{IsNextDelta}
 use Rattle.next_block.specs.Taken.{IsTaken}
 use Rattle.policy_eval.specs.Accepts.{Accepts}
@@ -32,11 +32,11 @@ IsDrawn channel accepts bytes d = IsTaken channel accepts bytes d.hashed.block d
 abbrev pub IsDrawnOr : Configuration → Accepts → List ℕ → Result Drawn Refused → Type 0
 IsDrawnOr channel accepts bytes r = MatchResult r (IsDrawn channel accepts bytes) (λ refused. (w : World) → IsRefused w bytes refused)
 
--- what was foreseen of what was taken in
+-- what was tentative of what was taken in
 pub record IsPrepared (channel : Configuration) (accepts : Accepts) (bytes : List ℕ) (p : Prepared) : Type 0 where
   pub taken : List Taken
   pub is_taken : IsTaken channel accepts bytes p.hashed.block taken
-  pub foreseen : AreForeseenIn taken p.foreseen
+  pub tentative : AreTentativeIn taken p.tentative
 
 abbrev pub IsMadeOfDrawn : Drawn → Prepared → Type 0
 IsMadeOfDrawn d p = (channel : Configuration) (accepts : Accepts) (bytes : List ℕ) → IsDrawn channel accepts bytes d → IsPrepared channel accepts bytes p
@@ -54,7 +54,7 @@ abbrev pub IsNextDeltaOr : Configuration → Accepts → World → List ℕ → 
 IsNextDeltaOr channel accepts w bytes r = MatchResult r (λ d. IsNextDelta channel accepts w bytes d.0) (IsRefused w bytes)
 
 -- the block that was hashed, which is the next one of the world, and its bytes; or why it isn't
-abbrev pub IsNextOfHashed : World → Hashed → Result (Block × List ℕ) Refused → Type 0
+abbrev pub IsNextOfHashed : World → WithDataHash → Result (Block × List ℕ) Refused → Type 0
 IsNextOfHashed w hashed r =
     MatchResult r (λ next. (next.0 ≡ hashed.block) × IsLinked w next.0 × (next.1 ≡ bytes_of next.0)) (IsUnlinked w hashed.block)
 
@@ -69,7 +69,7 @@ AreHanded (bytes ∷ blocks) [] = ⊥
 
 -- For each string of bytes there wait what it spells, hashed, and its items, taken in. Where memory was refused, nothing
 -- waits for it and for those behind it.
-abbrev pub Waits : Configuration → Accepts → List (List ℕ) → List (Result Hashed Refused) → List Taken → Type 0
+abbrev pub Waits : Configuration → Accepts → List (List ℕ) → List (Result WithDataHash Refused) → List Taken → Type 0
 Waits channel accepts [] waiting taken = Unit {0}
 Waits channel accepts (bytes ∷ blocks) [] taken = Unit {0}
 Waits channel accepts (bytes ∷ blocks) (r ∷ waiting) taken =

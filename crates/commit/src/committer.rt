@@ -5,7 +5,7 @@ ghost use Rattle.query.specs.Limits.{max_readers};
 ghost use Rattle.rules.specs.World.{empty_world};
 ghost use Rattle.commit.specs.Committing.{Submits, Runs};
 
-use crate::means::Means;
+use crate::context::Context;
 use crate::not_committed::NotCommitted;
 use crate::opening::OpenFault;
 use crate::prepared::Ahead;
@@ -15,17 +15,17 @@ use crate::workers::Workers;
 use channel::{Channel, Configuration};
 use gates::Gate;
 use policy_eval::Verify;
-use query::{QueryHandle, Receipt};
+use query::{Front, QueryHandle, Receipt};
 use std::alloc::{AllocError, Global};
 use std::marker::Model;
 use std::sync::Wait;
 use std::thread::Threads;
 use values::Bytes;
 
-/// The committer of one channel, which takes blocks one by one, checks each by many workers, and publishes it to handles
-/// that ask from other threads. A contract sees its channel, and the deltas that it has published.
+/// The committer of one channel. It takes blocks one by one, checks each by many workers, and publishes it to handles
+/// that ask from other threads. A contract sees its channel and the deltas that it has published.
 ///
-/// It isn't dropped, since its end waits for the handles that are just asking: [`Committer::close`] ends it.
+/// It has no `Drop`, since its end waits for queries that have begun: [`Committer::close`] ends it.
 pub struct Committer {
     alloc: Global,
     channel: Configuration,
@@ -52,7 +52,9 @@ impl Model for Committer {
 }
 
 impl Committer {
-    /// The committer of height 0, with so many workers, and so many handles that ask it.
+    /// Opens the committer of height 0 with 1 to 64 workers, and at most 32 handles that ask it.
+    ///
+    /// Takes memory for two empty worlds and the handles. Starts no thread, and waits for none.
     pub fn open<R: Wait>(
         alloc: Global,
         rt: &R,
@@ -80,14 +82,19 @@ impl Committer {
         Ok((committer, handles))
     }
 
-    /// How many verdicts of the last accepted block no worker had found: 0 before the first.
+    /// How many verdicts of the last accepted block no worker had found. It is 0 before the first.
     pub fn gathered(&self) -> u32 {
         self.published.gathered()
     }
 
-    /// Takes the bytes of the next block: commits and publishes them, or refuses them and changes nothing. All memory is had
-    /// before they are published. Were it refused meanwhile, what was published before stays, and it has stopped; from then on it
-    /// takes no block.
+    /// Takes the bytes of the next block: commits and publishes it, or refuses it and changes nothing. The flags are
+    /// those of a committer that takes transactions one by one, as peers validate blocks in the EuroSys 2018 Fabric
+    /// paper.
+    ///
+    /// Where memory is refused while the block is published, the committer has stopped: what was published before
+    /// stays, and it takes no block from then on. Tests alone show that all memory is had before that, so that it
+    /// doesn't come to this. Linear in the block and in what it writes; waits for its workers, and for queries that
+    /// have begun.
     pub fn submit<R: Threads + Wait + Sync, V: Verify + Sync, G: Gate + Sync>(
         &mut self,
         rt: &R,
@@ -100,7 +107,7 @@ impl Committer {
         if self.published.has_stopped() {
             return Err(NotCommitted::Stopped);
         }
-        let means = Means {
+        let context = Context {
             rt,
             alloc: self.alloc,
             channel: &self.channel,
@@ -108,19 +115,21 @@ impl Committer {
             verifier,
             gate,
         };
-        let prepared = self.published.take_in_next(&means, bytes);
+        let prepared = self.published.take_in_next(&context, bytes);
         let mut ahead = Ahead::none(self.alloc);
         self.published
-            .commit(&means, self.workers, bytes, prepared, &mut ahead)
+            .commit(&context, self.workers, bytes, prepared, &mut ahead)
     }
 
-    /// Takes the bytes of blocks one after the other, and answers to all as `submit` would. An `Err` means that no block
-    /// was handed in.
+    /// Takes the bytes of blocks one after the other, and answers to each as [`Committer::submit`] would. An `Err` is
+    /// want of memory for the list of answers; no block was handed in then.
     ///
-    /// While the calling thread commits blocks, the other workers take in those behind them, so that many blocks are done
-    /// sooner than by as many calls of `submit`. What was taken in of a block that isn't the next one goes for nothing. Beside
-    /// the answers it takes memory for what waits: some 8 MiB of blocks, and what was taken in of them. Where that is refused,
-    /// these blocks are taken in once more, one by one.
+    /// While the calling thread commits blocks, the other workers take in those behind them, so that many blocks are
+    /// done sooner than by as many calls of `submit`. What was taken in of a block that isn't the next one goes for
+    /// nothing.
+    ///
+    /// Beside the answers it takes memory for what is taken in ahead: up to 2 MiB of blocks at a time, or one longer
+    /// block, each with a copy of its bytes. Where that is refused, these blocks are taken in once more, one by one.
     pub fn run<R: Threads + Wait + Sync, V: Verify + Sync, G: Gate + Sync>(
         &mut self,
         rt: &R,
@@ -132,7 +141,7 @@ impl Committer {
         ensures err { OnErr result (self.new ≡ self.old) }
     {
         let answers = Vec::with_capacity(self.alloc, blocks.len())?;
-        let means = Means {
+        let context = Context {
             rt,
             alloc: self.alloc,
             channel: &self.channel,
@@ -140,17 +149,20 @@ impl Committer {
             verifier,
             gate,
         };
-        Ok(run_all(&means, &mut self.published, blocks, answers))
+        Ok(run_all(&context, &mut self.published, blocks, answers))
     }
 
-    /// Ends it, and waits for queries that have begun. Its handles get no entry from then on.
-    pub fn close<R: Wait>(self, rt: &R) {
+    /// Ends the committer, waits for queries that have begun, and answers what was published last: all that it had
+    /// published, and nothing more. Its handles get no entry from then on.
+    pub fn close<R: Wait>(self, rt: &R) -> Front
+        ensures { result ≡ record { book = self.book; list = self.list } }
+    {
         let Committer {
             alloc: _,
             channel: _channel,
             workers: _,
             published,
         } = self;
-        published.close(rt);
+        published.close(rt)
     }
 }

@@ -6,8 +6,8 @@ ghost use Rattle.commit.specs.declared.not_committed.NotCommitted.{NotCommitted}
 ghost use Rattle.commit.specs.Committing.{Committing, Runs, answer_in, world_of};
 ghost use Rattle.next_block.specs.Submissions.{submissions};
 
-/// A law, and no work: what a committer answers to a list of strings, and the world that it has published after them, are
-/// what a ledger may answer that takes them on one thread. Where the committer stops, that is the ledger's want of memory.
+/// A law, without work: a ledger on one thread may give the answers that a committer gives to a list of strings, and reach
+/// the world that it has published after them. Where the committer stops, that is the ledger's want of memory.
 pub fn a_run_is_a_chain()
     ensures { (accepts : Accepts) (old new : Committing) (blocks : List (List ℕ)) (answers : List (Result Receipt NotCommitted))
         → Runs accepts old blocks answers new

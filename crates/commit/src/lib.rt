@@ -3,10 +3,9 @@
 
 mod by_workers;
 mod committer;
+mod context;
 mod hashing;
 mod laws;
-mod looking_up;
-mod means;
 mod not_committed;
 mod opening;
 mod prepared;

@@ -10,8 +10,8 @@ pub enum NotCommitted {
     /// The bytes aren't the next block, or memory was refused before anything was published. Nothing has changed.
     #[error("{0}")]
     Refused(Refused),
-    /// Memory was refused while the accepted block was published, for which all was had before. What was published before stays, and
-    /// the committer has stopped.
+    /// Memory was refused while the accepted block was published. What was published before stays, and the committer
+    /// has stopped. Tests alone show that all memory is had before, so that this doesn't come.
     #[error("out of memory while a block was published")]
     MemoryInCommit,
     /// The committer has stopped before.

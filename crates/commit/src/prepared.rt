@@ -1,16 +1,16 @@
 //! Blocks that were taken in, whatever the world before them.
 ghost use Rattle.std.specs.Prelude.{◌≡◌, [], take, drop, None, IfOk, IfSome, OnSome};
 ghost use Rattle.std.specs.Vec.Iter.{into_iter_items};
-ghost use Rattle.block_steps.specs.OnItsWay.{IsDecoded};
+ghost use Rattle.linking.specs.OnItsWay.{IsDecoded};
 ghost use Rattle.intake_workers.specs.Pieces.{all_taken};
 ghost use Rattle.commit.specs.Prepared.{AreBehindDrawn, AreBehindFirst, AreHanded, IsAhead, IsFirstDrawn, IsFirstOf, IsFirstPrepared, IsMadeOfDrawn, StaysAhead, WaitWhereHanded};
 
-use crate::means::Means;
-use block_steps::DecodedBlock;
+use crate::context::Context;
 use gates::Gate;
 use intake::Taken;
-use intake_workers::{Handed, Hashed, TakenIn, take_in_beside};
-use next_block::{Foreseen, foreseen_of};
+use intake_workers::{Crew, Handed, IntakeRules, TakenIn, WithDataHash, take_in_beside};
+use linking::DecodedBlock;
+use next_block::{TentativeJob, tentative_job_of};
 use policy_eval::Verify;
 use rules::Refused;
 use std::alloc::{AllocError, Global};
@@ -21,25 +21,26 @@ use values::Bytes;
 /// A block, hashed, and what can be said of its items without the world.
 #[derive(Drop)]
 pub(crate) struct Drawn<'b> {
-    pub(crate) hashed: Hashed<'b>,
+    pub(crate) hashed: WithDataHash<'b>,
     pub(crate) taken: Vec<Taken<'b>>,
 }
 
 /// A block, hashed, and what its job is made of where none of its ids was used before.
 #[derive(Drop)]
 pub(crate) struct Prepared<'b> {
-    pub(crate) hashed: Hashed<'b>,
-    pub(crate) foreseen: Foreseen<'b>,
+    pub(crate) hashed: WithDataHash<'b>,
+    pub(crate) tentative: TentativeJob<'b>,
 }
 
 /// Blocks that were taken in, one after the other.
 #[derive(Drop)]
 pub(crate) struct Waiting<'b> {
-    blocks: vec::IntoIter<Result<Hashed<'b>, Refused>>,
+    blocks: vec::IntoIter<Result<WithDataHash<'b>, Refused>>,
     lists: vec::IntoIter<Vec<Taken<'b>>>,
 }
 
-/// Blocks that were taken in, to be committed one after the other. The first of them may be prepared before it is asked for.
+/// Blocks that were taken in, to be committed one after the other. The first of them may be prepared before it is asked
+/// for.
 #[derive(Drop)]
 pub(crate) struct Ahead<'b> {
     first: Option<Result<Prepared<'b>, Refused>>,
@@ -68,12 +69,12 @@ fn next_taken<'b>(
 }
 
 /// What was taken in of a block, prepared to be committed.
-fn foreseen<'b>(alloc: Global, drawn: Drawn<'b>) -> Result<Prepared<'b>, AllocError>
+fn tentative<'b>(alloc: Global, drawn: Drawn<'b>) -> Result<Prepared<'b>, AllocError>
     ensures { IfOk result (IsMadeOfDrawn drawn.entry) }
 {
     let Drawn { hashed, taken } = drawn;
-    let foreseen = foreseen_of(alloc, taken)?;
-    Ok(Prepared { hashed, foreseen })
+    let tentative = tentative_job_of(alloc, taken)?;
+    Ok(Prepared { hashed, tentative })
 }
 
 impl<'b> Waiting<'b> {
@@ -115,7 +116,7 @@ impl<'b> Waiting<'b> {
         Some(Ok(Drawn { hashed, taken }))
     }
 
-    /// The same, prepared to be committed.
+    /// The next one, if it waits, prepared to be committed.
     fn next_prepared(&mut self, alloc: Global) -> Option<Result<Prepared<'b>, Refused>>
         ensures next { IsFirstPrepared self.old result }
         ensures behind { AreBehindDrawn self.old self.new }
@@ -125,7 +126,7 @@ impl<'b> Waiting<'b> {
             Ok(drawn) => drawn,
             Err(refused) => return Some(Err(refused)),
         };
-        match foreseen(alloc, drawn) {
+        match tentative(alloc, drawn) {
             Ok(prepared) => Some(Ok(prepared)),
             Err(AllocError) => {
                 *self = Waiting::none(alloc);
@@ -205,27 +206,28 @@ fn decoded_all<'b>(alloc: Global, blocks: &'b [Bytes]) -> Result<Vec<Handed<'b>>
 
 /// Takes blocks in, the calling thread behind work of its own.
 pub(crate) fn take_in<'b, R: Threads + Sync, V: Verify + Sync, G: Gate + Sync, Z, F: FnMut() -> Z>(
-    means: &Means<'_, R, V, G>,
+    context: &Context<'_, R, V, G>,
     handed: Vec<Handed<'b>>,
     own: &mut F,
 ) -> (Ahead<'b>, Z)
     requires { F.pre own.old }
-    ensures ahead { WaitWhereHanded means.now.channel.now (V.accepts means.now.verifier.now) handed.entry.items result.0 }
+    ensures ahead { WaitWhereHanded context.now.channel.now (V.accepts context.now.verifier.now) handed.entry.items result.0 }
     ensures own { F.step own.old result.1 own.new }
 {
-    let (taken_in, done) = take_in_beside(
-        means.rt,
-        means.alloc,
-        means.channel,
-        means.verifier,
-        means.gate,
-        handed,
-        means.workers.count,
-        own,
-    );
+    let crew = Crew {
+        rt: context.rt,
+        alloc: context.alloc,
+        workers: context.workers.count,
+    };
+    let rules = IntakeRules {
+        channel: context.channel,
+        verifier: context.verifier,
+        gate: context.gate,
+    };
+    let (taken_in, done) = take_in_beside(&crew, &rules, handed, own);
     match taken_in {
         Ok(taken_in) => (Ahead::of(taken_in), done),
-        Err(AllocError) => (Ahead::none(means.alloc), done),
+        Err(AllocError) => (Ahead::none(context.alloc), done),
     }
 }
 
@@ -237,13 +239,13 @@ pub(crate) fn take_in_ahead<
     G: Gate + Sync,
     Z,
     F: FnMut() -> Z,
->(means: &Means<'_, R, V, G>, blocks: &'b [Bytes], own: &mut F) -> (Ahead<'b>, Z)
+>(context: &Context<'_, R, V, G>, blocks: &'b [Bytes], own: &mut F) -> (Ahead<'b>, Z)
     requires { F.pre own.old }
-    ensures ahead { IsAhead means.now.channel.now (V.accepts means.now.verifier.now) blocks.now result.0 }
+    ensures ahead { IsAhead context.now.channel.now (V.accepts context.now.verifier.now) blocks.now result.0 }
     ensures own { F.step own.old result.1 own.new }
 {
-    match decoded_all(means.alloc, blocks) {
-        Ok(handed) => take_in(means, handed, own),
-        Err(AllocError) => (Ahead::none(means.alloc), own()),
+    match decoded_all(context.alloc, blocks) {
+        Ok(handed) => take_in(context, handed, own),
+        Err(AllocError) => (Ahead::none(context.alloc), own()),
     }
 }

@@ -9,15 +9,15 @@ ghost use Rattle.commit.specs.Prepared.{IsTakenIn, MayWait, StaysAhead};
 ghost use Rattle.commit.specs.Running.{BelongsTo, SubmitsTo};
 
 use crate::by_workers::{next_delta, take_in_next};
+use crate::context::Context;
 use crate::hashing::hashed;
-use crate::means::Means;
 use crate::not_committed::NotCommitted;
 use crate::prepared::{Ahead, Prepared};
 use crate::workers::Workers;
 use gates::Gate;
 use policy::Definitions;
 use policy_eval::Verify;
-use query::{MAX_READERS, PublishFault, Publisher, QueryHandle, Receipt};
+use query::{Front, MAX_READERS, PublishFault, Publisher, QueryHandle, Receipt};
 use rules::Refused;
 use std::alloc::Global;
 use std::marker::Model;
@@ -43,7 +43,7 @@ impl Model for Published {
 }
 
 impl Published {
-    /// Nothing yet of a channel with these definitions, and so many handles.
+    /// Nothing yet, of a channel with these definitions, with so many handles. Copies the definitions.
     pub(crate) fn open<R: Wait>(
         alloc: Global,
         rt: &R,
@@ -89,72 +89,66 @@ impl Published {
     /// Takes the next block in by workers, unless its place tells already that it is another one.
     pub(crate) fn take_in_next<'b, R: Threads + Sync, V: Verify + Sync, G: Gate + Sync>(
         &self,
-        means: &Means<'_, R, V, G>,
+        context: &Context<'_, R, V, G>,
         bytes: &'b [u8],
     ) -> Result<Prepared<'b>, Refused>
         requires { self.now.failed ≡ false }
-        ensures { IsTakenIn means.now.channel.now (V.accepts means.now.verifier.now) (published_world self.now) bytes.now result }
+        ensures { IsTakenIn context.now.channel.now (V.accepts context.now.verifier.now) (published_world self.now) bytes.now result }
     {
-        take_in_next(means, self.publisher.published(), bytes)
+        take_in_next(context, self.publisher.published(), bytes)
     }
 
-    /// The next block, where it was taken in together with others. Where it wasn't, for want of memory, it is now, alone.
+    /// The next block, where it was taken in together with others. Where it wasn't, for want of memory, it is taken in
+    /// now, alone.
     pub(crate) fn prepared<'b, R: Threads + Sync, V: Verify + Sync, G: Gate + Sync>(
         &self,
-        means: &Means<'_, R, V, G>,
+        context: &Context<'_, R, V, G>,
         bytes: &'b [u8],
         ahead: Option<Result<Prepared<'b>, Refused>>,
     ) -> Result<Prepared<'b>, Refused>
-        requires { MayWait means.now.channel.now (V.accepts means.now.verifier.now) (published_world self.now) bytes.now ahead }
-        ensures { IsTakenIn means.now.channel.now (V.accepts means.now.verifier.now) (published_world self.now) bytes.now result }
+        requires { MayWait context.now.channel.now (V.accepts context.now.verifier.now) (published_world self.now) bytes.now ahead }
+        ensures { IsTakenIn context.now.channel.now (V.accepts context.now.verifier.now) (published_world self.now) bytes.now result }
     {
         match ahead {
             Some(prepared) => prepared,
             None if self.publisher.failed() => Err(Refused::Memory),
-            None => self.take_in_next(means, bytes),
+            None => self.take_in_next(context, bytes),
         }
     }
 
-    /// Commits and publishes the block that was taken in, which so many workers check, or refuses it and publishes nothing. Where
-    /// memory is refused while it is published, nothing more is from then on. Of what is ahead the next one may be prepared meanwhile.
+    /// Commits and publishes the block that was taken in, which so many workers check, or refuses it and publishes
+    /// nothing. Where memory is refused while it is published, nothing more is from then on. The next block of those
+    /// ahead may be prepared meanwhile.
     pub(crate) fn commit<R: Threads + Wait + Sync, V: Verify, G: Gate + Sync>(
         &mut self,
-        means: &Means<'_, R, V, G>,
+        context: &Context<'_, R, V, G>,
         checkers: Workers,
         bytes: &[u8],
         prepared: Result<Prepared<'_>, Refused>,
         ahead: &mut Ahead<'_>,
     ) -> Result<Receipt, NotCommitted>
-        requires taken { IsTakenIn means.now.channel.now (V.accepts means.now.verifier.now) (published_world self.old) bytes.now prepared }
-        requires belongs { BelongsTo means.now.channel.now self.old }
-        ensures submits { SubmitsTo means.now.channel.now (V.accepts means.now.verifier.now) self.old bytes.now result self.new }
-        ensures belongs { BelongsTo means.now.channel.now self.new }
+        requires taken { IsTakenIn context.now.channel.now (V.accepts context.now.verifier.now) (published_world self.old) bytes.now prepared }
+        requires belongs { BelongsTo context.now.channel.now self.old }
+        ensures submits { SubmitsTo context.now.channel.now (V.accepts context.now.verifier.now) self.old bytes.now result self.new }
+        ensures belongs { BelongsTo context.now.channel.now self.new }
         ensures ahead { StaysAhead ahead.old ahead.new }
     {
         if self.publisher.failed() {
             return Err(NotCommitted::Stopped);
         }
         let mut spent = None;
-        let (unhashed, gathered) = next_delta(
-            means,
+        let (pending, gathered) = next_delta(
+            context,
             self.publisher.published(),
             checkers,
             bytes,
             prepared?,
             &mut spent,
         )?;
-        let Ok(delta) = hashed(
-            means.rt,
-            means.alloc,
-            means.workers,
-            &mut self.publisher,
-            unhashed,
-            spent,
-            ahead,
-        ) else {
+        let Ok(delta) = hashed(context, &mut self.publisher, pending, spent, ahead) else {
             return Err(NotCommitted::Refused(Refused::Memory));
         };
-        match self.publisher.publish_ready(means.rt, delta) {
+        match self.publisher.publish_ready(context.rt, delta) {
             Ok(receipt) => {
                 self.gathered = gathered;
                 Ok(receipt)
@@ -164,12 +158,15 @@ impl Published {
         }
     }
 
-    /// Ends it, and waits for queries that have begun. Its handles get no entry from then on.
-    pub(crate) fn close<R: Wait>(self, rt: &R) {
+    /// Ends it, waits for queries that have begun, and answers what was published last. Handles get no entry from then
+    /// on.
+    pub(crate) fn close<R: Wait>(self, rt: &R) -> Front
+        ensures { result ≡ record { book = self.book; list = self.list } }
+    {
         let Published {
             publisher,
             gathered: _,
         } = self;
-        publisher.close(rt);
+        publisher.close(rt)
     }
 }

@@ -7,7 +7,8 @@ pub const MAX_WORKERS: usize = 64;
 // So many transactions are checked in the time that some threads take to start.
 const WORTH_A_CHECKER: usize = 2048;
 
-// A state of so many pages lies in no processor's own cache, so that look-ups wait for memory, and several threads wait for it at once.
+// A state of so many pages lies in no processor's own cache: look-ups wait for memory, and several threads wait at
+// once.
 const MANY_PAGES: usize = 256;
 
 // Over such a state a thread more is worth so many transactions that are checked, and so many look-ups.
@@ -34,8 +35,8 @@ impl Workers {
         Some(Workers { count })
     }
 
-    /// Those that check a block of so many transactions, over a state of so many pages, while the others take in the next one: few, for
-    /// each one more is a thread where there is no processor for it.
+    /// Those that check a block of so many transactions, over a state of so many pages, while the others take in the
+    /// next one: few, since each more is a thread without a processor of its own.
     pub(crate) fn beside_intake(self, txs: usize, pages: usize) -> Workers {
         let worth = if pages < MANY_PAGES {
             WORTH_A_CHECKER

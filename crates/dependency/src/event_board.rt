@@ -39,7 +39,8 @@ fn number(flag: Option<Flag>) -> u8
 }
 
 impl EventBoard {
-    /// The flag of each candidate, as its number; `NOT_VALIDATED` where it is unknown.
+    /// The flag of each candidate, as its number; `NOT_VALIDATED` where it is unknown. Memory for a byte of each; an `Err` is
+    /// want of it.
     pub fn flags(&self, alloc: Global) -> Result<Vec<u8>, AllocError>
         ensures { IfOk result (λ numbers. numbers.items ≡ map flag_number self.now.flags) }
     {

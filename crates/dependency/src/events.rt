@@ -33,7 +33,8 @@ fn first_board(alloc: Global, job: &Job<'_, '_>) -> Result<PlainBoard, AllocErro
 /// An endorsement check makes its cell known with a sure verdict alone, and does so where all that it depends on is known. So
 /// does a read check, once the endorsement's is known; where that is no, the flag is that of a refused one. A check that
 /// comes too early or twice, or whose number is out of range, changes nothing. Whatever the checks and their order, each
-/// known cell is the verdict of the candidates taken one by one. Costs what each check costs.
+/// known cell is the verdict of the candidates taken one by one. Costs what each check costs; memory for two cells of each
+/// candidate. An `Err` is want of memory alone.
 pub fn run_events(
     alloc: Global,
     job: &Job<'_, '_>,

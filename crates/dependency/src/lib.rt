@@ -7,3 +7,4 @@ mod events;
 
 pub use event_board::{EventBoard, NOT_VALIDATED};
 pub use events::run_events;
+pub use rules::Event;

@@ -5,9 +5,9 @@ mod vectors;
 
 use crate::fixture::drafted;
 use block::{BlockVersion, Header, Previous};
-use failing::Failed;
 use key_book::KeyBook;
 use std::alloc::Global;
+use test_support::Failed;
 use updates::updates;
 use vectors::{drafts, keys};
 

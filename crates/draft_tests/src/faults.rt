@@ -2,9 +2,9 @@
 
 use crate::fixture::{book, faulty_line};
 use block::BlockVersion;
-use failing::Failed;
 use key_book::KeyBook;
 use std::alloc::Global;
+use test_support::Failed;
 
 // How many of the scripts have this first faulty line in version 1, up to the first that hasn't.
 fn faulty_so(alloc: Global, scripts: &[(&str, u64)]) -> Result<usize, Failed> {

@@ -2,9 +2,9 @@
 
 use block::{BlockVersion, Header};
 use drafts::{DraftFault, draft};
-use failing::Failed;
 use key_book::{KeyBook, KeyBookFault};
 use std::alloc::Global;
+use test_support::Failed;
 use values::{Bytes, Name, is_name};
 
 const KEYS: &str = "Org1:client:c0 11\nOrg1:peer:p0 22\n";

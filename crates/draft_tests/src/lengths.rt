@@ -2,9 +2,9 @@
 
 use crate::fixture::{book, faulty_line};
 use block::BlockVersion;
-use failing::Failed;
 use key_book::KeyBook;
 use std::alloc::{AllocError, Global};
+use test_support::Failed;
 
 /// A text with a part between two others, how often the part may stand there, and the first faulty line where it stands
 /// there once more.

@@ -3,9 +3,9 @@
 use crate::fixture::{book, channel};
 use block::BlockVersion;
 use drafts::{DraftFault, draft};
-use failing::{Failed, Outcome, begins};
 use key_book::KeyBook;
 use std::alloc::Global;
+use test_support::{Failed, Outcome, begins};
 use values::{Bytes, Name};
 
 // A transaction, a raw one and an update, each with all that takes memory.
@@ -45,6 +45,7 @@ fn outcome_of_draft(
     }
 }
 
+/// What comes of drafting the script.
 pub fn outcome(alloc: Global) -> Result<Outcome, Failed> {
     let channel = channel(alloc)?;
     let keys = book(alloc)?;

@@ -2,10 +2,10 @@
 
 use crate::fixture::book;
 use block::BlockVersion;
-use failing::Failed;
 use key_book::KeyBook;
 use scripts::{Content, Draft, Item, OwnedNsSet, Script, read};
 use std::alloc::{AllocError, Global};
+use test_support::Failed;
 use transaction::{Identity, Role};
 
 // A script, how many of its transactions ended before its first faulty line, and that line.

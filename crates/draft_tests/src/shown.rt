@@ -5,10 +5,9 @@ mod why_raw;
 use crate::fixture::{book, channel, drafted};
 use block::{Block, BlockFault, BlockVersion, decode_block};
 use block_scripts::{block_script, place_of_fault, raw_script};
-use failing::{Failed, check};
 use key_book::KeyBook;
-use random_numbers::Random;
 use std::alloc::Global;
+use test_support::{Failed, Random, check};
 use text_lines::text_of;
 use values::{Bytes, Slice};
 

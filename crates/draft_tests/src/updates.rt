@@ -2,10 +2,10 @@
 
 use crate::fixture::{book, drafted, faulty_line};
 use block::{BlockVersion, decode_block};
-use failing::{Failed, check, is_alike};
 use header_hash::tx_id;
 use key_book::KeyBook;
 use std::alloc::Global;
+use test_support::{Failed, check, is_alike};
 use transaction::{
     Endorsement, Identity, Item, Role, SpelledItem, Update, decode_item, encode_identity,
 };

@@ -73,8 +73,8 @@ fn items_bytes(
     Ok(txs)
 }
 
-/// What a script for a block of this version puts in its places on a channel, in order. A drafted transaction or update gets
-/// its id, and the signatures of its endorsers and its creator by the book's keys; a raw one is taken as it is.
+/// What a script for a block of this version puts in its places on a channel, in order. A drafted transaction or update
+/// gets its id, and the signatures of its endorsers and its creator by the book's keys; a raw one is taken as it is.
 /// [`scripts::read`] says how a script is read, and [`draft`] makes the block.
 ///
 /// The fault is `Line` with the first faulty line, unless memory runs out before. A transaction that is too long, whole
@@ -106,8 +106,8 @@ pub fn draft_txs(
     }
 }
 
-/// The block of this version that a script drafts on a channel, in bytes: behind the header of the block before, or block 0
-/// where there is none. [`draft_txs`] says what stands in it, and what the fault is.
+/// The block of this version that a script drafts on a channel, in bytes: behind the header of the block before, or
+/// block 0 where there is none. [`draft_txs`] says what stands in it, and what the fault is.
 ///
 /// As dear as that, and linear in the block.
 pub fn draft(

@@ -69,7 +69,7 @@ impl<'a> Signed<'a> {
         ensures { result ≡ self.now }
     {
         Endorsement {
-            endorser: self.endorser.again(),
+            endorser: self.endorser.reborrow(),
             signature: self.signature.lend(),
         }
     }

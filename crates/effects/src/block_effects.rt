@@ -50,7 +50,7 @@ pub fn effects_of(
     keys_have_one_order();
     let keys = job.keys();
     let mut keeping = Keeping::new(alloc, bytes, starts, keys.len())?;
-    let written = write_block(alloc, &mut keeping, job, flags)?;
+    let written = write_block(&mut keeping, job, flags)?;
     Ok(Effects {
         changes: changes_to_rows(alloc, &keeping, keys, written.rows)?,
         entries: written.entries,

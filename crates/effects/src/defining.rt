@@ -19,9 +19,10 @@ fn definition_of(alloc: Global, open_update: &OpenUpdate<'_>) -> Result<NewDefin
     ensures chaincode { IfOk result (λ d. d.chaincode ≡ open_update.now.update.namespace) }
     ensures policy { IfOk result (λ d. policy_of open_update.now.update.policy ≡ Some d.policy) }
 {
+    let chaincode = open_update.update.namespace.copy(alloc)?;
     let policy = open_update.policy.copy(alloc)?;
     Ok(NewDefinition {
-        chaincode: open_update.update.namespace.copy(alloc)?,
+        chaincode,
         policy: Shared::new(alloc, policy)?,
     })
 }

@@ -10,6 +10,13 @@ use values::{Bytes, Part, Shared};
 // how many bytes tell how long the channel's name is, behind which the id stands
 const NAME_COUNT: usize = 1;
 
+// of a key that was written nowhere yet
+const NOWHERE: Spots = Spots {
+    namespace: 0,
+    key: 0,
+    value: 0,
+};
+
 /// The bytes of a block, where its transactions may begin there, and where each of its keys may stand, as it was written last.
 #[derive(Drop)]
 pub(crate) struct Keeping<'k> {
@@ -27,23 +34,26 @@ impl<'k> Keeping<'k> {
         starts: &'k [usize],
         keys: usize,
     ) -> Result<Keeping<'k>, AllocError> {
-        let nowhere = Spots {
-            namespace: 0,
-            key: 0,
-            value: 0,
-        };
         Ok(Keeping {
             alloc,
             bytes,
             starts,
-            spots: vec![in alloc; nowhere; keys]?,
+            spots: vec![in alloc; NOWHERE; keys]?,
         })
     }
 
+    /// The allocator that has what is kept.
+    pub fn alloc(&self) -> Global {
+        self.alloc
+    }
+
+    /// Where candidate i may begin.
     fn start_of(&self, i: u32) -> usize {
-        match self.starts.get(i as usize) {
-            None => 0,
-            Some(start) => *start,
+        let place = i as usize;
+        if place < self.starts.len() {
+            self.starts[place]
+        } else {
+            0
         }
     }
 
@@ -65,21 +75,20 @@ impl<'k> Keeping<'k> {
     pub fn note(&mut self, i: u32, number: u32, written: &WrittenKey<'_>) {
         let start = self.start_of(i);
         if let Some(Some(value)) = &written.value {
-            if let Some(spots) = self.spots.get_mut(number as usize) {
-                *spots = value.spots_in_block(start);
+            let place = number as usize;
+            if place < self.spots.as_slice().len() {
+                self.spots[place] = value.spots_in_block(start);
             }
         }
     }
 
     /// Where the key of this number was written last.
     fn spots_of(&self, number: u32) -> Spots {
-        match self.spots.get(number as usize) {
-            None => Spots {
-                namespace: 0,
-                key: 0,
-                value: 0,
-            },
-            Some(spots) => *spots,
+        let place = number as usize;
+        if place < self.spots.as_slice().len() {
+            self.spots[place]
+        } else {
+            NOWHERE
         }
     }
 

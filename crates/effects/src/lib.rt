@@ -6,7 +6,8 @@ mod block_effects;
 mod changes;
 mod defining;
 mod keeping;
-mod left;
+mod key_effects;
+mod writer;
 mod writing;
 mod written_row;
 

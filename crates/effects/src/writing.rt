@@ -1,5 +1,5 @@
 //! What a block writes, transaction by transaction: the rows of its keys, and the history entries.
-ghost use Rattle.std.specs.Prelude.{◌≡◌, ◌<◌, ◌+◌, ◌++◌, ℕ, Option, None, Some, length, replicate, IfOk, OnOk, option_map, option_to_list, unwrap_or, slice_get};
+ghost use Rattle.std.specs.Prelude.{[], ◌≡◌, ◌<◌, ◌+◌, ◌++◌, ℕ, Option, None, Some, length, replicate, IfOk, OnOk, option_map, option_to_list, unwrap_or, slice_get};
 ghost use Rattle.std.specs.Option.{option_copied};
 ghost use Rattle.std.specs.List.Sorted.{IsStrictlySortedBy};
 ghost use Rattle.rules.specs.declared.row.Row as as_row;
@@ -14,12 +14,13 @@ ghost use Rattle.effects.specs.Rows.{ShowRows, AreRealRows, HaveKeys, change_of_
 ghost use Rattle.effects.specs.WrittenRow.{with_write, with_writes};
 
 use crate::keeping::Keeping;
-use crate::left::{Left, left_by};
+use crate::key_effects::{KeyEffect, key_effect};
+use crate::writer::Writer;
 use candidates::{OpenTx, WrittenKey, keys_have_one_order};
 use key_chains::Job;
-use rules::{Flag, KeptEntry, KeptId, KeyedRow, Row};
+use rules::{Flag, KeptEntry, KeyedRow, Row};
 use std::alloc::{AllocError, Global};
-use transaction::Version;
+use transaction::{Tx, Version};
 use values::Shared;
 
 /// What the valid transactions so far made of a key's row, `Some(None)` where they removed it; `None` where none of them wrote
@@ -65,88 +66,95 @@ fn add_entry(entries: &mut Vec<KeptEntry>, entry: Option<KeptEntry>) -> Result<(
     Ok(())
 }
 
-/// Makes what is written at the key that stands at this place.
+/// Makes what is written at the key of this number.
 fn write_one(
-    alloc: Global,
     keeping: &mut Keeping<'_>,
-    rows: &mut Vec<WrittenRow>,
-    entries: &mut Vec<KeptEntry>,
+    all: &mut Written,
     job: &Job<'_, '_>,
-    version: Version,
-    id: &KeptId,
+    writer: &Writer,
     number: u32,
     written: &WrittenKey<'_>,
 ) -> Result<(), AllocError>
     requires rising { IsStrictlySortedBy key_cmp (keys_of job.now) }
     requires place { slice_get (keys_of job.now) number ≡ Some written.now.key }
-    requires count { length rows.old.items ≡ length (keys_of job.now) }
-    ensures rows { OnOk result ((s : State) → ShowRows job.now (rows_in rows.old.items) s → ShowRows job.now (rows_in rows.new.items) (with_write version s written.now)) }
-    ensures real { OnOk result (AreRealRows job.now (rows_in rows.old.items) → AreRealRows job.now (rows_in rows.new.items)) }
-    ensures keys { OnOk result (HaveKeys (keys_of job.now) rows.old.items → HaveKeys (keys_of job.now) rows.new.items) }
-    ensures count { OnOk result (length rows.new.items ≡ length rows.old.items) }
-    ensures entries { OnOk result (entries_in entries.new.items ≡ entries_in entries.old.items ++ entry_written version id.now written.now) }
+    requires count { length all.old.rows.items ≡ length (keys_of job.now) }
+    ensures rows { OnOk result ((s : State) → ShowRows job.now (rows_in all.old.rows.items) s → ShowRows job.now (rows_in all.new.rows.items) (with_write writer.now.version s written.now)) }
+    ensures real { OnOk result (AreRealRows job.now (rows_in all.old.rows.items) → AreRealRows job.now (rows_in all.new.rows.items)) }
+    ensures keys { OnOk result (HaveKeys (keys_of job.now) all.old.rows.items → HaveKeys (keys_of job.now) all.new.rows.items) }
+    ensures count { OnOk result (length all.new.rows.items ≡ length all.old.rows.items) }
+    ensures entries { OnOk result (entries_in all.new.entries.items ≡ entries_in all.old.entries.items ++ entry_written writer.now.version writer.now.id written.now) }
 {
-    keeping.note(version.tx, number, written);
+    keeping.note(writer.version.tx, number, written);
     let before = job.row_of(number);
-    let now = row_now(&rows[number as usize], before);
-    let left = left_by(alloc, keeping, version, id, number, written, now)?;
-    let Left { row, entry } = left;
-    rows[number as usize] = change_of_row(before, row);
-    add_entry(entries, entry)?;
+    let now = row_now(&all.rows[number as usize], before);
+    let effect = key_effect(keeping, writer, number, written, now)?;
+    let KeyEffect { row, entry } = effect;
+    all.rows[number as usize] = change_of_row(before, row);
+    add_entry(&mut all.entries, entry)?;
     Ok(())
+}
+
+/// The transaction of candidate i, as one that writes.
+fn writer_of(
+    keeping: &Keeping<'_>,
+    job: &Job<'_, '_>,
+    i: u32,
+    tx: &Tx<'_>,
+) -> Result<Writer, AllocError>
+    ensures version { IfOk result (λ writer. writer.version ≡ version_of job.now i) }
+    ensures id { IfOk result (λ writer. writer.id ≡ tx.now.id) }
+{
+    let version = Version {
+        block: job.number(),
+        tx: i,
+    };
+    Ok(Writer {
+        version,
+        id: keeping.id(i, tx)?,
+    })
 }
 
 /// Makes all that candidate i writes.
 fn write_all(
-    alloc: Global,
     keeping: &mut Keeping<'_>,
-    rows: &mut Vec<WrittenRow>,
-    entries: &mut Vec<KeptEntry>,
+    all: &mut Written,
     job: &Job<'_, '_>,
     i: u32,
     open_tx: &OpenTx<'_>,
 ) -> Result<(), AllocError>
     requires rising { IsStrictlySortedBy key_cmp (keys_of job.now) }
     requires opened { IsOpened job.now i open_tx.now }
-    requires count { length rows.old.items ≡ length (keys_of job.now) }
-    ensures rows { OnOk result ((s : State) → ShowRows job.now (rows_in rows.old.items) s → ShowRows job.now (rows_in rows.new.items) (with_writes (version_of job.now i) s open_tx.now.written.items)) }
-    ensures real { OnOk result (AreRealRows job.now (rows_in rows.old.items) → AreRealRows job.now (rows_in rows.new.items)) }
-    ensures keys { OnOk result (HaveKeys (keys_of job.now) rows.old.items → HaveKeys (keys_of job.now) rows.new.items) }
-    ensures count { OnOk result (length rows.new.items ≡ length rows.old.items) }
-    ensures entries { OnOk result (entries_in entries.new.items ≡ entries_in entries.old.items ++ entries_written (version_of job.now i) open_tx.now.tx.id open_tx.now.written.items) }
+    requires count { length all.old.rows.items ≡ length (keys_of job.now) }
+    ensures rows { OnOk result ((s : State) → ShowRows job.now (rows_in all.old.rows.items) s → ShowRows job.now (rows_in all.new.rows.items) (with_writes (version_of job.now i) s open_tx.now.written.items)) }
+    ensures real { OnOk result (AreRealRows job.now (rows_in all.old.rows.items) → AreRealRows job.now (rows_in all.new.rows.items)) }
+    ensures keys { OnOk result (HaveKeys (keys_of job.now) all.old.rows.items → HaveKeys (keys_of job.now) all.new.rows.items) }
+    ensures count { OnOk result (length all.new.rows.items ≡ length all.old.rows.items) }
+    ensures entries { OnOk result (entries_in all.new.entries.items ≡ entries_in all.old.entries.items ++ entries_written (version_of job.now i) open_tx.now.tx.id open_tx.now.written.items) }
 {
-    let version = Version {
-        block: job.number(),
-        tx: i,
-    };
-    let id = keeping.id(i, &open_tx.tx)?;
+    let writer = writer_of(keeping, job, i, &open_tx.tx)?;
     for (place, written) in open_tx.written.as_slice().iter().enumerate() {
         let number = job.key_number_of(i, place);
-        write_one(
-            alloc, keeping, rows, entries, job, version, &id, number, written,
-        )?;
+        write_one(keeping, all, job, &writer, number, written)?;
     }
     Ok(())
 }
 
 /// Takes candidate i, whose flag this is.
 fn take(
-    alloc: Global,
     keeping: &mut Keeping<'_>,
-    rows: &mut Vec<WrittenRow>,
-    entries: &mut Vec<KeptEntry>,
+    all: &mut Written,
     job: &Job<'_, '_>,
     i: u32,
     flag: Flag,
 ) -> Result<(), AllocError>
     requires place { i < length job.now.candidates }
     requires flag { flag ≡ fold.flag job.now i }
-    requires count { length rows.old.items ≡ length (keys_of job.now) }
-    ensures rows { OnOk result (ShowRows job.now (rows_in rows.old.items) (running job.now i).state → ShowRows job.now (rows_in rows.new.items) (running job.now (i + 1)).state) }
-    ensures real { OnOk result (AreRealRows job.now (rows_in rows.old.items) → AreRealRows job.now (rows_in rows.new.items)) }
-    ensures keys { OnOk result (HaveKeys (keys_of job.now) rows.old.items → HaveKeys (keys_of job.now) rows.new.items) }
-    ensures count { OnOk result (length rows.new.items ≡ length rows.old.items) }
-    ensures entries { OnOk result (MakeHistory job.now entries.old.items i → MakeHistory job.now entries.new.items (i + 1)) }
+    requires count { length all.old.rows.items ≡ length (keys_of job.now) }
+    ensures rows { OnOk result (ShowRows job.now (rows_in all.old.rows.items) (running job.now i).state → ShowRows job.now (rows_in all.new.rows.items) (running job.now (i + 1)).state) }
+    ensures real { OnOk result (AreRealRows job.now (rows_in all.old.rows.items) → AreRealRows job.now (rows_in all.new.rows.items)) }
+    ensures keys { OnOk result (HaveKeys (keys_of job.now) all.old.rows.items → HaveKeys (keys_of job.now) all.new.rows.items) }
+    ensures count { OnOk result (length all.new.rows.items ≡ length all.old.rows.items) }
+    ensures entries { OnOk result (MakeHistory job.now all.old.entries.items i → MakeHistory job.now all.new.entries.items (i + 1)) }
 {
     if !flag.is_valid() {
         return Ok(());
@@ -154,7 +162,7 @@ fn take(
     keys_have_one_order();
     match job.open_tx(i) {
         None => Ok(()),
-        Some(open_tx) => write_all(alloc, keeping, rows, entries, job, i, open_tx),
+        Some(open_tx) => write_all(keeping, all, job, i, open_tx),
     }
 }
 
@@ -169,10 +177,31 @@ fn unwritten(alloc: Global, count: usize) -> Result<Vec<WrittenRow>, AllocError>
     Ok(rows)
 }
 
+/// Adds what all candidates of a job write, whose flags these are.
+fn take_all(
+    keeping: &mut Keeping<'_>,
+    all: &mut Written,
+    job: &Job<'_, '_>,
+    flags: &[Flag],
+) -> Result<(), AllocError>
+    requires flags { flags.now ≡ fold.flags job.now }
+    requires unwritten { all.old.rows.items ≡ replicate (length (keys_of job.now)) None }
+    requires none { all.old.entries.items ≡ [] }
+    ensures rows { OnOk result (ShowRows job.now (rows_in all.new.rows.items) (final_state job.now)) }
+    ensures real { OnOk result (AreRealRows job.now (rows_in all.new.rows.items)) }
+    ensures keys { OnOk result (HaveKeys (keys_of job.now) all.new.rows.items) }
+    ensures count { OnOk result (length all.new.rows.items ≡ length (keys_of job.now)) }
+    ensures entries { OnOk result (MakeHistory job.now all.new.entries.items (length job.now.candidates)) }
+{
+    for i in 0..job.len() {
+        take(keeping, all, job, i, flags[i as usize])?;
+    }
+    Ok(())
+}
+
 /// What all candidates of a job write, whose flags these are: the rows behind them, and the history entries. Linear in
 /// what the valid ones write.
 pub(crate) fn write_block(
-    alloc: Global,
     keeping: &mut Keeping<'_>,
     job: &Job<'_, '_>,
     flags: &[Flag],
@@ -185,20 +214,11 @@ pub(crate) fn write_block(
     ensures entries { IfOk result (λ w. MakeHistory job.now w.entries.items (length job.now.candidates)) }
 {
     let count = job.keys().len();
-    let mut rows = unwritten(alloc, count)?;
-    let mut entries = Vec::with_capacity(alloc, count)?;
-    for i in 0..job.len() {
-        take(
-            alloc,
-            keeping,
-            &mut rows,
-            &mut entries,
-            job,
-            i,
-            flags[i as usize],
-        )?;
-    }
+    let rows = unwritten(keeping.alloc(), count)?;
+    let entries = Vec::with_capacity(keeping.alloc(), count)?;
+    let mut all = Written { rows, entries };
+    take_all(keeping, &mut all, job, flags)?;
     // worlds keep the list, which is shorter where transactions are invalid
-    entries.shrink_to_fit();
-    Ok(Written { rows, entries })
+    all.entries.shrink_to_fit();
+    Ok(all)
 }

@@ -3,9 +3,8 @@ ghost use Rattle.std.specs.Prelude.{◌≡◌, None, IfOk};
 ghost use Rattle.std.specs.Option.{option_copied};
 ghost use Rattle.effects.specs.WrittenRow.{policy_beside, row_by_parts};
 
-use block_steps::{policy_kept, share_policy, share_row, with_policy};
 use policy::Policy;
-use rules::Row;
+use rules::{Row, policy_kept, share_policy, share_row, with_policy};
 use std::alloc::AllocError;
 use transaction::Version;
 use values::Shared;

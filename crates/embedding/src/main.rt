@@ -1,10 +1,10 @@
-//! A program of one's own over the committer: hands blocks in while two threads ask, asks what they left, and says why the last
-//! block's transactions have their flags. `docs/library.md` walks through it.
+//! A program of one's own over the committer: hands blocks in while two threads ask, asks what they left, and says why
+//! the last block's transactions have their flags. `docs/library.md` walks through it.
 #![tactic(auto)]
 
 ghost use Rattle.std.specs.Prelude.{◌≡◌, ◌==◌, length, All};
 
-use answer_lines::{write_accepted, write_reason, write_row};
+use cli_lines::{write_accepted, write_reason, write_row};
 use commit::{Channel, Committer, QueryFault, QueryHandle};
 use gates::Open;
 use ledger::Ledger;
@@ -72,7 +72,7 @@ fn commit_each<R: Threads + Wait + Sync, W: Write>(
     Ok(())
 }
 
-/// The same while each of the other handles is asked by a thread of its own.
+/// Hands the blocks in while each of the other handles is asked by a thread of its own.
 fn commit_while_asked<R: Threads + Wait + Sync, W: Write>(
     rt: &R,
     committer: &mut Committer,

@@ -25,6 +25,7 @@ fn chaincode_passes(job: &Job<'_, '_>, open_tx: &OpenTx<'_>) -> bool
         || meets(&open_tx.signers, job.definition(chaincode))
 }
 
+/// Whether open transaction i passes the endorsement rule.
 fn open_passes<B: Board>(
     job: &Job<'_, '_>,
     i: u32,

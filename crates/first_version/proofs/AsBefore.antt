@@ -223,7 +223,7 @@ map-push : (bs : List CommittedBlock) (b : CommittedBlock) → map seen_block (b
 map-push [] b = refl
 map-push (c ∷ bs) b = ap (λ (l : List answer.CommittedBlock). seen_block c ∷ l) (map-push bs b)
 
-at_end : (bs : List CommittedBlock) (b : CommittedBlock) → slice_get (bs ++ b ∷ []) (length bs) ≡ Some b
+pub at_end : (bs : List CommittedBlock) (b : CommittedBlock) → slice_get (bs ++ b ∷ []) (length bs) ≡ Some b
 at_end [] b = refl
 at_end (c ∷ bs) b = at_end bs b
 
@@ -273,7 +273,7 @@ module _ (channel : Configuration) (accepts : Accepts) (w : World) (bytes : List
   uses_are : commit.uses_from (commit.job_of channel accepts w (commit.items_of b)) 0 (map (candidate.used_id channel accepts) (commit.items_of b)) ≡ was_commit.uses_from was_own 0 (map (was_candidate.used_id was_channel accepts) txs)
   uses_are = (λ i. commit.uses_from (job_is i) 0 (ids_are i)) ∙ uses_same channel.admin was_own 0 (map (was_candidate.used_id was_channel accepts) txs)
 
-  definitions_are : (commit.world_after channel accepts w bytes b).definitions ≡ w.definitions
+  pub definitions_are : (commit.world_after channel accepts w bytes b).definitions ≡ w.definitions
   definitions_are =
       ap (with_definitions w.definitions) ((λ i. fold.definitions_to (job_is i) (length_is i)) ∙ no_definitions channel.admin was_own (length was_own.candidates)) ∙ no_more w.definitions
 

@@ -1,2 +1,4 @@
 mod AsBefore
 mod Determined
+mod Ending
+mod Worked

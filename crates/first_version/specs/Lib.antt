@@ -10,3 +10,4 @@ pub mod Step
 pub mod Chain
 pub mod Seen
 pub mod AsBefore
+pub mod AnswersThen

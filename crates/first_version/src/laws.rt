@@ -9,10 +9,11 @@ ghost use Rattle.rules.specs.World as world;
 ghost use Rattle.rules.specs.Step as step;
 ghost use Rattle.rules.specs.Chain as chain;
 ghost use Rattle.first_version.specs.Answer.{Accepted};
+ghost use Rattle.first_version.specs.AnswersThen.{answers_then};
 ghost use Rattle.first_version.specs.AsBefore.{StepsAsBefore};
 ghost use Rattle.first_version.specs.Chain.{Chain};
 ghost use Rattle.first_version.specs.Configuration.{Configuration};
-ghost use Rattle.first_version.specs.Seen.{seen_channel, seen, seen_answer, IsNoSecond};
+ghost use Rattle.first_version.specs.Seen.{seen_channel, seen, seen_answer, IsFirst, IsNoSecond};
 ghost use Rattle.first_version.specs.Step.{Step};
 ghost use Rattle.first_version.specs.World.{World, empty_world};
 
@@ -27,6 +28,17 @@ pub fn first_version_steps_as_before()
         → AllByRecursion (λ s. IsNoSecond s.bytes) submissions
         → chain.Chain channel (world.empty_world channel.definitions) submissions answers new
         → Chain (seen_channel channel channel.definitions) empty_world submissions (map seen_answer answers) (seen new) }
+{}
+
+/// Laws, and no work: a chain from the empty world of a channel that ends in version 1 leaves the channel's definitions as they were.
+/// It is a chain of the first version over the same strings, and the worlds behind it are the same. The answers are, too, but to
+/// strings that begin with the magic of version 2: each of them was refused, and the first version refuses it for its magic.
+pub fn chains_that_end_in_version_1()
+    ensures definitions { (channel : channel.Configuration) (new : world.World) (submissions : List chain.Submission) (answers : List (Result now.Accepted Refused))
+        → chain.Chain channel (world.empty_world channel.definitions) submissions answers new → IsFirst new → new.definitions ≡ channel.definitions }
+    ensures chain { (channel : channel.Configuration) (new : world.World) (submissions : List chain.Submission) (answers : List (Result now.Accepted Refused))
+        → chain.Chain channel (world.empty_world channel.definitions) submissions answers new → IsFirst new
+        → Chain (seen_channel channel channel.definitions) empty_world submissions (answers_then submissions answers) (seen new) }
 {}
 
 /// Laws, and no work: the step of the first version is a function, want of memory aside. A world and a string of bytes have one

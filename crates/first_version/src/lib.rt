@@ -4,4 +4,6 @@
 
 mod laws;
 
-pub use laws::{first_version_steps_as_before, one_first_version_step};
+pub use laws::{
+    chains_that_end_in_version_1, first_version_steps_as_before, one_first_version_step,
+};

@@ -12,7 +12,8 @@ pub enum Phase {
 /// What workers pass before each check, also before one that is tried again: no verdict has been looked at for it then,
 /// and no lock is held. It can hold a worker back, and changes no verdict.
 pub trait Gate {
-    /// A worker is about to do this with the transaction at `index` of the block.
+    /// Called by a worker that is about to do this with the transaction at `index` of the block. May hold it back; promises
+    /// nothing.
     fn at(&self, phase: Phase, index: u32);
 }
 

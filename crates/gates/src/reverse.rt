@@ -3,7 +3,7 @@ use std::alloc::{AllocError, Global};
 use std::sync::atomic::{AtomicBool, Ordering};
 use std::thread;
 
-/// How often a worker looks whether the next transaction was entered.
+/// How often a worker looks whether the next transaction was entered. It lets other threads run between two looks.
 const TURNS: u32 = 1_000;
 
 /// A gate that lets the checks of a block through in reverse, as far as workers are there to go ahead: each check waits
@@ -39,7 +39,7 @@ fn enter(entered: &[AtomicBool], index: usize) {
 }
 
 impl Reverse {
-    /// For a block of n transactions.
+    /// For a block of n transactions. Takes two bytes for each; an `Err` is want of memory.
     pub fn new(alloc: Global, n: u32) -> Result<Reverse, AllocError> {
         Ok(Reverse {
             endorse: none_entered(alloc, n)?,

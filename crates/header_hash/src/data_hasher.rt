@@ -5,7 +5,7 @@ use sha2::{Digest, Sha256};
 use values::{Hash, Slice};
 
 /// Makes a block's data hash: SHA-256 (FIPS 180-4) of its transactions' bytes, one after the other.
-#[derive(Debug, Drop)]
+#[derive(Drop)]
 pub struct DataHasher {
     hasher: Sha256,
 }

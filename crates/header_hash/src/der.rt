@@ -21,7 +21,7 @@ const MAX_INTEGER: usize = 9;
 const MAX_HEADER: usize = 8 + MAX_INTEGER + 2 * 32;
 
 /// A header in DER, 81 bytes at most. A contract sees the list of them.
-#[derive(Clone, Debug, Drop)]
+#[derive(Drop)]
 pub struct Der {
     bytes: [u8; MAX_HEADER],
     len: usize,

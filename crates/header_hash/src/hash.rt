@@ -30,8 +30,8 @@ pub fn tx_id(nonce: &[u8], creator: &[u8]) -> TxId
     id
 }
 
-/// The commit hash of a block: SHA-256 (FIPS 180-4) of the commit hash before it, or of 32 zero bytes, followed by what the
-/// block changes. Linear in these bytes, and takes no memory.
+/// The commit hash of a block: SHA-256 (FIPS 180-4) of the commit hash before it, or of 32 zero bytes, followed by what
+/// the block changes. Linear in these bytes, and takes no memory.
 pub fn commit_hash(previous: &Hash, changed: &[u8]) -> Hash
     ensures { result ≡ commit_hash_of previous.now changed.now }
 {

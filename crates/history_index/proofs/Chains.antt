@@ -5,8 +5,8 @@ use Rattle.std.specs.FinMap.{get, insert, empty, get-empty, get-insert}
 use Rattle.std.proofs.Math.Seq.{take-suc}
 use Rattle.std.proofs.lemmas.Bool.{eqb-true, eq-eqb}
 use Rattle.std.proofs.lemmas.List.{append-nil, map-append, take-map, get_or-map, length-map, take_all}
-use Rattle.hash_index.specs.Places.{place_or, last_place, last_with}
-use Rattle.hash_index.proofs.Places.{before-bound, before-still, before-filter, before-hit}
+use Rattle.history_index.specs.Places.{place_or, last_place, last_with}
+use Rattle.history_index.proofs.Places.{before-bound, before-still, before-filter, before-hit}
 use Rattle.rules.specs.declared.delta.NewEntry.{NewEntry}
 use Rattle.rules.specs.declared.history.HistoryEntry.{HistoryEntry}
 use Rattle.rules.specs.State.{StateKey, is_same_key, key_cmp}

@@ -1,2 +1,6 @@
+mod Places
+mod Buckets
+mod Linking
+mod Worked
 mod Chains
 mod Standing

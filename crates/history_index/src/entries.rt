@@ -1,5 +1,5 @@
+use crate::hash_index::HashIndex;
 use crate::lists::{Listed, entry_at, newest_of};
-use hash_index::HashIndex;
 use rules::KeptEntry;
 use std::marker::Model;
 use values::{KeyRef, NameRef};

@@ -6,8 +6,8 @@ ghost use Rattle.history_index.specs.Lists.{hashes_of};
 
 use crate::entries::Entries;
 use crate::hash::key_hash;
+use crate::hash_index::HashIndex;
 use crate::lists::Listed;
-use hash_index::HashIndex;
 use rules::KeptEntry;
 use std::alloc::{AllocError, Global};
 use std::marker::Model;
@@ -120,8 +120,8 @@ impl HistoryIndex {
             list_of: self.list_of.as_slice(),
             index: &self.index,
             place: self.index.last(key_hash(namespace, key)),
-            namespace: namespace.again(),
-            key: key.again(),
+            namespace: namespace.reborrow(),
+            key: key.reborrow(),
         }
     }
 }

@@ -3,7 +3,9 @@
 
 mod entries;
 mod hash;
+mod hash_index;
 mod index;
+mod links;
 mod lists;
 
 pub use entries::Entries;

@@ -2,7 +2,7 @@ ghost use Rattle.std.specs.Prelude.{◌≡◌, ◌<◌, ◌≤◌, ◌-◌, leng
 ghost use Rattle.rules.specs.State.{is_same_key};
 ghost use Rattle.history_index.specs.Lists.{all_entries, entries_before, hashes_of, no_entry, AreIn, IsChain, IsPlace};
 
-use hash_index::HashIndex;
+use crate::hash_index::HashIndex;
 use rules::KeptEntry;
 use values::{Items, KeyRef, NameRef, Shared};
 

@@ -20,7 +20,7 @@ use Rattle.candidates.specs.Seen.{seen}
 use Rattle.intake.specs.declared.taking.Taken.{Taken}
 use Rattle.intake.specs.Place.{taken_of, shown}
 use Rattle.intake.specs.Placed.{beside, placed}
-use Rattle.intake.specs.Foreseen.{AreForeseen, marked}
+use Rattle.intake.specs.Tentative.{AreTentative, marked}
 
 -- ---- one place
 
@@ -122,7 +122,7 @@ all_of_block channel accepts uses items taken used same are =
     all_places channel accepts (length taken == 1) uses items taken [] used same are
     ∙ ap (λ (n : ℕ). candidates_from channel accepts (n == 1) uses [] items) (same_length channel accepts taken items same)
 
--- ---- places that were foreseen, and then marked
+-- ---- places that were tentative, and then marked
 
 marked-placed : (alone : Bool) (taken : List Taken) (used : List Bool) → marked (map (λ t. seen (placed alone t false)) taken) used ≡ map seen (map (λ p. placed alone p.0 p.1) (zip taken used))
 marked-placed alone [] used = refl
@@ -130,9 +130,9 @@ marked-placed alone (t ∷ ts) [] = refl
 marked-placed alone (t ∷ ts) (true ∷ us) = λ i. flagged DuplicateTxId ∷ marked-placed alone ts us i
 marked-placed alone (t ∷ ts) (false ∷ us) = λ i. seen (placed alone t false) ∷ marked-placed alone ts us i
 
-pub foreseen-are : (channel : Configuration) (accepts : Accepts) (uses : FirstUses) (items : List (Option Item)) (taken : List Taken) (ids : List (Option (List ℕ))) (cs : List Candidate)
-    → AreForeseen taken ids cs → map shown taken ≡ map (taken_of channel accepts) items → marked cs (marks uses [] ids) ≡ candidates_from channel accepts (length items == 1) uses [] items
-foreseen-are channel accepts uses items taken ids cs are same =
+pub tentative-are : (channel : Configuration) (accepts : Accepts) (uses : FirstUses) (items : List (Option Item)) (taken : List Taken) (ids : List (Option (List ℕ))) (cs : List Candidate)
+    → AreTentative taken ids cs → map shown taken ≡ map (taken_of channel accepts) items → marked cs (marks uses [] ids) ≡ candidates_from channel accepts (length items == 1) uses [] items
+tentative-are channel accepts uses items taken ids cs are same =
     ap (λ (l : List Candidate). marked l (marks uses [] ids)) are.are_candidates
     ∙ marked-placed (length taken == 1) taken (marks uses [] ids)
     ∙ all_of_block channel accepts uses items taken (marks uses [] ids) same (ap (marks uses []) are.are_ids)
@@ -141,17 +141,17 @@ seen_all : (f : Taken → code.Candidate) (taken : List Taken) → map seen (map
 seen_all f [] = refl
 seen_all f (t ∷ ts) = λ i. seen (f t) ∷ seen_all f ts i
 
-pub all_foreseen : (alone : Bool) (taken left : List Taken) (ids : List (Option (List ℕ))) (cs : List code.Candidate) → alone ≡ (length taken == 1)
+pub all_tentative : (alone : Bool) (taken left : List Taken) (ids : List (Option (List ℕ))) (cs : List code.Candidate) → alone ≡ (length taken == 1)
     → map (λ t. t.id) taken ≡ ids ++ map (λ t. t.id) left → map (λ t. placed alone t false) taken ≡ cs ++ map (λ t. placed alone t false) left → length left ≡ 0
-    → AreForeseen taken ids (map seen cs)
-all_foreseen alone taken [] ids cs is all_ids all_cs none = record {
+    → AreTentative taken ids (map seen cs)
+all_tentative alone taken [] ids cs is all_ids all_cs none = record {
   are_ids = sym (append-nil ids) ∙ sym all_ids;
   are_candidates =
       ap (map seen) (sym (append-nil cs) ∙ sym all_cs)
       ∙ seen_all (λ t. placed alone t false) taken
       ∙ ap (λ (a : Bool). map (λ t. seen (placed a t false)) taken) is;
 }
-all_foreseen alone taken (t ∷ ts) ids cs is all_ids all_cs none = absurd (omega (arith, none))
+all_tentative alone taken (t ∷ ts) ids cs is all_ids all_cs none = absurd (omega (arith, none))
 
 -- ---- places that are marked in turn
 

@@ -1,3 +1,3 @@
-pub mod Foreseen
+pub mod Tentative
 pub mod Place
 pub mod Placed

@@ -1,4 +1,4 @@
--- A taken item in its block, where its id is used, or new. A step to Foreseen.
+-- A taken item in its block, where its id is used, or new. A step to Tentative.
 use Rattle.std.specs.Prelude.{Bool, if◌then◌else◌}
 use Rattle.rules.specs.declared.early_flag.EarlyFlag.TheVariants.{DuplicateTxId, InvalidConfigTransaction}
 use Rattle.candidates.specs.declared.candidate.Candidate.{Candidate}

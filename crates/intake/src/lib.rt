@@ -5,5 +5,5 @@
 mod placing;
 mod taking;
 
-pub use placing::{foreseen, foreseen_candidates_are_the_definitions, marked};
+pub use placing::{marked, tentative, tentative_candidates_are_the_definitions};
 pub use taking::{Taken, take_in, take_in_one};

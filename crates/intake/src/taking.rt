@@ -12,9 +12,9 @@ ghost use Rattle.candidates.specs.Seen.{seen};
 ghost use Rattle.candidates.specs.SetsFault.{sets_fault};
 ghost use Rattle.intake.specs.Place.{taken_of, shown};
 
-use block_steps::{decoded_item, origin_fault, origin_of};
 use candidates::{Candidate, InForm, OpenUpdate};
 use channel::Configuration;
+use linking::{decoded_item, origin_fault, origin_of};
 use policy::{Definitions, Policy, PolicyFault};
 use policy_eval::{Verify, signers_with_body, update_signers};
 use rules::EarlyFlag;
@@ -97,6 +97,7 @@ fn update_candidate<'a, V: Verify>(
     Ok(Candidate::Updates(OpenUpdate::new(update, signers, policy)))
 }
 
+/// A place with this flag that uses no id.
 fn without_id<'a>(flag: EarlyFlag) -> Taken<'a>
     ensures { shown result ≡ (None, flagged flag) }
 {
@@ -106,7 +107,8 @@ fn without_id<'a>(flag: EarlyFlag) -> Taken<'a>
     }
 }
 
-/// Takes in one item, as [`take_in`] does all of them.
+/// Takes in one item of a block of this version: the id that it uses, and its candidate as if its block had no other item. The tests,
+/// their order and the memory are those that [`take_in`] has for each item.
 pub fn take_in_one<'a, V: Verify>(
     alloc: Global,
     channel: &Configuration,

@@ -34,6 +34,12 @@ all_shown seen f (p ∷ ps) (taken ∷ lists) made =
     ∙ (ap (λ l. map f (items_of_piece p) ++ l) (all_shown seen f ps lists made.1)
     ∙ sym (map-append f (items_of_piece p) (items_of_pieces ps))))
 
+-- by what rules and pieces are equal to
+pub all_shown_by : {W Y : Type 0} {w rules : W} {ps pieces : List Piece} → w ≡ rules → ps ≡ pieces → (f : W → Option Item → Y) (seen : Taken → Y) (lists : List (Vec Taken Global))
+    → AreMade (λ (p : Piece) (taken : Vec Taken Global). map seen taken.items ≡ map (f w) (items_of_piece p)) ps lists → map seen (all_taken lists) ≡ map (f rules) (items_of_pieces pieces)
+all_shown_by {w = w} {ps = ps} is same f seen lists made =
+    all_shown seen (f w) ps lists made ∙ (λ i. map (f (is i)) (items_of_pieces (same i)))
+
 pub one_more : (version : BlockVersion) (before after : List Piece) (p : Piece) (start count : ℕ) (old : List (Option Item)) (txs : List (List ℕ)) → after ≡ before ++ p ∷ []
     → p.version ≡ version → p.txs.now ≡ take count (drop start txs) → items_of_pieces before ≡ old ++ map (item_of version) (take start txs) → items_of_pieces after ≡ old ++ map (item_of version) (take (start + count) txs)
 one_more version before after p start count old txs is of piece so_far =

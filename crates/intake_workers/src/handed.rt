@@ -2,7 +2,7 @@ ghost use Rattle.std.specs.Prelude.{◌≡◌, map, IfOk};
 ghost use Rattle.transaction.specs.Items.{item_of};
 ghost use Rattle.intake_workers.specs.Pieces.{bytes_in, items_in, txs_in};
 
-use block_steps::DecodedBlock;
+use linking::DecodedBlock;
 use rules::Refused;
 use std::alloc::{AllocError, Global};
 use transaction::BlockVersion;
@@ -15,7 +15,7 @@ pub struct Handed<'a> {
 }
 
 impl<'a> Handed<'a> {
-    /// Its transactions, none where it is no block.
+    /// The bytes of its transactions; none where it is no block.
     pub(crate) fn txs(&self) -> &[Slice<'a>]
         ensures { result.now ≡ txs_in self.now.block }
     {
@@ -25,7 +25,7 @@ impl<'a> Handed<'a> {
         }
     }
 
-    /// Of which its items are read; of version 1 where it is no block.
+    /// The version by which its items are read; version 1 where it is no block, which has none.
     pub(crate) fn version(&self) -> BlockVersion
         ensures { map (item_of result) (txs_in self.now.block) ≡ items_in self.now.block }
     {
@@ -35,7 +35,7 @@ impl<'a> Handed<'a> {
         }
     }
 
-    /// A copy of its bytes, of none where it is no block.
+    /// A copy of the bytes that spell it, shared; an empty one where it is no block. An `Err` is want of memory.
     pub(crate) fn kept_bytes(&self, alloc: Global) -> Result<Shared<Bytes>, AllocError>
         ensures { IfOk result (λ kept. kept ≡ bytes_in self.now.block) }
     {

@@ -2,11 +2,12 @@
 #![tactic(auto)]
 
 mod handed;
-mod hashed;
-mod made;
+mod hash_and_bytes;
 mod piece;
 mod taking;
+mod with_data_hash;
 
 pub use handed::Handed;
-pub use hashed::Hashed;
-pub use taking::{TakenIn, take_in_beside};
+pub use pieces::Crew;
+pub use taking::{IntakeRules, TakenIn, take_in_beside};
+pub use with_data_hash::WithDataHash;

@@ -1,66 +1,59 @@
 //! Workers hash and copy blocks, and take pieces of them in.
 ghost use Rattle.std.specs.Prelude.{◌≡◌, map, IfOk, IsOkAnd};
-ghost use Rattle.transaction.specs.Items.{item_of};
 ghost use Rattle.intake.specs.Place.{taken_of, shown};
 ghost use Rattle.pieces.specs.Pieces.{AreMade};
 ghost use Rattle.intake_workers.specs.Made.{IsMadeOf, block_in};
 ghost use Rattle.intake_workers.specs.Pieces.{all_taken, items_of_all, items_of_piece};
 
 use crate::handed::Handed;
-use crate::hashed::Hashed;
-use crate::made::{HashAndCopy, Made, hashed_all};
+use crate::hash_and_bytes::{HashAndBytes, HashAndCopy, hashed_all};
 use crate::piece::{Piece, cut};
+use crate::with_data_hash::WithDataHash;
 use channel::Configuration;
 use gates::{Gate, Phase};
 use intake::{Taken, take_in_one};
-use pieces::{Work, in_pieces_beside};
+use pieces::{Crew, Pile, Work, in_pieces_beside};
 use policy_eval::Verify;
 use rules::Refused;
 use std::alloc::{AllocError, Global};
 use std::thread::Threads;
-use transaction::BlockVersion;
-use values::Slice;
 
-/// Takes in the items of pieces. Each passes the gate first.
+/// By what transactions are taken in: whose rules hold, who verifies signatures, and the gate that each transaction passes first.
 #[derive(Clone, Copy)]
-struct TakeIn<'s, V, G> {
-    channel: &'s Configuration,
-    verifier: &'s V,
-    gate: &'s G,
+pub struct IntakeRules<'s, V, G> {
+    pub channel: &'s Configuration,
+    pub verifier: &'s V,
+    pub gate: &'s G,
 }
 
-impl<'t, 'a, 's, V: Verify, G: Gate> Work<Piece<'t, 'a>, Vec<Taken<'a>>> for TakeIn<'s, V, G> {
+impl<'t, 'a, 's, V: Verify, G: Gate> Work<Piece<'t, 'a>, Vec<Taken<'a>>> for IntakeRules<'s, V, G> {
     ghost gives = { λ s piece taken. map shown taken.items ≡ map (taken_of s.channel.now (V.accepts s.verifier.now)) (items_of_piece piece) };
 
     fn make(&self, alloc: Global, piece: &Piece<'t, 'a>) -> Result<Vec<Taken<'a>>, AllocError> {
-        take_piece(
-            alloc,
-            self.channel,
-            self.verifier,
-            self.gate,
-            piece.version,
-            piece.start,
-            piece.txs,
-        )
+        take_piece(alloc, self, piece)
     }
 }
 
 fn take_piece<'a, V: Verify, G: Gate>(
     alloc: Global,
-    channel: &Configuration,
-    verifier: &V,
-    gate: &G,
-    version: BlockVersion,
-    start: usize,
-    txs: &[Slice<'a>],
+    rules: &IntakeRules<'_, V, G>,
+    piece: &Piece<'_, 'a>,
 ) -> Result<Vec<Taken<'a>>, AllocError>
-    ensures { IfOk result (λ taken. map shown taken.items ≡ map (taken_of channel.now (V.accepts verifier.now)) (map (item_of version) txs.now)) }
+    ensures { IfOk result (λ taken. map shown taken.items ≡ map (taken_of rules.now.channel.now (V.accepts rules.now.verifier.now)) (items_of_piece piece.now)) }
 {
-    let mut all = Vec::with_capacity(alloc, txs.len())?;
-    let mut index = start;
-    for bytes in txs {
-        gate.at(Phase::Intake, u32::try_from(index).unwrap_or(u32::MAX));
-        all.push(take_in_one(alloc, channel, verifier, version, bytes.as_slice())?)?;
+    let mut all = Vec::with_capacity(alloc, piece.txs.len())?;
+    let mut index = piece.start;
+    for bytes in piece.txs {
+        rules
+            .gate
+            .at(Phase::Intake, u32::try_from(index).unwrap_or(u32::MAX));
+        all.push(take_in_one(
+            alloc,
+            rules.channel,
+            rules.verifier,
+            piece.version,
+            bytes.as_slice(),
+        )?)?;
         index = index.wrapping_add(1);
     }
     Ok(all)
@@ -70,7 +63,7 @@ fn take_piece<'a, V: Verify, G: Gate>(
 #[derive(Drop)]
 pub struct TakenIn<'a> {
     /// Each block, or why there is none.
-    pub blocks: Vec<Result<Hashed<'a>, Refused>>,
+    pub blocks: Vec<Result<WithDataHash<'a>, Refused>>,
     /// All items of all blocks, in lists that follow one another.
     pub taken: Vec<Vec<Taken<'a>>>,
 }
@@ -90,48 +83,39 @@ fn useful(workers: usize, pieces: &[Piece<'_, '_>]) -> usize {
     workers.min(pieces.len().saturating_add(1))
 }
 
-/// What is made of blocks, each by itself, and of their pieces.
+/// The data hash and the bytes of each block, and what is taken in of each piece, or that memory was refused.
+type MadeOfBlocks<'a> = Result<(Vec<HashAndBytes>, Vec<Vec<Taken<'a>>>), AllocError>;
+
+/// What is made of blocks, each by itself, and of their pieces; and what the calling thread made before.
 fn made_beside<'a, R: Threads + Sync, V: Verify + Sync, G: Gate + Sync, Z, F: FnMut() -> Z>(
-    rt: &R,
-    alloc: Global,
-    channel: &Configuration,
-    verifier: &V,
-    gate: &G,
+    crew: &Crew<'_, R>,
+    rules: &IntakeRules<'_, V, G>,
     blocks: &[Handed<'a>],
-    workers: usize,
     own: &mut F,
-) -> (Result<(Vec<Made>, Vec<Vec<Taken<'a>>>), AllocError>, Z)
+) -> (MadeOfBlocks<'a>, Z)
     requires { F.pre own.old }
     ensures made { IfOk result.0 (λ r. AreMade IsMadeOf blocks.now r.0.items) }
-    ensures taken { IfOk result.0 (λ r. map shown (all_taken r.1.items) ≡ map (taken_of channel.now (V.accepts verifier.now)) (items_of_all blocks.now)) }
+    ensures taken { IfOk result.0 (λ r. map shown (all_taken r.1.items) ≡ map (taken_of rules.now.channel.now (V.accepts rules.now.verifier.now)) (items_of_all blocks.now)) }
     ensures own { F.step own.old result.1 own.new }
 {
-    let pieces = match cut(alloc, blocks) {
+    let pieces = match cut(crew.alloc, blocks) {
         Ok(pieces) => pieces,
         Err(e) => return (Err(e), own()),
     };
     let pieces = pieces.as_slice();
-    let work = TakeIn {
-        channel,
-        verifier,
-        gate,
+    let crew = Crew {
+        rt: crew.rt,
+        alloc: crew.alloc,
+        workers: useful(crew.workers, pieces),
     };
-    in_pieces_beside(
-        rt,
-        alloc,
-        blocks,
-        &HashAndCopy,
-        pieces,
-        &work,
-        useful(workers, pieces),
-        own,
-    )
+    let whole = Pile::new(blocks, &HashAndCopy);
+    in_pieces_beside(&crew, &whole, &Pile::new(pieces, rules), own)
 }
 
 fn taken_in<'a>(
     alloc: Global,
     blocks: Vec<Handed<'a>>,
-    made: Result<(Vec<Made>, Vec<Vec<Taken<'a>>>), AllocError>,
+    made: MadeOfBlocks<'a>,
 ) -> Result<TakenIn<'a>, AllocError>
     requires { IfOk made (λ m. AreMade IsMadeOf blocks.items m.0.items) }
     ensures blocks { IfOk result (λ r. map block_in r.blocks.items ≡ map (λ h. h.block) blocks.entry.items) }
@@ -142,36 +126,24 @@ fn taken_in<'a>(
     Ok(TakenIn { blocks, taken })
 }
 
-/// Takes in all items of blocks, in order, by so many workers, as [`intake::take_in`] does on one thread, and
-/// makes the data hash of each block and a copy of its bytes. Each transaction passes the gate first.
+/// Takes in all items of blocks, in order, by a crew, and makes the data hash of each block and a copy of its bytes. What comes
+/// out is what [`intake::take_in`] takes in of one block after the other.
 ///
-/// The calling thread does its own work first, and then what is left. The other workers are threads, which hash and copy
-/// blocks before they take in pieces of at most 32 transactions and, where there are more than one, at most 1 MiB; one that
-/// can't be started is done without. No more are started than there are pieces.
+/// The calling thread calls `own` first, whose result is the second one here, and then does what is left. The other workers are
+/// threads. Whole blocks are hashed and copied before pieces are taken in; a piece has at most 32 transactions and, where it has
+/// more than one, at most 1 MiB of them. A thread that can't be started is done without. No more are started than there are
+/// pieces, and none for fewer than 16 transactions. An `Err` is want of memory alone.
 pub fn take_in_beside<'a, R: Threads + Sync, V: Verify + Sync, G: Gate + Sync, Z, F: FnMut() -> Z>(
-    rt: &R,
-    alloc: Global,
-    channel: &Configuration,
-    verifier: &V,
-    gate: &G,
+    crew: &Crew<'_, R>,
+    rules: &IntakeRules<'_, V, G>,
     blocks: Vec<Handed<'a>>,
-    workers: usize,
     own: &mut F,
 ) -> (Result<TakenIn<'a>, AllocError>, Z)
     requires { F.pre own.old }
     ensures blocks { IfOk result.0 (λ r. map block_in r.blocks.items ≡ map (λ h. h.block) blocks.entry.items) }
-    ensures taken { IfOk result.0 (λ r. map shown (all_taken r.taken.items) ≡ map (taken_of channel.now (V.accepts verifier.now)) (items_of_all blocks.entry.items)) }
+    ensures taken { IfOk result.0 (λ r. map shown (all_taken r.taken.items) ≡ map (taken_of rules.now.channel.now (V.accepts rules.now.verifier.now)) (items_of_all blocks.entry.items)) }
     ensures own { F.step own.old result.1 own.new }
 {
-    let (made, done) = made_beside(
-        rt,
-        alloc,
-        channel,
-        verifier,
-        gate,
-        blocks.as_slice(),
-        workers,
-        own,
-    );
-    (taken_in(alloc, blocks, made), done)
+    let (made, done) = made_beside(crew, rules, blocks.as_slice(), own);
+    (taken_in(crew.alloc, blocks, made), done)
 }

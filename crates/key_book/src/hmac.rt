@@ -33,7 +33,7 @@ fn key_xor(key: &[u8], pad: u8) -> [u8; BLOCK]
 }
 
 /// Both paddings of a key, hashed once for all messages (RFC 2104, section 4).
-#[derive(Debug, Drop)]
+#[derive(Drop)]
 pub(crate) struct HashedPads {
     inner: Sha256,
     outer: Sha256,
@@ -61,8 +61,8 @@ impl HashedPads {
         HashedPads { inner, outer }
     }
 
-    /// The 32 bytes of HMAC-SHA-256 of the message, under the key whose paddings these are. Linear in the message; takes
-    /// no memory, and copies no part of the message but what SHA-256 buffers.
+    /// The 32 bytes of HMAC-SHA-256 of the message, under the key whose paddings these are. Linear in the message;
+    /// takes no memory, and copies no part of the message but what SHA-256 buffers.
     pub(crate) fn hmac(&self, message: &[u8]) -> Hash
         ensures { (key : List ℕ) → AreHashedPads key self.now → result ≡ hmac key message.now }
     {

@@ -45,7 +45,7 @@ fn read_entries(alloc: Global, text: &str) -> Result<Vec<Keyed>, KeyBookFault>
 
 /// The keys that identities sign with, shared by all who sign and all who verify: a stand-in for
 /// certificates. A contract sees the list of its entries.
-#[derive(Debug, Drop)]
+#[derive(Drop)]
 pub struct KeyBook {
     entries: Vec<Keyed>,
 }

@@ -31,7 +31,7 @@ fn read_key(alloc: Global, digits: &[u8]) -> Result<Option<Bytes>, AllocError>
 }
 
 /// An identity, and the key of 1 to 64 bytes that it signs with.
-#[derive(Debug, Drop)]
+#[derive(Drop)]
 pub struct Keyed {
     identity: OwnedIdentity,
     key: Bytes,
@@ -73,6 +73,7 @@ impl Keyed {
         }))
     }
 
+    /// The identity, lent.
     pub fn identity(&self) -> Identity<'_>
         ensures { result ≡ self.now.identity }
     {

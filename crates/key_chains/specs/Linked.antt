@@ -1,4 +1,4 @@
--- Lists by a link, which is the number of the entry that they begin with, or none.
+-- Lists by a link, which is the number of the entry that they begin with, or none. No public contract cites this.
 use Rattle.std.specs.Prelude.{◌≡◌, ℕ, ◌<◌, List, [], length, Option, Some, None, IfSome, slice_index_or}
 
 abbrev pub chain_in : {X : Type 0} → List (List X) → Option ℕ → List X

@@ -1,4 +1,4 @@
--- The numbers of keys: their places in a list of keys.
+-- The numbers of keys: their places in a list of keys. No public contract cites this.
 use Rattle.std.specs.Prelude.{ℕ, suc, List, [], ◌∷◌, Option, Some, None, option_map, if◌then◌else◌}
 use Rattle.rules.specs.State.{StateKey, is_same_key}
 

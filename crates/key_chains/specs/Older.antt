@@ -1,4 +1,4 @@
--- The operations before a candidate.
+-- The operations before a candidate. No public contract cites this.
 use Rattle.std.specs.Prelude.{ℕ, suc, Option, Some, None, List, [], ◌∷◌, nat_lt, if◌then◌else◌}
 use Rattle.key_chains.specs.declared.operation.Operation.{Operation}
 

@@ -121,7 +121,7 @@ fn add_keys<'a>(keys: &mut Vec<StateKey<'a>>, written: &[WrittenKey<'a>]) -> Res
     ensures { OnOk result (keys.new.items ≡ keys.old.items ++ map (λ w. w.key) written.now) }
 {
     for one in written {
-        keys.push(one.key.again())?;
+        keys.push(one.key.reborrow())?;
     }
     Ok(())
 }

@@ -15,8 +15,8 @@ ghost use Rattle.key_chains.specs.PolicyWriters.{policy_writers};
 ghost use Rattle.state_db.specs.Batch.{changed};
 ghost use Rattle.state_db.specs.LookedUp.{AreRows};
 
-use crate::chained::Chained;
 use crate::chains::{Chains, newest_on};
+use crate::key_writers::KeyWriters;
 use crate::links::{Operations, PolicyWriters};
 use candidates::{Candidate, OpenTx, StateKey};
 use policy::{Definitions, Policy};
@@ -70,8 +70,8 @@ fn item_of<T: Copy>(items: &[T], firsts: &[usize], i: u32, item: usize) -> T
 }
 
 impl<'s, 'b> Job<'s, 'b> {
-    /// The job of a block's candidates, over the state before the block: what [`Chained::build`] does of them, and a search for the row of
-    /// each key that they write.
+    /// The job of a block's candidates over the state before the block: the key writers of [`KeyWriters::build`], and a search for the
+    /// row of each key that they write. Memory for both; `Err` where it is refused.
     pub fn build(
         alloc: Global,
         number: u64,
@@ -83,25 +83,25 @@ impl<'s, 'b> Job<'s, 'b> {
         requires { length candidates.items ≤ max_txs }
         ensures { IfOk result (λ j. j ≡ record { number = number; state = state.entry.now.state; definitions = definitions.entry.now; admin = option_copied admin.entry; candidates = map seen candidates.entry.items }) }
     {
-        let chained = Chained::build(alloc, candidates)?;
-        let found = state.rows_of(alloc, chained.keys())?;
-        Ok(Job::of_found(number, state, definitions, admin, chained, found))
+        let key_writers = KeyWriters::build(alloc, candidates)?;
+        let found = state.rows_of(alloc, key_writers.keys())?;
+        Ok(Job::of_found(number, state, definitions, admin, key_writers, found))
     }
 
-    /// The same of candidates whose operations are linked, where the row of each key that they write was found. Constant time.
+    /// The job of candidates whose operations are linked already, with the row found for each key that they write. Constant time.
     pub fn of_found(
         number: u64,
         state: &'s StateDb,
         definitions: &'s Definitions,
         admin: Option<&'s Policy>,
-        chained: Chained<'b>,
+        key_writers: KeyWriters<'b>,
         found: FoundRows<'s>,
     ) -> Job<'s, 'b>
-        requires few { length chained ≤ max_txs }
-        requires found { AreRows state.now.state (keys_in chained) found.rows.items }
-        ensures { result ≡ record { number = number; state = state.entry.now.state; definitions = definitions.entry.now; admin = option_copied admin.entry; candidates = chained.entry } }
+        requires few { length key_writers ≤ max_txs }
+        requires found { AreRows state.now.state (keys_in key_writers) found.rows.items }
+        ensures { result ≡ record { number = number; state = state.entry.now.state; definitions = definitions.entry.now; admin = option_copied admin.entry; candidates = key_writers.entry } }
     {
-        let Chained { candidates, chains } = chained;
+        let KeyWriters { candidates, chains } = key_writers;
         Job {
             number,
             state,
@@ -113,11 +113,11 @@ impl<'s, 'b> Job<'s, 'b> {
         }
     }
 
-    /// What it has that needs no state.
-    pub fn into_chained(self) -> Chained<'b>
+    /// Gives up the state and keeps the candidates with the operations on their keys.
+    pub fn into_key_writers(self) -> KeyWriters<'b>
         ensures { result ≡ self.entry.candidates }
     {
-        Chained {
+        KeyWriters {
             candidates: self.candidates,
             chains: self.chains,
         }
@@ -215,7 +215,7 @@ impl<'s, 'b> Job<'s, 'b> {
         self.state.range(namespace, start, end)
     }
 
-    /// The batch of these changes, with guesses of the places of keys that the block writes. Takes memory for it.
+    /// The batch of these changes; a key that the block writes is sought where it was found before. Memory for the batch.
     pub fn batch_of(&self, alloc: Global, changes: &[Change]) -> Result<Batch, AllocError>
         ensures { IfOk result (λ batch. (s : State) → changed s batch ≡ with_changes s (changes_in changes.now)) }
     {
@@ -231,14 +231,14 @@ impl<'s, 'b> Job<'s, 'b> {
             .update_bytes(batch, self.chains.keys.as_slice(), &self.found)
     }
 
-    /// The policy of a chaincode.
+    /// The policy of a chaincode before the block, where it has a definition.
     pub fn definition(&self, namespace: &NameRef<'_>) -> Option<&'s Policy>
         ensures { option_copied result ≡ get self.now.definitions namespace.now }
     {
         self.definitions.of(namespace)
     }
 
-    /// The operations on a key before candidate i.
+    /// The operations on a key before candidate i, the newest first. A search for the key, and a walk over newer operations.
     pub fn operations_before(&self, i: u32, key: &StateKey<'_>) -> Operations<'_>
         ensures { result ≡ operations self.now.candidates key.now i }
     {
@@ -278,7 +278,7 @@ impl<'s, 'b> Job<'s, 'b> {
         chains.policy_writers.chain(written.policy_writers)
     }
 
-    /// The candidates that write the policy of a key, in the whole block.
+    /// The candidates of the whole block that write the policy of a key, the newest first. A search for the key.
     pub fn policy_writers_of(&self, key: &StateKey<'_>) -> PolicyWriters<'_>
         ensures { result ≡ policy_writers self.now.candidates key.now (length self.now.candidates) }
     {
@@ -286,7 +286,7 @@ impl<'s, 'b> Job<'s, 'b> {
         writers.chain(newest_on(&self.chains.keys, writers, key))
     }
 
-    /// The keys of a namespace that the block writes, from a start to before an end, an empty end being no bound.
+    /// The keys of a namespace that the block writes, from a start to before an end, an empty end being no bound. Logarithmic.
     pub fn keys_between(
         &self,
         namespace: &NameRef<'_>,

@@ -2,10 +2,10 @@
 #![tactic(auto)]
 
 mod board;
-mod chained;
 mod chains;
 mod decision;
 mod job;
+mod key_writers;
 mod links;
 mod numbering;
 mod operation;
@@ -13,9 +13,9 @@ mod plain_board;
 
 pub use board::Board;
 pub use candidates::{Candidate, OpenTx, StateKey, WrittenKey};
-pub use chained::Chained;
 pub use decision::Decision;
 pub use job::Job;
+pub use key_writers::KeyWriters;
 pub use links::{Chain, Operations, PolicyWriters};
 pub use operation::{Kind, Operation};
 pub use plain_board::{Cells, PlainBoard};

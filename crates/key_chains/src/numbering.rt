@@ -46,6 +46,7 @@ fn place_of<'k>(keys: &[StateKey<'k>], key: &StateKey<'k>) -> Option<usize>
     keys.binary_search(key).ok()
 }
 
+/// Whether a key stands before a bound in a namespace.
 fn is_before(key: &StateKey<'_>, namespace: &NameRef<'_>, bound: &[u8]) -> bool
     ensures { result ≡ is_lt (key_cmp key.now (namespace.now, bound.now)) }
 {
@@ -55,6 +56,7 @@ fn is_before(key: &StateKey<'_>, namespace: &NameRef<'_>, bound: &[u8]) -> bool
     }
 }
 
+/// Whether a key stands in the namespaces up to this one.
 fn is_through(key: &StateKey<'_>, namespace: &NameRef<'_>) -> bool
     ensures { result ≡ is_le (bytes_cmp key.now.0 namespace.now) }
 {
@@ -104,7 +106,7 @@ fn count_below(keys: &[StateKey<'_>], namespace: &NameRef<'_>, end: &[u8]) -> us
 }
 
 impl<'a> Numbering<'a> {
-    /// Numbers these keys. Takes no memory; n log n comparisons.
+    /// Numbers these keys, in n log n comparisons. Takes no memory; `Err` where their count has more than 32 bits.
     pub fn new(keys: Vec<StateKey<'a>>) -> Result<Numbering<'a>, AllocError>
         ensures { IfOk result (λ n. n ≡ keys_in_order keys.entry.items) }
     {
@@ -115,6 +117,7 @@ impl<'a> Numbering<'a> {
         Ok(Numbering { keys })
     }
 
+    /// The keys in their order.
     pub fn as_slice(&self) -> &[StateKey<'a>]
         ensures { result.now ≡ self.now }
     {

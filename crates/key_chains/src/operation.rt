@@ -1,5 +1,5 @@
 /// What a transaction does to a key.
-#[derive(Clone, Copy, Debug, PartialEq, Eq)]
+#[derive(Clone, Copy)]
 pub enum Kind {
     /// It writes the key's value.
     Value,
@@ -10,7 +10,7 @@ pub enum Kind {
 }
 
 /// An operation on a key, with the place of its transaction.
-#[derive(Clone, Copy, Debug, PartialEq, Eq)]
+#[derive(Clone, Copy)]
 pub struct Operation {
     pub tx: u32,
     pub kind: Kind,

@@ -7,7 +7,7 @@ use std::alloc::{AllocError, Global};
 use std::marker::Model;
 
 /// What is known of one candidate.
-#[derive(Clone, Copy, Debug, PartialEq, Eq)]
+#[derive(Clone, Copy)]
 pub struct Cells {
     pub endorsed: Option<bool>,
     pub flag: Option<Flag>,
@@ -29,7 +29,7 @@ impl Model for PlainBoard {
 }
 
 impl PlainBoard {
-    /// For so many candidates, of which nothing is known.
+    /// A board for so many candidates, of which nothing is known. Memory for two cells each.
     pub fn new(alloc: Global, count: usize) -> Result<PlainBoard, AllocError>
         ensures { IfOk result (λ b. b ≡ replicate count no_cells) }
     {
@@ -50,7 +50,7 @@ impl PlainBoard {
         self.cells.as_slice()[i as usize]
     }
 
-    /// From now on this is known of a candidate.
+    /// Sets what is known of a candidate.
     pub fn set(&mut self, i: u32, cells: Cells)
         requires { i < length self.old }
         ensures { self.new ≡ slice_set self.old i cells }

@@ -11,11 +11,11 @@ ghost use Rattle.ledger.specs.NextReasons.{AreNextReasons, AreFound};
 
 use crate::serial::take_in_next;
 use channel::Configuration;
-use explanations::reason_of;
 use key_chains::{Job, PlainBoard};
 use next_block::job_of;
 use policy_eval::Verify;
 use reasons::{Reason, each_place_has_one_reason};
+use reasons_from_state::{FlaggedBlock, reason_of};
 use rules::{Flag, Refused};
 use serial_checks::verdicts;
 use std::alloc::{AllocError, Global};
@@ -23,39 +23,47 @@ use transaction::{BlockVersion, TxId};
 use values::{Items, Slice};
 use world::World;
 
-/// The reason of each place of a block of this version, of its job, its ids, its flags and all verdicts; none where one has none, which
-/// doesn't happen.
+/// What the reasons of a block are found by: the channel, the world before it, its version and the bytes of its transactions, its
+/// job and the ids that its places use.
+#[derive(Clone, Copy)]
+struct Grounds<'e, 's, 'b> {
+    channel: &'e Configuration,
+    world: &'e World,
+    version: BlockVersion,
+    txs: &'e [Slice<'b>],
+    job: &'e Job<'s, 'b>,
+    ids: &'e [Option<TxId>],
+}
+
+/// The reason of each place, by the flags and all verdicts; none where one has none, which doesn't happen.
 fn all_reasons(
     alloc: Global,
-    channel: &Configuration,
-    world: &World,
-    version: BlockVersion,
-    txs: &[Slice<'_>],
-    job: &Job<'_, '_>,
-    ids: &[Option<TxId>],
+    grounds: &Grounds<'_, '_, '_>,
     flags: &[Flag],
     board: &mut PlainBoard,
 ) -> Result<Option<Items<Reason>>, AllocError>
-    requires count { length txs.now ≡ length job.now.candidates }
-    requires ids { length ids.now ≡ length job.now.candidates }
-    requires flags { flags.now ≡ fold.flags job.now }
-    requires few { length ids.now ≤ max_txs }
-    requires shown { Shows job.now board.old }
-    ensures { IfOk result (λ reasons. AreFound channel.now world.now (map (item_of version) txs.now) job.now ids.now reasons) }
+    requires count { length grounds.now.txs.now ≡ length grounds.now.job.now.candidates }
+    requires ids { length grounds.now.ids.now ≡ length grounds.now.job.now.candidates }
+    requires flags { flags.now ≡ fold.flags grounds.now.job.now }
+    requires few { length grounds.now.ids.now ≤ max_txs }
+    requires shown { Shows grounds.now.job.now board.old }
+    ensures { IfOk result (λ reasons. AreFound grounds.now.channel.now grounds.now.world.now (map (item_of grounds.now.version) grounds.now.txs.now) grounds.now.job.now grounds.now.ids.now reasons) }
 {
     each_place_has_one_reason();
-    let mut reasons = Vec::with_capacity(alloc, txs.len())?;
-    for (i, bytes) in txs.iter().enumerate() {
-        let place = i as u32;
+    let block = FlaggedBlock {
+        channel: grounds.channel,
+        world: grounds.world,
+        version: grounds.version,
+        ids: grounds.ids,
+        flags,
+    };
+    let mut reasons = Vec::with_capacity(alloc, grounds.txs.len())?;
+    for (i, bytes) in grounds.txs.iter().enumerate() {
         let found = reason_of(
             alloc,
-            channel,
-            world,
-            job,
-            ids,
-            flags,
-            place,
-            version,
+            &block,
+            grounds.job,
+            i as u32,
             bytes.as_slice(),
             board,
         )?;
@@ -67,33 +75,18 @@ fn all_reasons(
     Ok(Some(Items::from_vec(reasons)))
 }
 
-/// The reasons of the places of a block of this version, of its job and ids.
+/// The reason of each place of a block.
 fn found_reasons(
     alloc: Global,
-    channel: &Configuration,
-    world: &World,
-    version: BlockVersion,
-    txs: &[Slice<'_>],
-    job: &Job<'_, '_>,
-    ids: &[Option<TxId>],
+    grounds: &Grounds<'_, '_, '_>,
 ) -> Result<Option<Items<Reason>>, AllocError>
-    requires count { length txs.now ≡ length job.now.candidates }
-    requires ids { length ids.now ≡ length job.now.candidates }
-    requires few { length ids.now ≤ max_txs }
-    ensures { IfOk result (λ reasons. AreFound channel.now world.now (map (item_of version) txs.now) job.now ids.now reasons) }
+    requires count { length grounds.now.txs.now ≡ length grounds.now.job.now.candidates }
+    requires ids { length grounds.now.ids.now ≡ length grounds.now.job.now.candidates }
+    requires few { length grounds.now.ids.now ≤ max_txs }
+    ensures { IfOk result (λ reasons. AreFound grounds.now.channel.now grounds.now.world.now (map (item_of grounds.now.version) grounds.now.txs.now) grounds.now.job.now grounds.now.ids.now reasons) }
 {
-    let (mut board, flags) = verdicts(alloc, job)?;
-    all_reasons(
-        alloc,
-        channel,
-        world,
-        version,
-        txs,
-        job,
-        ids,
-        flags.as_slice(),
-        &mut board,
-    )
+    let (mut board, flags) = verdicts(alloc, grounds.job)?;
+    all_reasons(alloc, grounds, flags.as_slice(), &mut board)
 }
 
 /// Reasons of which it is known that they are there.
@@ -120,13 +113,13 @@ pub(crate) fn next_reasons<V: Verify>(
 {
     let (block, taken) = take_in_next(alloc, channel, world, bytes, verifier)?;
     let (job, ids) = job_of(alloc, channel, world, taken)?;
-    there(found_reasons(
-        alloc,
+    let grounds = Grounds {
         channel,
         world,
-        block.version(),
-        block.txs(),
-        &job,
-        ids.as_slice(),
-    ))
+        version: block.version(),
+        txs: block.txs(),
+        job: &job,
+        ids: ids.as_slice(),
+    };
+    there(found_reasons(alloc, &grounds))
 }

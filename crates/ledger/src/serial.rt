@@ -8,11 +8,11 @@ ghost use Rattle.rules.specs.Linked.{IsLinked, IsRefused};
 ghost use Rattle.next_block.specs.NextDelta.{IsDeltaOfJob, IsNextDelta};
 ghost use Rattle.next_block.specs.Taken.{IsNextTakenIn};
 
-use block_steps::{DecodedBlock, LinkedBlock};
 use channel::Configuration;
 use intake::{Taken, take_in};
 use key_chains::Job;
-use next_block::{delta_of, job_of};
+use linking::{DecodedBlock, LinkedBlock};
+use next_block::{NextBlock, job_of, pending_delta_of};
 use policy_eval::Verify;
 use rules::Refused;
 use serial_checks::flags;
@@ -57,9 +57,11 @@ fn delta_in_order(
     requires few { length ids.now ≤ max_txs }
     ensures { MatchResult result (IsDeltaOfJob job.now ids.now last (bytes_of block.now) block.now) (λ refused. refused ≡ Memory) }
 {
-    let kept = block.kept_bytes(alloc)?;
+    let bytes = block.kept_bytes(alloc)?;
     let flags = flags(alloc, job)?;
-    Ok(delta_of(alloc, kept, block, last, job, ids, flags)?)
+    let next = NextBlock { block, bytes, last };
+    let pending = pending_delta_of(alloc, next, job, ids, flags)?;
+    Ok(pending.ready(alloc)?)
 }
 
 /// What the block of these bytes would change, or why it would be refused.

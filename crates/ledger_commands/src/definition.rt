@@ -1,9 +1,8 @@
-use crate::fault::Fault;
-use crate::files::Files;
 use crate::progress::Progress;
 use crate::question::{Question, answer};
-use answer_lines::write_definition;
-use command_words::DefinitionQuery;
+use cli_lines::write_definition;
+use cli_words::DefinitionQuery;
+use command_files::{Fault, Files};
 use std::alloc::Global;
 use std::io::Write;
 use values::Name;
@@ -24,8 +23,8 @@ impl Question for DefinitionOf {
     }
 }
 
-/// Reads the name and the files, hands the blocks in, and writes the chaincode's policy. Beside what the blocks take, the
-/// memory is the name, the policy's text and a buffer of a fixed size.
+/// Reads the name and the files, hands the blocks in, and writes the chaincode's policy. Beside what the blocks take,
+/// the memory is the name, the policy's text and a buffer of a fixed size.
 pub fn print_definition<'a, F: Files, W: Write, P: Progress>(
     alloc: Global,
     files: &F,

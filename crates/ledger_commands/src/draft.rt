@@ -1,22 +1,33 @@
-ghost use Rattle.std.specs.Prelude.{◌+◌, ◌<◌, ◌^◌, IfOk, IfSome};
+ghost use Rattle.std.specs.Prelude.{◌≡◌, ◌↔◌, ◌+◌, ◌<◌, ◌^◌, IfOk, IfSome};
+ghost use Rattle.command_files.specs.declared.fault.Fault.TheVariants.{Memory};
+ghost use Rattle.drafts.specs.declared.fault.DraftFault.TheVariants as draft_fault;
 
-use crate::fault::Fault;
-use crate::files::Files;
-use crate::inputs::{Configuration, read_file, text_in};
-use crate::status::ACCEPTED;
-use block::{BlockFault, BlockVersion, Header, decode_block};
-use command_words::Draft;
+use block::{BlockFault, Header, decode_block};
+use cli_words::Draft;
+use command_files::{ACCEPTED, Configuration, Fault, Files, read_file, text_in};
+use drafts::DraftFault;
 use std::alloc::Global;
 use values::Bytes;
+
+// This header, where another block can follow it.
+fn before_another<'a>(path: &'a str, header: Header) -> Result<Header, Fault<'a>>
+    ensures { IfOk result (λ header. header.number + 1 < 2 ^ 64) }
+{
+    if header.number < u64::MAX {
+        Ok(header)
+    } else {
+        Err(Fault::NotABlock(path))
+    }
+}
 
 // The header in a block's bytes, where another block can follow it.
 fn header_in<'a>(alloc: Global, path: &'a str, bytes: &Bytes) -> Result<Header, Fault<'a>>
     ensures { IfOk result (λ header. header.number + 1 < 2 ^ 64) }
 {
     match decode_block(alloc, bytes.as_slice()) {
-        Ok(block) if block.header.number < u64::MAX => Ok(block.header),
+        Ok(block) => before_another(path, block.header),
         Err(BlockFault::Memory) => Err(Fault::Memory),
-        _ => Err(Fault::NotABlock(path)),
+        Err(_) => Err(Fault::NotABlock(path)),
     }
 }
 
@@ -34,42 +45,44 @@ fn read_header<'a, F: Files>(
     Ok(Some(header_in(alloc, path, &bytes)?))
 }
 
+// The fault of the script in the file of this path.
+fn fault_of<'a>(path: &'a str, fault: DraftFault) -> Fault<'a>
+    ensures { result ≡ Memory ↔ fault ≡ draft_fault.Memory }
+{
+    match fault {
+        DraftFault::Line(line) => Fault::Line(path, line),
+        DraftFault::Memory => Fault::Memory,
+    }
+}
+
 // The block that the script drafts behind this header.
 fn drafted<'a>(
     alloc: Global,
     configuration: &Configuration,
-    version: BlockVersion,
+    words: &Draft<'a>,
     previous: Option<Header>,
-    path: &'a str,
     script: &Bytes,
 ) -> Result<Bytes, Fault<'a>>
     requires { IfSome previous (λ h. h.number + 1 < 2 ^ 64) }
 {
-    let text = text_in(path, script)?;
+    let text = text_in(words.script, script)?;
     drafts::draft(
         alloc,
         configuration.channel.name(),
         &configuration.keys,
-        version,
+        words.version,
         previous,
         text,
     )
-    .map_err(|fault| Fault::of_draft(path, fault))
+    .map_err(|fault| fault_of(words.script, fault))
 }
 
-// The same, of the files that the words name.
+// The block that the files draft, which the words name.
 fn block<'a, F: Files>(alloc: Global, files: &F, words: &Draft<'a>) -> Result<Bytes, Fault<'a>> {
     let configuration = Configuration::read(alloc, files, &words.configuration)?;
     let previous = read_header(alloc, files, words.after)?;
     let script = read_file(alloc, files, words.script)?;
-    drafted(
-        alloc,
-        &configuration,
-        words.version,
-        previous,
-        words.script,
-        &script,
-    )
+    drafted(alloc, &configuration, words, previous, &script)
 }
 
 /// Reads the files, and writes the block that the script drafts. Nothing is written where there is

@@ -1,27 +1,26 @@
 use crate::buffered::finish;
-use crate::fault::Fault;
-use crate::files::Files;
-use crate::inputs::{Configuration, Inputs};
 use crate::progress::Progress;
 use crate::question::hand_in;
-use crate::status::REFUSED;
-use answer_lines::{Refusal, write_block, write_earlier, write_reason, write_refused};
 use block::{Block, decode_block};
-use block_steps::{decoded_item, origin_of};
-use command_words::{Explain, Explained, WordFault, id_of};
+use cli_lines::{Refusal, write_block, write_earlier, write_reason, write_refused};
+use cli_values::{WordFault, id_of};
+use cli_words::{Explain, Explained};
+use command_files::{ACCEPTED, Configuration, Fault, Files, Inputs, REFUSED};
 use header_hash::header_hash;
 use key_book::KeyBook;
 use ledger::Ledger;
+use linking::{decoded_item, origin_of};
 use reasons::Reason;
 use rules::Refused;
 use std::alloc::{AllocError, Global};
 use std::io::{BufWriter, Write};
 use transaction::{BlockVersion, TxId};
+use values::Bytes;
 use world::World;
 
-// What is asked of the last block.
+// Which transactions of the last block are explained, and how.
 #[derive(Clone, Copy)]
-struct Wanted<'a> {
+struct Selection<'a> {
     explained: Explained<'a>,
     /// What its word spells, where an id is asked for.
     id: Option<TxId>,
@@ -29,14 +28,14 @@ struct Wanted<'a> {
     ids: bool,
 }
 
-impl<'a> Wanted<'a> {
+impl<'a> Selection<'a> {
     // Looks at the word of the id.
-    fn of(alloc: Global, words: &Explain<'a>) -> Result<Wanted<'a>, WordFault> {
+    fn of(alloc: Global, words: &Explain<'a>) -> Result<Selection<'a>, WordFault> {
         let id = match words.explained {
             Explained::Id(word) => Some(id_of(alloc, word)?),
             Explained::All | Explained::Place(_) => None,
         };
-        Ok(Wanted {
+        Ok(Selection {
             explained: words.explained,
             id,
             ids: words.ids,
@@ -61,14 +60,14 @@ fn id_in(alloc: Global, version: BlockVersion, bytes: &[u8]) -> Result<Option<Tx
     }
 }
 
-// The ids of all places, or nothing where the wanted asks for none.
+// The ids of all places, or nothing where the selection needs none.
 fn ids_of(
     alloc: Global,
     block: &Block<'_>,
-    wanted: &Wanted<'_>,
+    selection: &Selection<'_>,
 ) -> Result<Vec<Option<TxId>>, AllocError> {
     let mut ids = Vec::new(alloc);
-    if wanted.ids || wanted.id.is_some() {
+    if selection.ids || selection.id.is_some() {
         for bytes in block.txs.as_slice() {
             ids.push(id_in(alloc, block.version, bytes.as_slice())?)?;
         }
@@ -87,21 +86,21 @@ fn write_places<'a, W: Write>(
     number: u64,
     reasons: &[Reason],
     ids: &[Option<TxId>],
-    wanted: &Wanted<'_>,
+    selection: &Selection<'_>,
 ) -> Result<(), Fault<'a>> {
     for (place, reason) in reasons.iter().enumerate() {
         let id = id_at(ids, place);
-        if wanted.asks_for(place, &id) {
-            let shown = if wanted.ids { id.as_ref() } else { None };
+        if selection.asks_for(place, &id) {
+            let shown = if selection.ids { id.as_ref() } else { None };
             write_reason(alloc, out, number, place, reason, shown)?;
         }
     }
     Ok(())
 }
 
-fn has_place(reasons: &[Reason], ids: &[Option<TxId>], wanted: &Wanted<'_>) -> bool {
+fn has_place(reasons: &[Reason], ids: &[Option<TxId>], selection: &Selection<'_>) -> bool {
     for place in 0..reasons.len() {
-        if wanted.asks_for(place, &id_at(ids, place)) {
+        if selection.asks_for(place, &id_at(ids, place)) {
             return true;
         }
     }
@@ -113,13 +112,13 @@ fn write_other<'a, W: Write>(
     out: &mut W,
     world: &World,
     block: &Block<'_>,
-    wanted: &Wanted<'a>,
+    selection: &Selection<'a>,
 ) -> Result<(), Fault<'a>> {
-    let first = match &wanted.id {
+    let first = match &selection.id {
         Some(id) => world.first_use(id),
         None => None,
     };
-    match (wanted.explained, first) {
+    match (selection.explained, first) {
         (Explained::Place(place), _) => Err(Fault::NoTransaction(place)),
         (Explained::Id(word), None) => Err(Fault::UnknownId(word)),
         (_, first) => {
@@ -139,15 +138,22 @@ fn write_reasons<'a, W: Write>(
     world: &World,
     block: &Block<'_>,
     reasons: &[Reason],
-    wanted: &Wanted<'a>,
+    selection: &Selection<'a>,
 ) -> Result<(), Fault<'a>> {
-    let ids = ids_of(alloc, block, wanted)?;
-    if !has_place(reasons, ids.as_slice(), wanted) {
-        return write_other(out, world, block, wanted);
+    let ids = ids_of(alloc, block, selection)?;
+    if !has_place(reasons, ids.as_slice(), selection) {
+        return write_other(out, world, block, selection);
     }
     let header = &block.header;
     write_block(out, header.number, &header_hash(header))?;
-    write_places(alloc, out, header.number, reasons, ids.as_slice(), wanted)
+    write_places(
+        alloc,
+        out,
+        header.number,
+        reasons,
+        ids.as_slice(),
+        selection,
+    )
 }
 
 fn write_no_reasons<'a, W: Write>(
@@ -159,42 +165,60 @@ fn write_no_reasons<'a, W: Write>(
     Ok(REFUSED)
 }
 
-// All lines of the block at this place, from 1, which ends with this status where it is explained.
+// The block that is explained, and what it is explained by: the ledger behind the others, and the keys.
+#[derive(Clone, Copy)]
+struct LastBlock<'b> {
+    ledger: &'b Ledger,
+    keys: &'b KeyBook,
+    /// None where there is no block; clap asks for one.
+    bytes: Option<&'b Bytes>,
+    /// Among all blocks, from 1.
+    place: usize,
+}
+
+// All lines of the block in these bytes, which is the last one.
 fn write_lines<'a, W: Write>(
     alloc: Global,
     out: &mut W,
-    ledger: &Ledger,
-    keys: &KeyBook,
+    last: &LastBlock<'_>,
     bytes: &[u8],
-    place: usize,
-    wanted: &Wanted<'a>,
-    status: u8,
+    selection: &Selection<'a>,
 ) -> Result<u8, Fault<'a>> {
     let block = match decode_block(alloc, bytes) {
         Ok(block) => block,
-        Err(fault) => return write_no_reasons(out, place, Refused::Malformed(fault)),
+        Err(fault) => return write_no_reasons(out, last.place, Refused::Malformed(fault)),
     };
-    match ledger.explain(bytes, keys) {
+    match last.ledger.explain(bytes, last.keys) {
         Ok(reasons) => {
-            write_reasons(
-                alloc,
-                out,
-                ledger.view(),
-                &block,
-                reasons.as_slice(),
-                wanted,
-            )?;
-            Ok(status)
+            let world = last.ledger.view();
+            write_reasons(alloc, out, world, &block, reasons.as_slice(), selection)?;
+            Ok(ACCEPTED)
         }
-        Err(refused) => write_no_reasons(out, place, refused),
+        Err(refused) => write_no_reasons(out, last.place, refused),
     }
 }
 
-// All blocks but the last handed in, and the last one's lines.
+// Writes the lines of the last block, unless the others couldn't be handed in. Returns what the process ends with.
+fn write_last<'a, W: Write>(
+    alloc: Global,
+    handed: Result<u8, Fault<'a>>,
+    last: &LastBlock<'_>,
+    selection: &Selection<'a>,
+    out: &mut W,
+) -> Result<u8, Fault<'a>> {
+    let status = handed?;
+    let Some(bytes) = last.bytes else {
+        return Err(Fault::Word);
+    };
+    let explained = write_lines(alloc, out, last, bytes.as_slice(), selection)?;
+    Ok(status.max(explained))
+}
+
+// Hands all blocks but the last in, and writes the last one's lines. Owns the ledger, and has one way out.
 fn explain_last<'a, W: Write, P: Progress>(
     alloc: Global,
     inputs: Inputs,
-    wanted: &Wanted<'a>,
+    selection: &Selection<'a>,
     out: &mut W,
     progress: &mut P,
 ) -> Result<u8, Fault<'a>> {
@@ -204,26 +228,21 @@ fn explain_last<'a, W: Write, P: Progress>(
     } = inputs;
     let Configuration { channel, keys } = configuration;
     let place = blocks.len();
-    // clap asks for a block
-    let Some(last) = blocks.pop() else {
-        return Err(Fault::Word);
-    };
+    let last = blocks.pop();
     let mut ledger = Ledger::open(alloc, channel);
-    let status = hand_in(&mut ledger, blocks, &keys, progress)?;
-    write_lines(
-        alloc,
-        out,
-        &ledger,
-        &keys,
-        last.as_slice(),
+    let handed = hand_in(&mut ledger, blocks, &keys, progress);
+    let bytes = last.as_ref();
+    let last = LastBlock {
+        ledger: &ledger,
+        keys: &keys,
+        bytes,
         place,
-        wanted,
-        status,
-    )
+    };
+    write_last(alloc, handed, &last, selection, out)
 }
 
-/// Reads the files, hands all blocks but the last in, and writes the last one's lines. The memory is that of `run`,
-/// with the reasons, and a buffer of a fixed size. Where an id is asked for or shown, the last block's items are
+/// Reads the files, hands all blocks but the last in, and writes the last one's lines. The memory is that of `get`,
+/// with the reasons. Where an id is asked for or shown, the last block's items are
 /// decoded once more, and 65 bytes kept for each.
 pub fn print_reasons<'a, F: Files, W: Write, P: Progress>(
     alloc: Global,
@@ -232,9 +251,9 @@ pub fn print_reasons<'a, F: Files, W: Write, P: Progress>(
     out: &mut W,
     progress: &mut P,
 ) -> Result<u8, Fault<'a>> {
-    let wanted = Wanted::of(alloc, words)?;
+    let selection = Selection::of(alloc, words)?;
     let inputs = Inputs::read(alloc, files, &words.paths)?;
     let mut lines = BufWriter::new(alloc, out)?;
-    let ended = explain_last(alloc, inputs, &wanted, &mut lines, progress);
+    let ended = explain_last(alloc, inputs, &selection, &mut lines, progress);
     finish(lines, ended)
 }

@@ -1,16 +1,15 @@
-use crate::fault::Fault;
-use crate::files::Files;
 use crate::progress::Progress;
 use crate::question::{Question, answer};
-use answer_lines::write_row;
-use command_words::{KeyedQuery, Place};
+use cli_lines::write_row;
+use cli_words::{KeyedQuery, NamespacedKey};
+use command_files::{Fault, Files};
 use std::alloc::Global;
 use std::io::Write;
 use world::World;
 
 // The row of a key.
 #[derive(Drop)]
-struct RowOf(Place);
+struct RowOf(NamespacedKey);
 
 impl Question for RowOf {
     fn write<'a, W: Write>(
@@ -36,6 +35,6 @@ pub fn print_row<'a, F: Files, W: Write, P: Progress>(
     out: &mut W,
     progress: &mut P,
 ) -> Result<u8, Fault<'a>> {
-    let question = RowOf(words.place(alloc)?);
+    let question = RowOf(words.asked_key(alloc)?);
     answer(alloc, files, &words.paths, &question, out, progress)
 }

@@ -1,16 +1,15 @@
-use crate::fault::Fault;
-use crate::files::Files;
 use crate::progress::Progress;
 use crate::question::{Question, answer};
-use answer_lines::write_entry;
-use command_words::{KeyedQuery, Place};
+use cli_lines::write_entry;
+use cli_words::{KeyedQuery, NamespacedKey};
+use command_files::{Fault, Files};
 use std::alloc::Global;
 use std::io::Write;
 use world::World;
 
 // What was written to a key, newest first.
 #[derive(Drop)]
-struct HistoryOf(Place);
+struct HistoryOf(NamespacedKey);
 
 impl Question for HistoryOf {
     fn write<'a, W: Write>(
@@ -35,6 +34,6 @@ pub fn print_history<'a, F: Files, W: Write, P: Progress>(
     out: &mut W,
     progress: &mut P,
 ) -> Result<u8, Fault<'a>> {
-    let question = HistoryOf(words.place(alloc)?);
+    let question = HistoryOf(words.asked_key(alloc)?);
     answer(alloc, files, &words.paths, &question, out, progress)
 }

@@ -1,11 +1,8 @@
 use crate::buffered::finish;
-use crate::fault::Fault;
-use crate::files::Files;
-use crate::inputs::{Configuration, Inputs};
 use crate::progress::Progress;
-use crate::status::{ACCEPTED, REFUSED};
-use answer_lines::{Refusal, write_height};
-use command_words::LedgerPaths;
+use cli_lines::{Refusal, write_height};
+use cli_words::LedgerPaths;
+use command_files::{ACCEPTED, Configuration, Fault, Files, Inputs, REFUSED};
 use key_book::KeyBook;
 use ledger::Ledger;
 use std::alloc::Global;
@@ -64,7 +61,7 @@ fn write_lines<'a, Q: Question, W: Write>(
     question.write(alloc, out, world)
 }
 
-// The same through a buffer.
+// Writes the lines through a buffer.
 fn write_through_buffer<'a, Q: Question, W: Write>(
     alloc: Global,
     out: &mut W,
@@ -76,43 +73,40 @@ fn write_through_buffer<'a, Q: Question, W: Write>(
     finish(lines, ended)
 }
 
-// A ledger behind its blocks, and what the process ends with, where nothing else befalls it.
-#[derive(Drop)]
-struct Committed {
-    ledger: Ledger,
-    status: u8,
+// Writes what the world answers, unless the blocks couldn't be handed in. Returns what the process ends with.
+fn write_answer<'a, Q: Question, W: Write>(
+    alloc: Global,
+    handed: Result<u8, Fault<'a>>,
+    world: &World,
+    question: &Q,
+    out: &mut W,
+) -> Result<u8, Fault<'a>> {
+    let status = handed?;
+    write_through_buffer(alloc, out, world, question)?;
+    Ok(status)
 }
 
-impl Committed {
-    fn read<'a, F: Files, P: Progress>(
-        alloc: Global,
-        files: &F,
-        paths: &LedgerPaths<'a>,
-        progress: &mut P,
-    ) -> Result<Committed, Fault<'a>> {
-        let Inputs {
-            configuration,
-            blocks,
-        } = Inputs::read(alloc, files, paths)?;
-        let Configuration { channel, keys } = configuration;
-        let mut ledger = Ledger::open(alloc, channel);
-        let status = hand_in(&mut ledger, blocks, &keys, progress)?;
-        Ok(Committed { ledger, status })
-    }
-
-    fn write_answer<'a, Q: Question, W: Write>(
-        &self,
-        alloc: Global,
-        question: &Q,
-        out: &mut W,
-    ) -> Result<u8, Fault<'a>> {
-        write_through_buffer(alloc, out, self.ledger.view(), question)?;
-        Ok(self.status)
-    }
+// Owns the ledger, and has one way out.
+fn answer_from<'a, Q: Question, W: Write, P: Progress>(
+    alloc: Global,
+    inputs: Inputs,
+    question: &Q,
+    out: &mut W,
+    progress: &mut P,
+) -> Result<u8, Fault<'a>> {
+    let Inputs {
+        configuration,
+        blocks,
+    } = inputs;
+    let Configuration { channel, keys } = configuration;
+    let mut ledger = Ledger::open(alloc, channel);
+    let handed = hand_in(&mut ledger, blocks, &keys, progress);
+    write_answer(alloc, handed, ledger.view(), question, out)
 }
 
-/// Reads the files, hands the blocks in, one by one, and writes what the ledger behind them answers.
-/// Returns what the process ends with. The memory is that of `run`.
+/// Reads the files, hands the blocks in, one by one, and writes what the ledger behind them answers. Returns what the
+/// process ends with. The memory is the files' bytes, what the ledger keeps, what one block takes, and a buffer of a
+/// fixed size.
 pub(crate) fn answer<'a, F: Files, Q: Question, W: Write, P: Progress>(
     alloc: Global,
     files: &F,
@@ -121,6 +115,6 @@ pub(crate) fn answer<'a, F: Files, Q: Question, W: Write, P: Progress>(
     out: &mut W,
     progress: &mut P,
 ) -> Result<u8, Fault<'a>> {
-    let committed = Committed::read(alloc, files, paths, progress)?;
-    committed.write_answer(alloc, question, out)
+    let inputs = Inputs::read(alloc, files, paths)?;
+    answer_from(alloc, inputs, question, out, progress)
 }

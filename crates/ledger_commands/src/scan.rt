@@ -1,9 +1,9 @@
-use crate::fault::Fault;
-use crate::files::Files;
 use crate::progress::Progress;
 use crate::question::{Question, answer};
-use answer_lines::write_row;
-use command_words::{Scan, bytes_of, name_of};
+use cli_lines::write_row;
+use cli_values::{bytes_of, name_of};
+use cli_words::Scan;
+use command_files::{Fault, Files};
 use std::alloc::Global;
 use std::io::Write;
 use values::{BoundRef, Bytes, MAX_KEY, Name};

@@ -9,7 +9,6 @@ use chain_vectors::later_blocks::later_blocks;
 use chain_vectors::rows::rows;
 use chain_vectors::uses::uses;
 use chain_vectors::{Committed, SaysOk, read_use};
-use failing::{Failed, check};
 use header_hash::{data_hash, header_hash};
 use ledger::Ledger;
 use policy::Policy;
@@ -17,6 +16,7 @@ use policy_eval::Verify;
 use reasons::{Reason, UpdateFault};
 use rules::{Accepted, CommittedBlock, Flag, HistoryEntry, Refused, Row};
 use std::alloc::{AllocError, Global};
+use test_support::{Failed, check};
 use transaction::TxId;
 use values::{Bytes, Hash, Items, Key, Name, Part, Shared};
 use world::World;
@@ -219,6 +219,7 @@ fn is_history(
 }
 
 impl Pair {
+    /// Both at height 0, of the channel of all chains.
     pub fn open(alloc: Global) -> Result<Pair, Failed> {
         Pair::of(alloc, "")
     }
@@ -236,14 +237,17 @@ impl Pair {
         })
     }
 
+    /// What the ledger holds.
     pub fn world(&self) -> &World {
         self.ledger.view()
     }
 
+    /// How often each flag was given, by its number.
     pub fn given(&self) -> &[u32; 26] {
         &self.given
     }
 
+    /// How often each cause of flag 6 was told.
     pub fn faults(&self) -> &[u32; 5] {
         &self.faults
     }
@@ -365,6 +369,7 @@ impl Pair {
         Ok(self.is_same_at(alloc, namespace, &at)?)
     }
 
+    /// Whether both have the same row and history there.
     pub fn is_alike_at(&self, alloc: Global, namespace: &[u8], at: &[u8]) -> Result<bool, Failed> {
         let namespace = name(alloc, namespace)?;
         self.is_alike_under(alloc, &namespace, at)
@@ -381,6 +386,7 @@ impl Pair {
         self.is_defined(alloc, chaincode, wanted.as_str())
     }
 
+    /// Whether both have the same first use of the id, or none.
     pub fn is_alike_of(&self, id: &TxId) -> bool {
         self.world().first_use(id) == self.plain.world.first_use(id)
     }
@@ -392,6 +398,7 @@ impl Pair {
         }
     }
 
+    /// Whether the ledger holds the blocks that were accepted, and no other.
     pub fn has_same_blocks(&self) -> bool {
         for number in 0..=self.accepted.len() {
             let kept = self.world().block(number as u64);

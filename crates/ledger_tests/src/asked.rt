@@ -4,8 +4,8 @@ use crate::fixture::{lent_key, lent_name};
 use crate::shown::{is_wanted_history, is_wanted_row, is_wanted_use};
 use chain_vectors::{Left, Used, read_use};
 use commit::QueryHandle;
-use failing::{Failed, check};
 use std::alloc::Global;
+use test_support::{Failed, check};
 
 fn check_row(alloc: Global, handle: &mut QueryHandle, left: &Left) -> Result<(), Failed> {
     let reply = handle.get(&lent_name(left.namespace)?, &lent_key(left.key)?)?;

@@ -14,12 +14,12 @@ use chain_vectors::uses::uses;
 use chain_vectors::worked_reads::worked_reads;
 use chain_vectors::{Committed, SaysOk, Scripted, WorkedChain};
 use commit::{Committer, NotCommitted, QueryHandle};
-use failing::{Failed, check};
 use gates::{Gate, Open, Reverse};
 use key_book::KeyBook;
 use std::alloc::{AllocError, Global};
 use std::sync::Wait;
 use std::thread::Threads;
+use test_support::{Failed, check};
 use values::Bytes;
 
 /// How blocks are handed in: by how many workers, and whether checks go in reverse.
@@ -29,6 +29,7 @@ pub struct Way {
     pub is_reverse: bool,
 }
 
+/// By 1, 2 and 64 workers, in order and in reverse.
 pub fn ways() -> &'static [Way] {
     &WAYS
 }
@@ -60,16 +61,24 @@ static WAYS: [Way; 6] = [
     },
 ];
 
+/// The bytes of a block, the keys of those who sign in it, and the flags that it should get.
+#[derive(Clone, Copy)]
+pub struct Flagged<'a> {
+    pub bytes: &'a [u8],
+    pub keys: &'a KeyBook,
+    pub flags: &'a [u8],
+}
+
 fn is_committed<R: Threads + Wait + Sync, G: Gate + Sync>(
     rt: &R,
     committer: &mut Committer,
-    keys: &KeyBook,
-    bytes: &[u8],
-    flags: &[u8],
+    block: Flagged<'_>,
     gate: &G,
 ) -> bool {
-    match submitted(rt, committer, bytes, keys, gate) {
-        Ok(receipt) => are_numbered(receipt.flags.as_slice(), flags) && committer.gathered() == 0,
+    match submitted(rt, committer, block.bytes, block.keys, gate) {
+        Ok(receipt) => {
+            are_numbered(receipt.flags.as_slice(), block.flags) && committer.gathered() == 0
+        }
         Err(_) => false,
     }
 }
@@ -78,12 +87,10 @@ fn is_committed_in_reverse<R: Threads + Wait + Sync>(
     rt: &R,
     alloc: Global,
     committer: &mut Committer,
-    keys: &KeyBook,
-    bytes: &[u8],
-    flags: &[u8],
+    block: Flagged<'_>,
 ) -> Result<bool, AllocError> {
-    let reverse = Reverse::new(alloc, flags.len().min(MAX_TXS) as u32)?;
-    Ok(is_committed(rt, committer, keys, bytes, flags, &reverse))
+    let reverse = Reverse::new(alloc, block.flags.len().min(MAX_TXS) as u32)?;
+    Ok(is_committed(rt, committer, block, &reverse))
 }
 
 /// Whether the block is committed with these flags.
@@ -92,14 +99,12 @@ pub fn is_committed_in<R: Threads + Wait + Sync>(
     alloc: Global,
     way: Way,
     committer: &mut Committer,
-    keys: &KeyBook,
-    bytes: &[u8],
-    flags: &[u8],
+    block: Flagged<'_>,
 ) -> Result<bool, AllocError> {
     if way.is_reverse {
-        is_committed_in_reverse(rt, alloc, committer, keys, bytes, flags)
+        is_committed_in_reverse(rt, alloc, committer, block)
     } else {
-        Ok(is_committed(rt, committer, keys, bytes, flags, &Open))
+        Ok(is_committed(rt, committer, block, &Open))
     }
 }
 
@@ -121,8 +126,12 @@ impl ShortChain<'_> {
         bytes: &Bytes,
         block: &Scripted,
     ) -> Result<(), Failed> {
-        let (bytes, flags) = (bytes.as_slice(), block.flags);
-        check(is_committed_in(rt, alloc, self.way, committer, self.keys, bytes, flags)?)
+        let block = Flagged {
+            bytes: bytes.as_slice(),
+            keys: self.keys,
+            flags: block.flags,
+        };
+        check(is_committed_in(rt, alloc, self.way, committer, block)?)
     }
 
     fn check_committed<R: Threads + Wait + Sync>(

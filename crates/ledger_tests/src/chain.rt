@@ -8,9 +8,9 @@ use chain_vectors::later_blocks::later_blocks;
 use chain_vectors::rows::rows;
 use chain_vectors::uses::uses;
 use chain_vectors::{Committed, SaysOk};
-use failing::Failed;
 use rules::CommittedBlock;
 use std::alloc::Global;
+use test_support::Failed;
 use world::World;
 
 fn take(peer: &mut Peer, block: &Committed) -> Result<(), Failed> {

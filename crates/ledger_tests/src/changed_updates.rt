@@ -5,11 +5,11 @@ use crate::spoiling::{drafted_tx, raw_line_of, sign_anew};
 use crate::update_rows::{ADMIN, FIRST_POLICY, UPDATE, UpdateBlock, UpdateChain};
 use crate::updates::{KEYS, check_chain};
 use block::BlockVersion;
-use failing::Failed;
 use key_book::KeyBook;
 use std::alloc::{AllocError, Global};
 use std::sync::Wait;
 use std::thread::Threads;
+use test_support::Failed;
 use values::Bytes;
 
 /// The update with other bytes in the place of so many, and what comes of it in a block of this version.

@@ -3,9 +3,9 @@
 
 use crate::scripted::ScriptedPeer;
 use block::BlockVersion;
-use failing::{Failed, check};
 use header_hash::commit_hash;
 use std::alloc::Global;
+use test_support::{Failed, check};
 use values::Hash;
 
 /// A block's script, its flags, and what is hashed of it behind the commit hash before it.

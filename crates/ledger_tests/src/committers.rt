@@ -2,15 +2,16 @@
 
 use crate::by_workers::{ShortChain, check_chain};
 use crate::limits::check_limits;
+use crate::links::check_links;
 use crate::updates_by_workers::UpdatedChain;
 use crate::versions::HandedIn;
 use commit::{Channel, Committer, NotCommitted, QueryHandle, Receipt};
-use failing::Failed;
 use gates::{Gate, Open};
 use policy_eval::Verify;
 use std::alloc::Global;
 use std::sync::Wait;
 use std::thread::Threads;
+use test_support::Failed;
 
 /// How many workers committers have.
 pub fn worker_counts() -> &'static [usize] {
@@ -28,6 +29,8 @@ pub enum Trial<'a> {
     Chain,
     /// A block of too many transactions, and one of the most.
     Limits,
+    /// Blocks that continue a chain, and such that don't.
+    Links,
     /// Blocks of both versions.
     Versions(HandedIn<'a>),
     /// Blocks with updates.
@@ -45,6 +48,7 @@ fn check_with<R: Threads + Wait + Sync>(
         Trial::Short(chain) => chain.check_with(rt, alloc, committer, handle),
         Trial::Chain => check_chain(rt, alloc, committer, handle),
         Trial::Limits => check_limits(rt, alloc, committer, handle),
+        Trial::Links => check_links(rt, committer, handle),
         Trial::Versions(blocks) => blocks.check_with(rt, committer),
         Trial::Updates(chain) => chain.check_with(rt, alloc, committer, handle),
     }

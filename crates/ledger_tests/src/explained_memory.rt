@@ -3,11 +3,11 @@
 use crate::explained_memory::vectors::{first_block, flags, keys, second_block};
 use crate::fixture::{explained, have_flags, ledger_with, read_keys, submitted};
 use crate::shown::shown;
-use failing::{Failed, Outcome, begins, check};
 use key_book::KeyBook;
 use ledger::Ledger;
 use rules::Refused;
 use std::alloc::Global;
+use test_support::{Failed, Outcome, begins, check};
 
 mod vectors;
 
@@ -61,6 +61,7 @@ fn outcome_by(alloc: Global, keys: &KeyBook) -> Result<Outcome, Failed> {
     outcome_behind_first(alloc, &ledger, keys)
 }
 
+/// What comes of explaining a block.
 pub fn outcome(alloc: Global) -> Result<Outcome, Failed> {
     let keys = read_keys(alloc, keys())?;
     outcome_by(alloc, &keys)

@@ -2,7 +2,6 @@
 
 use chain_vectors::CHANNEL;
 use channel::{Channel, ChannelFault};
-use failing::{Failed, Text};
 use key_book::{KeyBook, KeyBookFault};
 use ledger::Ledger;
 use policy::Definitions;
@@ -10,12 +9,14 @@ use policy_eval::Verify;
 use reasons::Reason;
 use rules::{Accepted, Flag, Refused, Row};
 use std::alloc::{AllocError, Global};
+use test_support::{Failed, Text};
 use values::{Items, Key, KeyRef, Name, NameRef, is_key, is_name};
 use world::World;
 
 /// The bytes of the identity `Org1:client:c0`.
 pub const CREATOR: &[u8] = b"\x04Org1\x01\x02c0";
 
+/// The name, owned. The error is `Missing` where the bytes are none.
 pub fn name(alloc: Global, bytes: &[u8]) -> Result<Name, Failed> {
     if !is_name(bytes) {
         return Err(Failed::Missing("a name"));
@@ -23,6 +24,7 @@ pub fn name(alloc: Global, bytes: &[u8]) -> Result<Name, Failed> {
     Ok(Name::from_slice(alloc, bytes)?)
 }
 
+/// The key, owned. The error is `Missing` where the bytes are none.
 pub fn key(alloc: Global, bytes: &[u8]) -> Result<Key, Failed> {
     if !is_key(bytes) {
         return Err(Failed::Missing("a key"));
@@ -30,6 +32,7 @@ pub fn key(alloc: Global, bytes: &[u8]) -> Result<Key, Failed> {
     Ok(Key::from_slice(alloc, bytes)?)
 }
 
+/// The name. The error is `Missing` where the bytes are none.
 pub fn lent_name(bytes: &[u8]) -> Result<NameRef<'_>, Failed> {
     if !is_name(bytes) {
         return Err(Failed::Missing("a name"));
@@ -37,6 +40,7 @@ pub fn lent_name(bytes: &[u8]) -> Result<NameRef<'_>, Failed> {
     Ok(NameRef::new(bytes))
 }
 
+/// The key. The error is `Missing` where the bytes are none.
 pub fn lent_key(bytes: &[u8]) -> Result<KeyRef<'_>, Failed> {
     if !is_key(bytes) {
         return Err(Failed::Missing("a key"));
@@ -44,6 +48,7 @@ pub fn lent_key(bytes: &[u8]) -> Result<KeyRef<'_>, Failed> {
     Ok(KeyRef::new(bytes))
 }
 
+/// The row at a key, if there is one.
 pub fn row_at<'a>(
     world: &'a World,
     namespace: &[u8],
@@ -54,6 +59,7 @@ pub fn row_at<'a>(
     Ok(world.row(&namespace, &at))
 }
 
+/// The text of the row's own policy, which is empty where it has none.
 pub fn policy_text(alloc: Global, row: &Row) -> Result<String, AllocError> {
     match &row.policy {
         None => Ok(String::new(alloc)),
@@ -61,6 +67,7 @@ pub fn policy_text(alloc: Global, row: &Row) -> Result<String, AllocError> {
     }
 }
 
+/// Whether the flags have these numbers.
 pub fn are_numbered(flags: &[Flag], numbers: &[u8]) -> bool {
     flags.len() == numbers.len()
         && flags
@@ -175,6 +182,7 @@ pub struct Peer {
 }
 
 impl Peer {
+    /// Of the channel of all chains.
     pub fn open(alloc: Global) -> Result<Peer, Failed> {
         Peer::with_line(alloc, "")
     }
@@ -185,10 +193,12 @@ impl Peer {
         Ok(Peer { ledger })
     }
 
+    /// What the ledger holds.
     pub fn world(&self) -> &World {
         self.ledger.view()
     }
 
+    /// Why the bytes aren't taken, if they aren't.
     pub fn refusal_of<V: Verify>(&mut self, bytes: &[u8], verifier: &V) -> Option<Refused> {
         submitted(&mut self.ledger, bytes, verifier).err()
     }

@@ -3,11 +3,11 @@
 use crate::fixture::{CREATOR, Peer, read_keys};
 use crate::scripted::drafted;
 use block::BlockVersion;
-use failing::{Failed, check};
 use header_hash::tx_id;
 use key_book::KeyBook;
 use rules::{FirstUse, Flag};
 use std::alloc::Global;
+use test_support::{Failed, check};
 use world::World;
 
 const SIGNING: &str = "\
@@ -39,6 +39,7 @@ pub struct Books {
     pub verifying: KeyBook,
 }
 
+/// Both books.
 pub fn read_books(alloc: Global) -> Result<Books, Failed> {
     let signing = read_keys(alloc, SIGNING)?;
     let verifying = read_keys(alloc, VERIFYING)?;

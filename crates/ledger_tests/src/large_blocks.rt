@@ -1,10 +1,10 @@
-//! A block of more bytes than a transaction can have.
+//! A block of more bytes than a transaction can have, and policies of the most bytes and of one more.
 
 use crate::fixture::row_at;
 use crate::scripted::ScriptedPeer;
-use failing::{Failed, check};
 use rules::Row;
 use std::alloc::{AllocError, Global};
+use test_support::{Failed, check};
 use world::World;
 
 const LARGE: usize = 400_000;
@@ -73,4 +73,37 @@ fn check_block(alloc: Global) -> Result<(), Failed> {
 #[test]
 fn more_than_a_mebibyte(rt: HostRuntime) -> Result<(), Failed> {
     check_block(rt.alloc())
+}
+
+// A script that gives `k` a policy of this length, with blanks in its middle. The rest of it has 15 bytes.
+fn policy_script(alloc: Global, length: usize) -> Result<String, AllocError> {
+    let blanks = " ".repeat(alloc, length.saturating_sub(15))?;
+    format!(in alloc;
+        "tx Org1:client:c0 n{length} cc\nns cc\npolicy k OR({blanks}'Org1.peer')\nendorse Org1:peer:p0\n"
+    )
+}
+
+fn check_policy(
+    alloc: Global,
+    peer: &mut ScriptedPeer,
+    length: usize,
+    flag: u8,
+) -> Result<(), Failed> {
+    let script = policy_script(alloc, length)?;
+    check(peer.is_taken(alloc, script.as_str(), &[flag])?)
+}
+
+fn check_policies_by(alloc: Global, peer: &mut ScriptedPeer) -> Result<(), Failed> {
+    check_policy(alloc, peer, 4_096, 0)?;
+    check_policy(alloc, peer, 4_097, 22)
+}
+
+fn check_policies(alloc: Global) -> Result<(), Failed> {
+    let mut peer = ScriptedPeer::open(alloc)?;
+    check_policies_by(alloc, &mut peer)
+}
+
+#[test]
+fn policies_of_the_most_bytes(rt: HostRuntime) -> Result<(), Failed> {
+    check_policies(rt.alloc())
 }

@@ -27,6 +27,8 @@ mod large_blocks;
 #[cfg(test)]
 mod limits;
 #[cfg(test)]
+mod links;
+#[cfg(test)]
 mod long_block;
 #[cfg(test)]
 mod memory;

@@ -5,11 +5,11 @@ use crate::fixture::channel_with;
 use block::BlockFault;
 use chain_vectors::SaysOk;
 use commit::{Committer, Flag, NotCommitted, QueryHandle, Receipt, Refused};
-use failing::{Failed, check};
 use gates::Open;
 use std::alloc::{AllocError, Global};
 use std::sync::Wait;
 use std::thread::Threads;
+use test_support::{Failed, check};
 use values::Hash;
 
 // Before the count: block 0, whose data hash is SHA-256 of no bytes (FIPS 180-4).

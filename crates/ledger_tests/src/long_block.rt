@@ -4,11 +4,10 @@ use crate::fixture::CREATOR;
 use crate::scripted::ScriptedPeer;
 use crate::shown::is_row;
 use chain_vectors::LeftRow;
-use failing::{Failed, check};
 use header_hash::tx_id;
 use rules::{FirstUse, Flag};
 use std::alloc::Global;
-use trials::{chain_flags, chain_script, keys_script};
+use test_support::{Failed, chain_flags, chain_script, check, keys_script};
 use world::World;
 
 // Of the last two transactions the first is valid and the second isn't.

@@ -4,9 +4,9 @@ use crate::shown::{is_row, shown};
 use crate::update_rows::FIRST_POLICY;
 use block::BlockVersion;
 use chain_vectors::LeftRow;
-use failing::{Failed, Outcome, begins, check};
 use rules::Refused;
 use std::alloc::Global;
+use test_support::{Failed, Outcome, begins, check};
 use values::Bytes;
 use world::World;
 
@@ -148,10 +148,12 @@ fn outcome_of_second(alloc: Global, second: &Second) -> Result<Outcome, Failed> 
     outcome_by(alloc, &mut peer, second)
 }
 
+/// What comes of a block of three transactions.
 pub fn outcome(alloc: Global) -> Result<Outcome, Failed> {
     outcome_of_second(alloc, &TXS)
 }
 
+/// What comes of a block of an update.
 pub fn outcome_of_update(alloc: Global) -> Result<Outcome, Failed> {
     outcome_of_second(alloc, &UPDATE)
 }

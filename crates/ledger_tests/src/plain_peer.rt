@@ -3,10 +3,10 @@
 use crate::fixture::channel_with;
 use block::{Block, MAX_TXS};
 use channel::Configuration;
-use failing::Failed;
 use policy_eval::Verify;
 use rules::Flag;
 use std::alloc::{AllocError, Global};
+use test_support::Failed;
 use values::Items;
 
 /// It with the channel's configuration.
@@ -38,17 +38,12 @@ impl PlainPeer {
         if txs.len() > MAX_TXS {
             return Ok(Items::new(alloc));
         }
-        let (number, version) = (block.header.number, block.version);
-        let channel = &self.channel;
-        let flags = plain::take_block(
-            alloc,
-            channel,
-            verifier,
-            &mut self.world,
-            number,
-            version,
+        let next = plain::NextBlock {
+            number: block.header.number,
+            version: block.version,
             txs,
-        )?;
+        };
+        let flags = plain::take_block(alloc, &self.channel, verifier, &mut self.world, &next)?;
         Ok(Items::from_vec(flags))
     }
 }

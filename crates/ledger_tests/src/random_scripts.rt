@@ -2,11 +2,10 @@
 
 use crate::fixture::{lent_name, row_at};
 use crate::spoiling::raw_line;
-use failing::Failed;
 use key_book::KeyBook;
-use random_numbers::Random;
 use rules::KeyedRow;
 use std::alloc::{AllocError, Global};
+use test_support::{Failed, Random};
 use text_lines::Word;
 use transaction::Version;
 use values::{BoundRef, is_bound};
@@ -14,6 +13,7 @@ use world::World;
 
 static KEYS: [&[u8]; 5] = [b"a", b"ab", b"b", b"c", b"\xff"];
 
+/// The keys of all scripts.
 pub fn keys() -> &'static [&'static [u8]] {
     &KEYS
 }
@@ -21,6 +21,7 @@ pub fn keys() -> &'static [&'static [u8]] {
 // The last has no definition.
 static NAMESPACES: [&str; 4] = ["cc", "dd", "both", "zz"];
 
+/// The namespaces of all scripts.
 pub fn namespaces() -> &'static [&'static str] {
     &NAMESPACES
 }
@@ -180,8 +181,7 @@ fn put_rows(
     random: &mut Random,
     world: &World,
     namespace: &str,
-    start: &[u8],
-    end: &[u8],
+    (start, end): (&[u8], &[u8]),
 ) -> Result<(), Failed> {
     let limit = random.below(6) as usize;
     let namespace = lent_name(namespace.as_bytes())?;
@@ -201,7 +201,7 @@ fn put_range(
     let start = bound_at_random(random);
     let end = bound_at_random(random);
     put_range_line(alloc, script, start, end, random.one_of(2))?;
-    put_rows(alloc, script, random, world, namespace, start, end)
+    put_rows(alloc, script, random, world, namespace, (start, end))
 }
 
 fn put_write(alloc: Global, script: &mut String, random: &mut Random) -> Result<(), AllocError> {

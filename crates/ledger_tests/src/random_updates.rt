@@ -5,10 +5,9 @@ use crate::random_scripts::{
 };
 use crate::spoiling::{drafted_tx, raw_line, raw_line_of};
 use block::BlockVersion;
-use failing::Failed;
 use key_book::KeyBook;
-use random_numbers::Random;
 use std::alloc::{AllocError, Global};
+use test_support::{Failed, Random};
 use world::World;
 
 // The last is no policy.
@@ -106,21 +105,28 @@ fn kind_at_random(random: &mut Random, is_of_updates: bool) -> Kind {
     }
 }
 
+/// What the next block is drafted for.
+#[derive(Clone, Copy)]
+pub struct Next<'a> {
+    pub keys: &'a KeyBook,
+    pub version: BlockVersion,
+    /// What the block finds.
+    pub world: &'a World,
+}
+
 fn put_place(
     alloc: Global,
     script: &mut String,
     random: &mut Random,
-    keys: &KeyBook,
-    version: BlockVersion,
-    world: &World,
+    next: Next<'_>,
     nonce: u8,
     kind: Kind,
 ) -> Result<(), Failed> {
     match kind {
-        Kind::Tx => put_tx(alloc, script, random, keys, world, nonce),
+        Kind::Tx => put_tx(alloc, script, random, next.keys, next.world, nonce),
         Kind::Write => Ok(put_write(alloc, script, random, nonce)?),
         Kind::Update => {
-            let lines = update_lines(alloc, random, keys, version, nonce)?;
+            let lines = update_lines(alloc, random, next.keys, next.version, nonce)?;
             Ok(script.push_str(lines.as_str())?)
         }
     }
@@ -130,9 +136,7 @@ fn put_places(
     alloc: Global,
     script: &mut String,
     random: &mut Random,
-    keys: &KeyBook,
-    version: BlockVersion,
-    world: &World,
+    next: Next<'_>,
     nonces: &mut Vec<u8>,
     is_of_updates: bool,
 ) -> Result<(), Failed> {
@@ -146,7 +150,7 @@ fn put_places(
         } else {
             kind_at_random(random, is_of_updates)
         };
-        put_place(alloc, script, random, keys, version, world, nonce, kind)?;
+        put_place(alloc, script, random, next, nonce, kind)?;
     }
     Ok(())
 }
@@ -156,22 +160,11 @@ fn put_places(
 pub fn script_with_updates(
     alloc: Global,
     random: &mut Random,
-    keys: &KeyBook,
-    version: BlockVersion,
-    world: &World,
+    next: Next<'_>,
     nonces: &mut Vec<u8>,
     is_of_updates: bool,
 ) -> Result<String, Failed> {
     let mut script = String::new(alloc);
-    put_places(
-        alloc,
-        &mut script,
-        random,
-        keys,
-        version,
-        world,
-        nonces,
-        is_of_updates,
-    )?;
+    put_places(alloc, &mut script, random, next, nonces, is_of_updates)?;
     Ok(script)
 }

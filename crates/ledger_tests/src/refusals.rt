@@ -5,9 +5,9 @@ use crate::shown::shown;
 use block::BlockFault;
 use chain_vectors::SaysOk;
 use chain_vectors::first_blocks::first_blocks;
-use failing::{Failed, check};
 use rules::Refused;
 use std::alloc::{AllocError, Global};
+use test_support::{Failed, check};
 
 /// How the bytes of a block are spoilt.
 #[derive(Clone, Copy)]

@@ -3,10 +3,10 @@
 use crate::fixture::{Peer, name, read_keys};
 use block::{BlockFault, BlockVersion, Header, decode_block};
 use drafts::draft;
-use failing::{Failed, check};
 use key_book::KeyBook;
 use rules::Refused;
 use std::alloc::Global;
+use test_support::{Failed, check};
 use values::{Bytes, Name};
 use world::World;
 
@@ -83,10 +83,12 @@ pub struct ScriptedPeer {
 }
 
 impl ScriptedPeer {
+    /// Of blocks of version 1.
     pub fn open(alloc: Global) -> Result<ScriptedPeer, Failed> {
         ScriptedPeer::of(alloc, BlockVersion::V1)
     }
 
+    /// Of blocks of this version.
     pub fn of(alloc: Global, version: BlockVersion) -> Result<ScriptedPeer, Failed> {
         ScriptedPeer::with_line(alloc, version, "")
     }
@@ -106,10 +108,12 @@ impl ScriptedPeer {
         })
     }
 
+    /// The keys of all who sign.
     pub fn keys(&self) -> &KeyBook {
         &self.keys
     }
 
+    /// What the ledger holds.
     pub fn world(&self) -> &World {
         self.peer.world()
     }
@@ -119,6 +123,7 @@ impl ScriptedPeer {
         next_block(alloc, &self.keys, self.version, self.world(), script)
     }
 
+    /// Why the bytes aren't taken, if they aren't.
     pub fn refusal_of(&mut self, bytes: &[u8]) -> Option<Refused> {
         self.peer.refusal_of(bytes, &self.keys)
     }

@@ -4,9 +4,9 @@ use crate::fixture::{definition_text, lent_key, lent_name, policy_text, row_at};
 use chain_vectors::rows::rows;
 use chain_vectors::uses::uses;
 use chain_vectors::{Left, LeftRow, Used, read_use};
-use failing::{Failed, check};
 use rules::{FirstUse, HistoryEntry, Row};
 use std::alloc::{AllocError, Global};
+use test_support::{Failed, check};
 use transaction::TxId;
 use world::World;
 
@@ -62,7 +62,7 @@ fn is_shown(alloc: Global, shown: &[u8], wanted: &Option<LeftRow>) -> Result<boo
     Ok(shown == shown_wanted.as_slice())
 }
 
-// Whether the row is this one, or none.
+/// Whether the row is this one, or none.
 pub fn is_row(
     alloc: Global,
     world: &World,
@@ -211,8 +211,8 @@ fn show_world(alloc: Global, shown: &mut Vec<u8>, world: &World) -> Result<(), F
     Ok(show_uses(shown, world)?)
 }
 
-// Height, last header hash, policies of chaincodes, and what is at each key and id that the chain writes, as bytes that tell one
-// world from another.
+/// Height, last header hash, policies of chaincodes, and what is at each key and id that the chain writes, as bytes
+/// that tell one world from another.
 pub fn shown(alloc: Global, world: &World) -> Result<Vec<u8>, Failed> {
     let mut shown = Vec::new(alloc);
     show_world(alloc, &mut shown, world)?;

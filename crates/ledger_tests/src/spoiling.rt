@@ -3,10 +3,9 @@
 
 use crate::scripted::drafted;
 use block::{BlockVersion, decode_block};
-use failing::Failed;
 use key_book::KeyBook;
-use random_numbers::Random;
 use std::alloc::{AllocError, Global};
+use test_support::{Failed, Random};
 use transaction::{Identity, Item, decode_item};
 use values::Bytes;
 

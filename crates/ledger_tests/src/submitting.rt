@@ -3,10 +3,10 @@
 use crate::fixture::{bare_ledger, read_keys};
 use crate::scripted::ScriptedPeer;
 use commit::{Accepted, Refused};
-use failing::{Failed, check};
 use key_book::KeyBook;
 use ledger::Ledger;
 use std::alloc::Global;
+use test_support::{Failed, check};
 use values::{Bytes, Hash};
 
 // The header hashes of blocks 0 and 1 without transactions, by Python's pyasn1 and hashlib.

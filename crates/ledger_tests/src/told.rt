@@ -1,7 +1,7 @@
 use block::BlockFault;
-use failing::Failed;
 use rules::Refused;
 use std::alloc::{AllocError, Global};
+use test_support::Failed;
 
 fn told() -> &'static [(Refused, &'static str)] {
     &TOLD

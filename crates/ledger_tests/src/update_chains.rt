@@ -7,23 +7,22 @@ use crate::forgers::{Books, read_books};
 use crate::plain_peer::PlainPeer;
 use crate::random_chains::{add, all_ids, check_alike, with_other_front};
 use crate::random_scripts::{NONCES, namespaces};
-use crate::random_updates::script_with_updates;
+use crate::random_updates::{Next, script_with_updates};
 use crate::scripted::next_block;
 use block::{Block, BlockVersion, decode_block};
-use failing::{Failed, check};
 use key_book::KeyBook;
 use policy_eval::Verify;
-use random_numbers::Random;
 use rules::Flag;
 use std::alloc::Global;
 use std::ops::Range;
+use test_support::{Failed, Random, check};
 use transaction::TxId;
 use values::Bytes;
 use world::World;
 
 const ADMIN: &str = "admin 'Org1.peer'\n";
 
-/// The same blocks where nobody may update.
+/// A peer that is handed these blocks, in whose channel nobody may update.
 #[derive(Drop)]
 struct Unchanged {
     plain: PlainPeer,
@@ -101,7 +100,12 @@ fn drafted_at_random(
     let version = version_at_random(random, world);
     // blocks of updates and of transactions in turn
     let is_of_updates = world.height() % 2 == 0;
-    let script = script_with_updates(alloc, random, keys, version, world, nonces, is_of_updates)?;
+    let next = Next {
+        keys,
+        version,
+        world,
+    };
+    let script = script_with_updates(alloc, random, next, nonces, is_of_updates)?;
     next_block(alloc, keys, version, world, script.as_str())
 }
 

@@ -5,11 +5,11 @@ use crate::scripted::next_block;
 use crate::spoiling::raw_line_of;
 use crate::update_rows::ADMIN;
 use block::BlockVersion;
-use failing::{Failed, check};
 use header_hash::tx_id;
 use key_book::KeyBook;
 use policy_eval::Verify;
 use std::alloc::{AllocError, Global};
+use test_support::{Failed, check};
 use transaction::Identity;
 use values::Bytes;
 use world::World;
@@ -22,7 +22,7 @@ const BEHIND_ID: &[u8] = b"\x04Org1\0\x02a0\x02n2\x02cc\0\x0fOR('Org2.peer')";
 
 const ENDORSEMENTS: &[u8] = b"\x01\x04Org1\0\x02a0\0\x01e";
 
-// The same and the creator's signature.
+// The endorsement and the creator's signature.
 const REST: &[u8] = b"\x01\x04Org1\0\x02a0\0\x01e\0\x01c";
 
 /// A verifier by which `c` is the creator's signature, over this message alone, and `e` the endorser's.

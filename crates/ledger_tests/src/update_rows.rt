@@ -30,6 +30,7 @@ pub fn refusals() -> &'static [UpdateChain<'static>] {
     &REFUSALS
 }
 
+/// All chains with updates, worked out by hand.
 pub fn chains() -> &'static [UpdateChain<'static>] {
     &CHAINS
 }

@@ -8,12 +8,12 @@ use crate::update_faults::have_faults;
 use crate::update_rows::{FIRST_POLICY, UpdateBlock, UpdateChain, chains, refusals};
 use crate::updates_by_workers::check_in_all;
 use block::BlockVersion;
-use failing::{Failed, check};
 use key_book::KeyBook;
 use ledger::Ledger;
 use std::alloc::Global;
 use std::sync::Wait;
 use std::thread::Threads;
+use test_support::{Failed, check};
 use values::Bytes;
 
 pub const KEYS: &str = "\

@@ -1,16 +1,16 @@
 //! Updates of definitions by committers.
 
-use crate::by_workers::{Way, is_committed_in, ways};
+use crate::by_workers::{Flagged, Way, is_committed_in, ways};
 use crate::committers::{Trial, check_by};
 use crate::fixture::{are_numbered, channel_with};
 use crate::update_rows::{FIRST_POLICY, UpdateBlock, UpdateChain};
 use commit::{Committer, NotCommitted, QueryHandle, Receipt};
-use failing::{Failed, check};
 use gates::{Gate, Open, Reverse};
 use key_book::KeyBook;
 use std::alloc::Global;
 use std::sync::Wait;
 use std::thread::Threads;
+use test_support::{Failed, check};
 use values::{Bytes, NameRef};
 
 /// The blocks of a chain, handed in one by one or at once.
@@ -49,20 +49,21 @@ fn are_answers(answers: &[Result<Receipt, NotCommitted>], blocks: &[UpdateBlock<
 }
 
 impl UpdatedChain<'_> {
-    // Wants the block committed so, and then what it leaves at this height.
+    // Wants the block committed so.
     fn check_next<R: Threads + Wait + Sync>(
         &self,
         rt: &R,
         alloc: Global,
         committer: &mut Committer,
-        handle: &mut QueryHandle,
         bytes: &Bytes,
         block: &UpdateBlock<'_>,
-        height: u64,
     ) -> Result<(), Failed> {
-        let (bytes, flags) = (bytes.as_slice(), block.flags);
-        check(is_committed_in(rt, alloc, self.way, committer, self.keys, bytes, flags)?)?;
-        check_answer(alloc, handle, height, block.policy)
+        let block = Flagged {
+            bytes: bytes.as_slice(),
+            keys: self.keys,
+            flags: block.flags,
+        };
+        check(is_committed_in(rt, alloc, self.way, committer, block)?)
     }
 
     fn check_one_by_one<R: Threads + Wait + Sync>(
@@ -76,7 +77,8 @@ impl UpdatedChain<'_> {
         let mut height = 0u64;
         for (bytes, block) in self.blocks.iter().zip(self.chain.blocks) {
             height = height.wrapping_add(1);
-            self.check_next(rt, alloc, committer, handle, bytes, block, height)?;
+            self.check_next(rt, alloc, committer, bytes, block)?;
+            check_answer(alloc, handle, height, block.policy)?;
         }
         check(self.blocks.len() == self.chain.blocks.len())
     }
@@ -121,6 +123,7 @@ impl UpdatedChain<'_> {
         }
     }
 
+    /// Wants the flags, and the policies answered.
     pub fn check_with<R: Threads + Wait + Sync>(
         &self,
         rt: &R,

@@ -6,7 +6,6 @@ use crate::refusals::{NUMBER, flip};
 use crate::scripted::next_block;
 use block::BlockVersion;
 use commit::{Committer, NotCommitted, Receipt};
-use failing::{Failed, check};
 use gates::Open;
 use key_book::KeyBook;
 use ledger::Ledger;
@@ -14,6 +13,7 @@ use rules::Refused;
 use std::alloc::Global;
 use std::sync::Wait;
 use std::thread::Threads;
+use test_support::{Failed, check};
 use values::Bytes;
 
 // Behind the magic, the number, and the previous hash with its length.
@@ -131,7 +131,7 @@ fn old_versions_by_one_thread(rt: HostRuntime) -> Result<(), Failed> {
     check_by_ledger(rt.alloc())
 }
 
-/// The same for a committer, one by one or at once.
+/// Blocks of both versions that a committer is handed, one by one or at once.
 #[derive(Clone, Copy)]
 pub struct HandedIn<'a> {
     keys: &'a KeyBook,
@@ -182,6 +182,7 @@ impl HandedIn<'_> {
         Ok(are_answers(answers.as_slice()))
     }
 
+    /// Wants each block answered as the ledger answered it.
     pub fn check_with<R: Threads + Wait + Sync>(
         &self,
         rt: &R,

@@ -8,8 +8,8 @@ use chain_vectors::WorkedChain;
 use chain_vectors::worked_endorsers::worked_endorsers;
 use chain_vectors::worked_ranges::worked_ranges;
 use chain_vectors::worked_reads::worked_reads;
-use failing::{Failed, check};
 use std::alloc::Global;
+use test_support::{Failed, check};
 
 /// All of them, in three parts.
 pub fn worked(part: u8) -> &'static [WorkedChain] {

@@ -7,7 +7,7 @@ ghost use Rattle.rules.specs.Ranges.{is_up_to, is_compared, results_of};
 ghost use Rattle.rules.specs.ReadWriteSets.{has_results_in_form};
 ghost use Rattle.mvcc.specs.RangeChecks.{is_result};
 
-use block_steps::is_within;
+use rules::is_within;
 use std::cmp::Ordering;
 use transaction::{Range, Version};
 use values::KeyRef;

@@ -61,6 +61,7 @@ fn is_found<B: Board>(
     }
 }
 
+/// Whether each of these results is in the compared part, and has its version there.
 fn are_found<B: Board>(
     job: &Job<'_, '_>,
     i: u32,
@@ -143,7 +144,7 @@ fn are_rows_listed<B: Board>(
     Decision::Sure(true)
 }
 
-/// The same of keys that the block writes, in any order.
+/// Whether each of these keys, in any order, isn't compared, is a result, or is absent.
 fn are_keys_listed<B: Board>(
     job: &Job<'_, '_>,
     i: u32,
@@ -173,24 +174,31 @@ fn are_keys_listed<B: Board>(
     Decision::Sure(true)
 }
 
-/// Over the results, the rows before the block and the keys that it writes.
+/// The keys in a range's bounds that may have a version there: of rows before the block, and those that the block writes.
+#[derive(Drop)]
+struct InBounds<'r> {
+    rows: Rows<'r>,
+    written: &'r [StateKey<'r>],
+}
+
+/// Whether a range has what it found, over its results and the keys in its bounds.
 fn range_over<B: Board>(
     job: &Job<'_, '_>,
     i: u32,
     namespace: &NameRef<'_>,
     range: &Range<'_>,
-    rows: Rows<'_>,
-    keys: &[StateKey<'_>],
+    in_bounds: InBounds<'_>,
     board: &mut B,
 ) -> Decision<bool>
     requires in_form { IsTrue (has_results_in_form range.now) }
-    requires stop { checks.StopCompared range.now (map (λ e. e.0.1) rows) }
+    requires stop { checks.StopCompared range.now (map (λ e. e.0.1) in_bounds.rows) }
     requires board { i ≤ B.count board.old }
     ensures moves { B.moves board.old board.new }
     ensures decision { MatchDecision result
-        (λ v. Sure (λ called n. checks.is_as_found (state_under job.now called n) namespace.now range.now (map (λ e. e.0.1) rows.entry) (map (λ k. k.1) keys.now)) (valid_in (B.known board.new)) i v)
+        (λ v. Sure (λ called n. checks.is_as_found (state_under job.now called n) namespace.now range.now (map (λ e. e.0.1) in_bounds.entry.rows) (map (λ k. k.1) in_bounds.entry.written.now)) (valid_in (B.known board.new)) i v)
         (λ h. WaitsFor job.now (B.known board.new) i (range_at namespace.now range.now) h) }
 {
+    let InBounds { rows, written } = in_bounds;
     match are_found(job, i, namespace, range, range.results.as_slice(), board) {
         Decision::Sure(true) => {}
         Decision::Sure(false) => return Decision::Sure(false),
@@ -201,9 +209,10 @@ fn range_over<B: Board>(
         Decision::Sure(false) => return Decision::Sure(false),
         Decision::Blocked(h) => return Decision::Blocked(h),
     }
-    are_keys_listed(job, i, namespace, range, keys, board)
+    are_keys_listed(job, i, namespace, range, written, board)
 }
 
+/// Whether a range holds.
 fn range_holds<B: Board>(
     job: &Job<'_, '_>,
     i: u32,
@@ -219,10 +228,12 @@ fn range_holds<B: Board>(
         (λ h. WaitsFor job.now (B.known board.new) i (range_at namespace.now range.now) h) }
 {
     let rows = job.rows_between(namespace, &range.start, &range.end);
-    let keys = job.keys_between(namespace, &range.start, &range.end);
-    range_over(job, i, namespace, range, rows, keys, board)
+    let written = job.keys_between(namespace, &range.start, &range.end);
+    let in_bounds = InBounds { rows, written };
+    range_over(job, i, namespace, range, in_bounds, board)
 }
 
+/// Whether each range of a namespace holds.
 pub(crate) fn ranges_hold<B: Board>(
     job: &Job<'_, '_>,
     i: u32,

@@ -4,8 +4,8 @@ use denote.Struct.Declared.{shape}
 use Rattle.rules.proofs.Crossing.{crossing, policy_send, policy_sync}
 use Rattle.rules.specs.contracts.delta.NewUse as new_use
 use Rattle.state_db.specs.contracts.batch.Batch as batch
-use Rattle.next_block.specs.contracts.unhashed.Unhashed as unhashed
-use Rattle.next_block.specs.contracts.unhashed.Unhashed.TheInside as inside
+use Rattle.next_block.specs.contracts.pending.PendingDelta as pending
+use Rattle.next_block.specs.contracts.pending.PendingDelta.TheInside as inside
 
 batch_sync : IsSync batch.the_row
 batch_sync = search (crossing, policy_send, policy_sync) depth 40 fits 100000
@@ -37,5 +37,5 @@ fields_sync = recorded_sync _ _ (inside.the_type.to) (inside.the_type.to_one) (s
   ),
 ))
 
-pub unhashed_sync : IsSync unhashed.the_row
-unhashed_sync = view_sync inside.the_row _ _ _ _ fields_sync
+pub pending_sync : IsSync pending.the_row
+pending_sync = view_sync inside.the_row _ _ _ _ fields_sync

@@ -1,9 +1,9 @@
--- What was foreseen of a block, and marked.
+-- What was tentative of a block, and marked.
 use Rattle.std.proofs.Common.{◌≡◌, ◌≤◌, ℕ, suc, Bool, true, false, List, [], ◌∷◌, Option, length, refl, ap, arith}
 use Rattle.std.specs.List.{list_any}
 use Rattle.rules.specs.Candidate.{Candidate}
 use Rattle.rules.specs.FirstUses.{FirstUses}
-use Rattle.intake.specs.Foreseen.{marked}
+use Rattle.intake.specs.Tentative.{marked}
 use Rattle.txid_index.specs.Marks.{marks}
 
 -- where no id is used, the candidates stay as they are

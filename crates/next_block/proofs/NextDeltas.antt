@@ -1,13 +1,11 @@
 -- What the candidates of the next block change is its delta, and a world with it applied is a step.
-use Rattle.std.proofs.Common.{◌≡◌, ℕ, ◌==◌, List, [], length, map, Option, Result, Ok, Err, refl, sym, ap, subst, ◌∙◌}
+use Rattle.std.proofs.Common.{◌≡◌, ℕ, ◌==◌, List, [], length, map, Option, Ok, refl, sym, ap, subst, ◌∙◌}
 use Rattle.std.proofs.lemmas.List.{length-map}
 use Rattle.block.specs.declared.block.Block.{Block}
 use Rattle.block.specs.Grammar.{Spells}
 use Rattle.channel.specs.Configuration.{Configuration}
 use Rattle.policy_eval.specs.Accepts.{Accepts}
 use Rattle.rules.specs.declared.answer.Accepted.{Accepted}
-use Rattle.rules.specs.declared.answer.Refused.{Refused}
-use Rattle.rules.specs.declared.answer.Refused.TheVariants.{Memory}
 use Rattle.rules.specs.declared.committed.CommittedBlock.{CommittedBlock}
 use Rattle.rules.specs.declared.delta.Delta.{Delta}
 use Rattle.rules.specs.Candidate.{used_id}
@@ -17,7 +15,7 @@ use Rattle.rules.specs.FirstUses.{with_uses}
 use Rattle.rules.specs.Definitions.{with_definitions}
 use Rattle.rules.specs.Names.{HasNamesOf}
 use Rattle.rules.specs.Job.{Job}
-use Rattle.rules.specs.Linked.{IsLinked, IsRefused}
+use Rattle.rules.specs.Linked.{IsLinked}
 use Rattle.rules.specs.Step.{Step}
 use Rattle.rules.specs.World.{World, height_of, last_commit_hash}
 use Rattle.rules.proofs.Candidates.{length-candidates_from}

@@ -1,6 +1,6 @@
 pub mod Changes
-pub mod Foreseen
+pub mod Tentative
 pub mod NextDelta
 pub mod Submissions
 pub mod Taken
-pub mod Unhashed
+pub mod PendingDelta

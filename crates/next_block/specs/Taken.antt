@@ -1,4 +1,4 @@
--- A block that was taken in: what can be said of its items without the world.
+-- A block that was taken in: what can be said of its items without the world. No public contract cites this.
 use Rattle.std.specs.Prelude.{◌≡◌, ℕ, List, map, Result, MatchResult, Vec}
 use Rattle.std.specs.declared.alloc.Global.{Global}
 use Rattle.block.specs.declared.block.Block.{Block}

@@ -1,10 +1,14 @@
-//! What the next block makes of a ledger: its job, of what needs no world and then of the world; and its delta, of the flags.
+//! The next block of a ledger: its job, first of what needs no world and then of the world, and its delta, of its
+//! flags.
 #![tactic(auto)]
 
-mod foreseen;
+mod commit_hash;
+mod hashing;
 mod next_delta;
-mod unhashed;
+mod pending;
+mod tentative;
 
-pub use foreseen::{Foreseen, foreseen_of};
-pub use next_delta::{delta_of, job_of, job_over, marked_of, unhashed_of};
-pub use unhashed::Unhashed;
+pub use hashing::hash_beside;
+pub use next_delta::{NextBlock, flag_duplicates, job_of, job_over, pending_delta_of};
+pub use pending::PendingDelta;
+pub use tentative::{TentativeJob, tentative_job_of};

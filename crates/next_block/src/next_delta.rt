@@ -1,4 +1,4 @@
-//! What the next block of a ledger makes of it, as a delta.
+//! The job of the next block of a world, and its delta.
 ghost use Rattle.std.specs.Prelude.{◌≡◌, ◌≤◌, List, length, IfOk};
 ghost use Rattle.intake.specs.declared.taking.Taken as as_taken;
 ghost use Rattle.block.specs.Limits.{max_txs};
@@ -10,72 +10,84 @@ ghost use Rattle.rules.specs.Fold.{final_state, definitions_to};
 ghost use Rattle.rules.specs.State.{State, with_changes};
 ghost use Rattle.state_db.specs.Batch.{changed};
 ghost use Rattle.state_db.specs.LookedUp.{AreRows};
-ghost use Rattle.next_block.specs.Changes.{AddEntriesOf};
-ghost use Rattle.next_block.specs.Foreseen.{AreForeseenIn};
+ghost use Rattle.next_block.specs.Changes.{AddEntriesOf, IsChangedBy};
+ghost use Rattle.next_block.specs.Tentative.{AreTentativeIn};
 ghost use Rattle.next_block.specs.NextDelta.{AreIdsOfTaken, IsDeltaOfJob, IsJobOfTaken, job_over};
 
-use crate::foreseen::{Foreseen, foreseen_of, with_marks};
-use crate::unhashed::{Place, Unhashed};
-use block_steps::{LinkedBlock, uses_of};
+use crate::pending::{Changed, PendingDelta, Place};
+use crate::tentative::{TentativeJob, tentative_job_of, with_marks};
 use channel::Configuration;
 use effects::{Effects, effects_of};
 use header_hash::header_hash;
-use intake::{Taken, foreseen_candidates_are_the_definitions};
-use key_chains::{Chained, Job};
-use rules::Flag;
+use intake::{Taken, tentative_candidates_are_the_definitions};
+use key_chains::{Job, KeyWriters};
+use linking::LinkedBlock;
+use rules::{Flag, uses_of};
 use state_db::{Batch, FoundRows};
 use std::alloc::{AllocError, Global};
 use transaction::TxId;
 use values::{Bytes, Hash, Shared, Slice};
-use world::{ReadyDelta, World};
+use world::World;
 
-// how many bytes tell how long a transaction is
-const TX_COUNT: usize = 4;
+// A block spells the length of each transaction in so many bytes.
+const TX_LENGTH_BYTES: usize = 4;
 
-/// The candidates of the next block, linked, of what was foreseen of it, and the id that each of its transactions uses.
-///
-/// One pass over its ids, and memory for a list of marks; where an id is used, for what was foreseen once more.
-pub fn marked_of<'b>(
-    alloc: Global,
-    world: &World,
-    foreseen: Foreseen<'b>,
-) -> Result<(Chained<'b>, Vec<Option<TxId>>), AllocError>
-    requires count { length foreseen.chained ≡ length foreseen.ids.items }
-    requires few { length foreseen.ids.items ≤ max_txs }
-    ensures few { IfOk result (λ r. length r.0 ≤ max_txs) }
-    ensures job { IfOk result (λ r. (channel : as_channel.Configuration) (taken : List as_taken.Taken) → AreForeseenIn taken foreseen.entry → IsJobOfTaken channel world.now taken (job_over channel world.now r.0)) }
-    ensures ids { IfOk result (λ r. (channel : as_channel.Configuration) (taken : List as_taken.Taken) → AreForeseenIn taken foreseen.entry → AreIdsOfTaken channel taken r.1.items) }
-{
-    foreseen_candidates_are_the_definitions();
-    let Foreseen { ids, chained } = foreseen;
-    let used = world.mark(alloc, ids.as_slice())?;
-    let chained = with_marks(alloc, chained, used.as_slice())?;
-    Ok((chained, ids))
+/// The next block of a chain: linked, with its bytes, to be kept, and the commit hash of the block before it, or none.
+#[derive(Drop)]
+pub struct NextBlock<'l, 'b> {
+    pub block: &'l LinkedBlock<'b>,
+    pub bytes: Shared<Bytes>,
+    pub last: Option<Hash>,
 }
 
-/// The job of the next block, whose candidates these are, where the row of each key that they write was found. Constant time.
+/// Marks the candidates of the next block whose ids were used before; answers the candidates with their key writers,
+/// and the id that each of its transactions uses.
+///
+/// One pass over the ids, and memory for a list of marks. Where an id was used, the key writers are built anew, with
+/// memory for them.
+pub fn flag_duplicates<'b>(
+    alloc: Global,
+    world: &World,
+    tentative: TentativeJob<'b>,
+) -> Result<(KeyWriters<'b>, Vec<Option<TxId>>), AllocError>
+    requires count { length tentative.key_writers ≡ length tentative.ids.items }
+    requires few { length tentative.ids.items ≤ max_txs }
+    ensures few { IfOk result (λ r. length r.0 ≤ max_txs) }
+    ensures job { IfOk result (λ r. (channel : as_channel.Configuration) (taken : List as_taken.Taken) → AreTentativeIn taken tentative.entry → IsJobOfTaken channel world.now taken (job_over channel world.now r.0)) }
+    ensures ids { IfOk result (λ r. (channel : as_channel.Configuration) (taken : List as_taken.Taken) → AreTentativeIn taken tentative.entry → AreIdsOfTaken channel taken r.1.items) }
+{
+    tentative_candidates_are_the_definitions();
+    let TentativeJob { ids, key_writers } = tentative;
+    let used = world.mark(alloc, ids.as_slice())?;
+    let key_writers = with_marks(alloc, key_writers, used.as_slice())?;
+    Ok((key_writers, ids))
+}
+
+/// The job of the next block, of its candidates and of the row of each key that they write. Constant time, no memory.
 pub fn job_over<'s, 'b>(
     channel: &'s Configuration,
     world: &'s World,
-    chained: Chained<'b>,
+    key_writers: KeyWriters<'b>,
     found: FoundRows<'s>,
 ) -> Job<'s, 'b>
-    requires few { length chained ≤ max_txs }
-    requires found { AreRows world.now.state (keys_in chained) found.rows.items }
-    ensures { result ≡ job_over channel.entry.now world.entry.now chained.entry }
+    requires few { length key_writers ≤ max_txs }
+    requires found { AreRows world.now.state (keys_in key_writers) found.rows.items }
+    ensures { result ≡ job_over channel.entry.now world.entry.now key_writers.entry }
 {
     Job::of_found(
         world.height(),
         world.state(),
         world.definitions(),
         channel.admin(),
-        chained,
+        key_writers,
         found,
     )
 }
 
-/// The job of the next block, of what was taken in of it, and the id that each of its transactions uses. A search for the row of each key
-/// that it writes.
+/// The job of the next block, of what was taken in of it, and the id that each of its transactions uses.
+///
+/// Searches the row of each key that the block writes; costs what [`tentative_job_of`] and [`flag_duplicates`] do
+/// beside.
 pub fn job_of<'s, 'b>(
     alloc: Global,
     channel: &'s Configuration,
@@ -86,23 +98,23 @@ pub fn job_of<'s, 'b>(
     ensures job { IfOk result (λ r. IsJobOfTaken channel.entry.now world.entry.now taken.entry.items r.0) }
     ensures ids { IfOk result (λ r. AreIdsOfTaken channel.entry.now taken.entry.items r.1.items) }
 {
-    let foreseen = foreseen_of(alloc, taken)?;
-    let (chained, ids) = marked_of(alloc, world, foreseen)?;
-    let found = world.state().rows_of(alloc, chained.keys())?;
-    Ok((job_over(channel, world, chained, found), ids))
+    let tentative = tentative_job_of(alloc, taken)?;
+    let (key_writers, ids) = flag_duplicates(alloc, world, tentative)?;
+    let found = world.state().rows_of(alloc, key_writers.keys())?;
+    Ok((job_over(channel, world, key_writers, found), ids))
 }
 
-/// Where the transactions of a block begin in its bytes, of which there are so many. No clause speaks of it: what is looked for
-/// there is compared.
+/// Where the transactions of a block begin in its bytes, of which there are so many. No clause speaks of these places:
+/// what is found there is compared with what is written.
 fn starts_of(alloc: Global, bytes: usize, txs: &[Slice<'_>]) -> Result<Vec<usize>, AllocError> {
     let mut starts = Vec::with_capacity(alloc, txs.len())?;
     let mut spelled = 0usize;
     for tx in txs {
-        spelled = spelled.wrapping_add(TX_COUNT).wrapping_add(tx.len());
+        spelled = spelled.wrapping_add(TX_LENGTH_BYTES).wrapping_add(tx.len());
     }
     let mut end = bytes.wrapping_sub(spelled);
     for tx in txs {
-        let start = end.wrapping_add(TX_COUNT);
+        let start = end.wrapping_add(TX_LENGTH_BYTES);
         starts.push(start)?;
         end = start.wrapping_add(tx.len());
     }
@@ -130,53 +142,54 @@ fn effects_in(
     Ok((effects, batch))
 }
 
-/// The delta of a block that is the next one behind a block of this commit hash, which keeps these bytes; of its job, ids and flags;
-/// but for its own commit hash. With the batch of its changes, by which the rows that differ are spelled too.
-///
-/// Linear in the block and in what it writes. Memory for the delta and its batch, and for what is hashed; keys and values are parts of
-/// the bytes where they stand in them.
-pub fn unhashed_of(
+/// What a job changes, and the first uses of ids, where these are its flags.
+fn changed_by(
     alloc: Global,
-    bytes: Shared<Bytes>,
-    block: &LinkedBlock<'_>,
-    last: Option<Hash>,
+    next: &NextBlock<'_, '_>,
+    job: &Job<'_, '_>,
+    ids: &[Option<TxId>],
+    flags: &[Flag],
+) -> Result<Changed, AllocError>
+    requires flags { flags.now ≡ fold.flags job.now }
+    requires ids { length ids.now ≡ length job.now.candidates }
+    requires few { length ids.now ≤ max_txs }
+    ensures { IfOk result (IsChangedBy job.now ids.now) }
+{
+    let uses = uses_of(alloc, job.number(), ids, flags)?;
+    let (effects, batch) = effects_in(alloc, job, flags, &next.bytes, next.block.txs())?;
+    let update = job.update_bytes(&batch)?;
+    Ok(Changed {
+        effects,
+        batch,
+        uses,
+        update,
+    })
+}
+
+/// The delta of the next block, but for its commit hash, of its job, of the ids that its transactions use and of its
+/// flags; with the batch of its changes.
+///
+/// Linear in the block and in what it writes. Memory for the delta, its batch and what is hashed; keys and values are
+/// parts of the bytes where they stand there.
+pub fn pending_delta_of(
+    alloc: Global,
+    next: NextBlock<'_, '_>,
     job: &Job<'_, '_>,
     ids: &[Option<TxId>],
     flags: Vec<Flag>,
-) -> Result<Unhashed, AllocError>
+) -> Result<PendingDelta, AllocError>
     requires flags { flags.items ≡ fold.flags job.now }
     requires ids { length ids.now ≡ length job.now.candidates }
     requires few { length ids.now ≤ max_txs }
-    ensures { IfOk result (λ d. IsDeltaOfJob job.now ids.now last bytes block.now d) }
+    ensures { IfOk result (λ d. IsDeltaOfJob job.now ids.now next.entry.last next.entry.bytes next.entry.block.now d) }
 {
-    let uses = uses_of(alloc, job.number(), ids, flags.as_slice())?;
-    let (effects, batch) = effects_in(alloc, job, flags.as_slice(), &bytes, block.txs())?;
-    let update = job.update_bytes(&batch)?;
+    let changed = changed_by(alloc, &next, job, ids, flags.as_slice())?;
+    let NextBlock { block, bytes, last } = next;
     let place = Place {
         number: job.number(),
         header_hash: header_hash(block.header()),
         version: block.version(),
         last,
     };
-    Ok(Unhashed::of_parts(place, bytes, flags, effects, batch, uses, update))
-}
-
-/// The same with its commit hash.
-pub fn delta_of(
-    alloc: Global,
-    bytes: Shared<Bytes>,
-    block: &LinkedBlock<'_>,
-    last: Option<Hash>,
-    job: &Job<'_, '_>,
-    ids: &[Option<TxId>],
-    flags: Vec<Flag>,
-) -> Result<ReadyDelta, AllocError>
-    requires flags { flags.items ≡ fold.flags job.now }
-    requires ids { length ids.now ≡ length job.now.candidates }
-    requires few { length ids.now ≤ max_txs }
-    ensures { IfOk result (λ d. IsDeltaOfJob job.now ids.now last bytes block.now d) }
-{
-    let unhashed = unhashed_of(alloc, bytes, block, last, job, ids, flags)?;
-    let commit_hash = unhashed.commit_hash(alloc)?;
-    unhashed.with_commit_hash(alloc, commit_hash)
+    Ok(PendingDelta::of_parts(place, bytes, flags, changed))
 }

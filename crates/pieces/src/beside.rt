@@ -1,23 +1,25 @@
-ghost use Rattle.std.specs.Prelude.{◌≡◌, [], ◌∷◌, ◌++◌, map, IfOk};
+ghost use Rattle.std.specs.Prelude.{◌≡◌, ◌≤◌, [], ◌∷◌, ◌++◌, map, vec_capacity, IfOk};
 ghost use Rattle.std.specs.List.{All};
 ghost use Rattle.pieces.specs.Pieces.{IsMade, AreMade};
 
-use crate::drawing::{Drawn, DrawnBoth, Kind, draw_all, draw_both};
+use crate::drawing::{Drawn, DrawnBoth, Pile, draw_all, draw_both};
 use crate::joining::joined;
 use crate::work::Work;
 use std::alloc::{AllocError, Global};
-use std::sync::atomic::AtomicUsize;
 use std::thread;
 use std::thread::Threads;
 
-/// What was made of all pieces of one kind and of the other, each in their order.
+/// What was made of all pieces of one pile and of the other, each in their order.
 pub type MadeOfBoth<X, Y> = Result<(Vec<X>, Vec<Y>), AllocError>;
+
+// What each worker drew, or that memory for them was refused.
+type DrawnByAll<X, Y> = Result<Vec<DrawnBoth<X, Y>>, AllocError>;
 
 // One worker, who does work of its own first.
 fn draw_behind_call<P, X: Drop, W: Work<P, X>, Q, Y: Drop, V: Work<Q, Y>, Z, F: FnMut() -> Z>(
     alloc: Global,
-    first: &Kind<'_, P, W>,
-    second: &Kind<'_, Q, V>,
+    first: &Pile<'_, P, W>,
+    second: &Pile<'_, Q, V>,
     own: &mut F,
 ) -> (DrawnBoth<X, Y>, Z)
     requires { F.pre own.old }
@@ -29,7 +31,19 @@ fn draw_behind_call<P, X: Drop, W: Work<P, X>, Q, Y: Drop, V: Work<Q, Y>, Z, F: 
     (draw_both(alloc, first, second), made)
 }
 
-// What all workers drew, the calling thread last, each kind by itself.
+// Room for what so many workers drew, for each pile by itself.
+fn rooms<X: Drop, Y: Drop>(
+    alloc: Global,
+    workers: usize,
+) -> Result<(Vec<Drawn<X>>, Vec<Drawn<Y>>), AllocError>
+    ensures first { IfOk result (λ r. (r.0.items ≡ []) × (workers ≤ vec_capacity r.0)) }
+    ensures second { IfOk result (λ r. (r.1.items ≡ []) × (workers ≤ vec_capacity r.1)) }
+{
+    let firsts = Vec::with_capacity(alloc, workers)?;
+    Ok((firsts, Vec::with_capacity(alloc, workers)?))
+}
+
+// What all workers drew, the calling thread last, each pile by itself.
 fn apart<X: Drop, Y: Drop>(
     alloc: Global,
     drawn: Vec<DrawnBoth<X, Y>>,
@@ -40,8 +54,7 @@ fn apart<X: Drop, Y: Drop>(
 {
     let mut drawn = drawn;
     drawn.push(own)?;
-    let mut firsts = Vec::with_capacity(alloc, drawn.len())?;
-    let mut seconds = Vec::with_capacity(alloc, drawn.len())?;
+    let (mut firsts, mut seconds) = rooms(alloc, drawn.len())?;
     for both in drawn {
         let DrawnBoth { first, second } = both;
         firsts.push_reserved(first);
@@ -53,9 +66,9 @@ fn apart<X: Drop, Y: Drop>(
 // What all workers drew, the calling thread last, joined.
 fn joined_of<P, X: Drop, W: Work<P, X>, Q, Y: Drop, V: Work<Q, Y>>(
     alloc: Global,
-    first: &Kind<'_, P, W>,
-    second: &Kind<'_, Q, V>,
-    drawn: Result<Vec<DrawnBoth<X, Y>>, AllocError>,
+    first: &Pile<'_, P, W>,
+    second: &Pile<'_, Q, V>,
+    drawn: DrawnByAll<X, Y>,
     own: DrawnBoth<X, Y>,
 ) -> MadeOfBoth<X, Y>
     requires first { IfOk drawn (λ drawn. All (λ both. IfOk both.first (λ all. All (λ made. IsMade (W.gives first.now.work.now) first.now.pieces.now made.place made.item) all.items)) drawn.items) }
@@ -70,12 +83,16 @@ fn joined_of<P, X: Drop, W: Work<P, X>, Q, Y: Drop, V: Work<Q, Y>>(
     Ok((made, joined(alloc, second.pieces, seconds, second.work)?))
 }
 
-/// What is made of all pieces of two kinds, in their order, by so many workers, of whom the calling thread is one.
-///
-/// It makes `own` first, whose result is the second, and takes then part in what is left. Pieces are drawn one by one, and
-/// those of the first kind before those of the second, so workers that are late or can't be started are done without. An
-/// `Err` is want of memory alone. One worker starts no thread; more cost their starting, some 15 microseconds each.
-pub fn in_pieces_beside<
+/// Who works: the runtime that starts threads, the memory, and how many workers there are, of whom the calling thread is one.
+#[derive(Clone, Copy)]
+pub struct Crew<'m, R> {
+    pub rt: &'m R,
+    pub alloc: Global,
+    pub workers: usize,
+}
+
+// What so many threads drew; and what the calling thread drew meanwhile, behind its own work, with what that made.
+fn drawn_by_threads<
     R: Threads + Sync,
     P: Sync,
     X: Send + Drop,
@@ -88,39 +105,84 @@ pub fn in_pieces_beside<
 >(
     rt: &R,
     alloc: Global,
-    pieces: &[P],
-    work: &W,
-    others: &[Q],
-    other_work: &V,
-    workers: usize,
+    first: &Pile<'_, P, W>,
+    second: &Pile<'_, Q, V>,
+    threads: usize,
+    own: &mut F,
+) -> (DrawnByAll<X, Y>, (DrawnBoth<X, Y>, Z))
+    requires { F.pre own.old }
+    ensures first { IfOk result.0 (λ drawn. All (λ both. IfOk both.first (λ all. All (λ made. IsMade (W.gives first.now.work.now) first.now.pieces.now made.place made.item) all.items)) drawn.items) }
+    ensures second { IfOk result.0 (λ drawn. All (λ both. IfOk both.second (λ all. All (λ made. IsMade (V.gives second.now.work.now) second.now.pieces.now made.place made.item) all.items)) drawn.items) }
+    ensures own_first { IfOk result.1.0.first (λ all. All (λ made. IsMade (W.gives first.now.work.now) first.now.pieces.now made.place made.item) all.items) }
+    ensures own_second { IfOk result.1.0.second (λ all. All (λ made. IsMade (V.gives second.now.work.now) second.now.pieces.now made.place made.item) all.items) }
+    ensures own { F.step own.old result.1.1 own.new }
+{
+    thread::join_mut(
+        rt,
+        &mut || draw_all(rt, alloc, first, second, threads),
+        &mut || draw_behind_call(alloc, first, second, own),
+    )
+}
+
+// What all workers drew, the calling thread last and behind its own work, with what that made.
+fn drawn_beside<
+    R: Threads + Sync,
+    P: Sync,
+    X: Send + Drop,
+    W: Work<P, X> + Sync,
+    Q: Sync,
+    Y: Send + Drop,
+    V: Work<Q, Y> + Sync,
+    Z,
+    F: FnMut() -> Z,
+>(
+    crew: &Crew<'_, R>,
+    first: &Pile<'_, P, W>,
+    second: &Pile<'_, Q, V>,
+    own: &mut F,
+) -> (DrawnByAll<X, Y>, (DrawnBoth<X, Y>, Z))
+    requires { F.pre own.old }
+    ensures first { IfOk result.0 (λ drawn. All (λ both. IfOk both.first (λ all. All (λ made. IsMade (W.gives first.now.work.now) first.now.pieces.now made.place made.item) all.items)) drawn.items) }
+    ensures second { IfOk result.0 (λ drawn. All (λ both. IfOk both.second (λ all. All (λ made. IsMade (V.gives second.now.work.now) second.now.pieces.now made.place made.item) all.items)) drawn.items) }
+    ensures own_first { IfOk result.1.0.first (λ all. All (λ made. IsMade (W.gives first.now.work.now) first.now.pieces.now made.place made.item) all.items) }
+    ensures own_second { IfOk result.1.0.second (λ all. All (λ made. IsMade (V.gives second.now.work.now) second.now.pieces.now made.place made.item) all.items) }
+    ensures own { F.step own.old result.1.1 own.new }
+{
+    let started = crew.workers.saturating_sub(1);
+    if started == 0 {
+        let last = draw_behind_call(crew.alloc, first, second, own);
+        return (Ok(Vec::new(crew.alloc)), last);
+    }
+    drawn_by_threads(crew.rt, crew.alloc, first, second, started, own)
+}
+
+/// Makes all pieces of two piles, in their order, by a crew. The calling thread calls `own` first, whose result is the second
+/// one here, and then takes part.
+///
+/// Pieces are drawn one by one, those of the first pile before those of the second, so that a worker that is late or can't be
+/// started is done without. An `Err` is want of memory alone. One worker starts no thread; each other one costs its start, some
+/// 15 microseconds.
+pub fn in_pieces_beside<
+    R: Threads + Sync,
+    P: Sync,
+    X: Send + Drop,
+    W: Work<P, X> + Sync,
+    Q: Sync,
+    Y: Send + Drop,
+    V: Work<Q, Y> + Sync,
+    Z,
+    F: FnMut() -> Z,
+>(
+    crew: &Crew<'_, R>,
+    first: &Pile<'_, P, W>,
+    second: &Pile<'_, Q, V>,
     own: &mut F,
 ) -> (MadeOfBoth<X, Y>, Z)
     requires { F.pre own.old }
-    ensures pieces { IfOk result.0 (λ r. AreMade (W.gives work.now) pieces.now r.0.items) }
-    ensures others { IfOk result.0 (λ r. AreMade (V.gives other_work.now) others.now r.1.items) }
+    ensures first { IfOk result.0 (λ r. AreMade (W.gives first.now.work.now) first.now.pieces.now r.0.items) }
+    ensures second { IfOk result.0 (λ r. AreMade (V.gives second.now.work.now) second.now.pieces.now r.1.items) }
     ensures own { F.step own.old result.1 own.new }
 {
-    let first = Kind {
-        pieces,
-        work,
-        next: AtomicUsize::new(0),
-    };
-    let second = Kind {
-        pieces: others,
-        work: other_work,
-        next: AtomicUsize::new(0),
-    };
-    let (first, second) = (&first, &second);
-    let started = workers.saturating_sub(1);
-    let mut behind = || draw_behind_call(alloc, first, second, own);
-    let (drawn, (last, done)) = if started == 0 {
-        (Ok(Vec::new(alloc)), behind())
-    } else {
-        thread::join_mut(
-            rt,
-            &mut || draw_all(rt, alloc, first, second, started),
-            &mut behind,
-        )
-    };
-    (joined_of(alloc, first, second, drawn, last), done)
+    let (drawn, (last, done)) = drawn_beside(crew, first, second, own);
+    (joined_of(crew.alloc, first, second, drawn, last), done)
 }

@@ -1,5 +1,5 @@
 //! Workers draw the places of pieces, each place once.
-ghost use Rattle.std.specs.Prelude.{◌<◌, length, IfOk};
+ghost use Rattle.std.specs.Prelude.{◌≡◌, ◌<◌, length, IfOk};
 ghost use Rattle.std.specs.List.{All};
 ghost use Rattle.pieces.specs.Pieces.{IsMade};
 
@@ -9,66 +9,80 @@ use std::sync::atomic::{AtomicUsize, Ordering};
 use std::thread;
 use std::thread::Threads;
 
-/// Pieces of one kind, what is made of them, and the first place that nobody has drawn.
+/// Pieces from which workers draw, what is made of each, and the first place that nobody has drawn.
 #[derive(Drop)]
-pub(crate) struct Kind<'a, P, W> {
-    pub(crate) pieces: &'a [P],
-    pub(crate) work: &'a W,
-    pub(crate) next: AtomicUsize,
+pub struct Pile<'a, P, W> {
+    pub pieces: &'a [P],
+    pub work: &'a W,
+    next: AtomicUsize,
+}
+
+impl<'a, P, W> Pile<'a, P, W> {
+    /// Nobody has drawn a piece of it.
+    pub fn new(pieces: &'a [P], work: &'a W) -> Pile<'a, P, W>
+        ensures pieces { result.pieces.now ≡ pieces.entry.now }
+        ensures work { result.work.now ≡ work.entry.now }
+    {
+        Pile {
+            pieces,
+            work,
+            next: AtomicUsize::new(0),
+        }
+    }
 }
 
 /// What was made of the piece at a place.
 #[derive(Drop)]
-pub(crate) struct Made<X> {
+pub(crate) struct Placed<X> {
     pub(crate) place: usize,
     pub(crate) item: X,
 }
 
-/// What one worker made, or that it was refused memory.
-pub(crate) type Drawn<X> = Result<Vec<Made<X>>, AllocError>;
+/// What one worker made of the pieces that it drew from a pile, or that it was refused memory.
+pub(crate) type Drawn<X> = Result<Vec<Placed<X>>, AllocError>;
 
 fn make_one<P, X: Drop, W: Work<P, X>>(
     alloc: Global,
     pieces: &[P],
     place: usize,
     work: &W,
-) -> Result<Made<X>, AllocError>
+) -> Result<Placed<X>, AllocError>
     requires { place < length pieces.now }
     ensures { IfOk result (λ made. IsMade (W.gives work.now) pieces.now made.place made.item) }
 {
     let item = work.make(alloc, &pieces[place])?;
-    Ok(Made { place, item })
+    Ok(Placed { place, item })
 }
 
 /// Makes what is to be made of pieces for as long as there are places to draw, and lets other threads run behind each.
-pub(crate) fn draw<P, X: Drop, W: Work<P, X>>(alloc: Global, kind: &Kind<'_, P, W>) -> Drawn<X>
-    ensures { IfOk result (λ all. All (λ made. IsMade (W.gives kind.now.work.now) kind.now.pieces.now made.place made.item) all.items) }
+pub(crate) fn draw<P, X: Drop, W: Work<P, X>>(alloc: Global, pile: &Pile<'_, P, W>) -> Drawn<X>
+    ensures { IfOk result (λ all. All (λ made. IsMade (W.gives pile.now.work.now) pile.now.pieces.now made.place made.item) all.items) }
 {
     let mut all = Vec::new(alloc);
-    for _ in 0..kind.pieces.len() {
-        let place = kind.next.fetch_add(1, Ordering::SeqCst);
-        if place >= kind.pieces.len() {
+    for _ in 0..pile.pieces.len() {
+        let place = pile.next.fetch_add(1, Ordering::SeqCst);
+        if place >= pile.pieces.len() {
             break;
         }
-        all.push(make_one(alloc, kind.pieces, place, kind.work)?)?;
+        all.push(make_one(alloc, pile.pieces, place, pile.work)?)?;
         // threads at work may be more than processors, and whoever waits for one isn't to wait until all is drawn
         thread::yield_now();
     }
     Ok(all)
 }
 
-/// What one worker made of pieces of two kinds.
+/// What one worker made of the pieces of two piles.
 #[derive(Drop)]
 pub(crate) struct DrawnBoth<X, Y> {
     pub(crate) first: Drawn<X>,
     pub(crate) second: Drawn<Y>,
 }
 
-/// Makes what is to be made of the first kind for as long as there are places to draw, and then of the second.
+/// Makes what is to be made of the first pile for as long as there are places to draw, and then of the second.
 pub(crate) fn draw_both<P, X: Drop, W: Work<P, X>, Q, Y: Drop, V: Work<Q, Y>>(
     alloc: Global,
-    first: &Kind<'_, P, W>,
-    second: &Kind<'_, Q, V>,
+    first: &Pile<'_, P, W>,
+    second: &Pile<'_, Q, V>,
 ) -> DrawnBoth<X, Y>
     ensures first { IfOk result.first (λ all. All (λ made. IsMade (W.gives first.now.work.now) first.now.pieces.now made.place made.item) all.items) }
     ensures second { IfOk result.second (λ all. All (λ made. IsMade (V.gives second.now.work.now) second.now.pieces.now made.place made.item) all.items) }
@@ -91,8 +105,8 @@ pub(crate) fn draw_all<
 >(
     rt: &R,
     alloc: Global,
-    first: &Kind<'_, P, W>,
-    second: &Kind<'_, Q, V>,
+    first: &Pile<'_, P, W>,
+    second: &Pile<'_, Q, V>,
     workers: usize,
 ) -> Result<Vec<DrawnBoth<X, Y>>, AllocError>
     ensures first { IfOk result (λ drawn. All (λ both. IfOk both.first (λ all. All (λ made. IsMade (W.gives first.now.work.now) first.now.pieces.now made.place made.item) all.items)) drawn.items) }

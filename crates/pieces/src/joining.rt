@@ -3,7 +3,7 @@ ghost use Rattle.std.specs.Prelude.{◌≡◌, ◌<◌, length, IfOk, IfSome};
 ghost use Rattle.std.specs.List.{All};
 ghost use Rattle.pieces.specs.Pieces.{IsMade, Fits, AreMade};
 
-use crate::drawing::{Drawn, Made};
+use crate::drawing::{Drawn, Placed};
 use crate::work::Work;
 use std::alloc::{AllocError, Global};
 
@@ -23,7 +23,7 @@ fn no_slots<P, X: Drop, W: Work<P, X>>(
     Ok(slots)
 }
 
-fn put<P, X: Drop, W: Work<P, X>>(pieces: &[P], slots: &mut [Option<X>], made: Made<X>, work: &W)
+fn put<P, X: Drop, W: Work<P, X>>(pieces: &[P], slots: &mut [Option<X>], made: Placed<X>, work: &W)
     requires len { length slots.old ≡ length pieces.now }
     requires made { IsMade (W.gives work.now) pieces.now made.place made.item }
     requires fits { Fits (λ place slot. IfSome slot (λ made. IsMade (W.gives work.now) pieces.now place made)) slots.old }
@@ -37,7 +37,7 @@ fn put<P, X: Drop, W: Work<P, X>>(pieces: &[P], slots: &mut [Option<X>], made: M
 fn put_all<P, X: Drop, W: Work<P, X>>(
     pieces: &[P],
     slots: &mut [Option<X>],
-    all: Vec<Made<X>>,
+    all: Vec<Placed<X>>,
     work: &W,
 )
     requires len { length slots.old ≡ length pieces.now }
@@ -63,8 +63,15 @@ fn put_drawn<P, X: Drop, W: Work<P, X>>(
     ensures len { length slots.new ≡ length pieces.now }
     ensures fits { Fits (λ place slot. IfSome slot (λ made. IsMade (W.gives work.now) pieces.now place made)) slots.new }
 {
+    let mut is_refused = false;
     for one in drawn {
-        put_all(pieces, slots, one?, work);
+        match one {
+            Ok(all) => put_all(pieces, slots, all, work),
+            Err(AllocError) => is_refused = true,
+        }
+    }
+    if is_refused {
+        return Err(AllocError);
     }
     Ok(())
 }

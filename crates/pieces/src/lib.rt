@@ -6,5 +6,6 @@ mod drawing;
 mod joining;
 mod work;
 
-pub use beside::{MadeOfBoth, in_pieces_beside};
+pub use beside::{Crew, MadeOfBoth, in_pieces_beside};
+pub use drawing::Pile;
 pub use work::Work;

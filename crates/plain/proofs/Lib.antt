@@ -4,4 +4,5 @@ pub mod InForm
 pub mod RangeChecks
 pub mod Places
 pub mod Steps
+mod Pieces
 pub mod Histories

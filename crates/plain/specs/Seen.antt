@@ -1,9 +1,11 @@
--- Candidates of the code. No public contract cites this.
+-- Candidates and blocks of the code.
 use Rattle.std.specs.Prelude.{ℕ, List, [], Option, ◌==◌, length, map}
 use Rattle.transaction.specs.declared.item.Item.{Item}
+use Rattle.transaction.specs.Items.{item_of}
 use Rattle.policy_eval.specs.Accepts.{Accepts}
 use Rattle.channel.specs.Configuration.{Configuration}
 use Rattle.plain.specs.declared.candidate.Candidate.{Candidate}
+use Rattle.plain.specs.declared.next_block.NextBlock.{NextBlock}
 use Rattle.plain.specs.declared.candidate.Candidate.TheVariants.{Flagged, Open, Updates}
 use Rattle.policy.specs.Tree.{Tree}
 use Rattle.policy.specs.Policies.{Policies}
@@ -34,3 +36,7 @@ next_job channel accepts number held items = record {
   admin = channel.admin;
   candidates = candidate.candidates_from (channel_with channel held) accepts (length items == 1) held.first_uses [] items;
 }
+
+-- the items of the next block
+abbrev pub items_of : NextBlock → List (Option Item)
+items_of block = map (item_of block.version) block.txs.now

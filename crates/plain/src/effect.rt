@@ -9,11 +9,11 @@ ghost use Rattle.plain.specs.Keys.{key_of};
 ghost use Rattle.plain.specs.StateNow.{state_now};
 
 use crate::candidate::OpenTx;
+use crate::change::change_to;
 use crate::state::StateNow;
 use crate::state_key::StateKey;
-use block_steps::{change_to, policy_kept, share_row, with_policy};
 use policy::{Policy, PolicyFault};
-use rules::{Change, KeptKey, Row};
+use rules::{Change, KeptKey, Row, policy_kept, share_row, with_policy};
 use std::alloc::{AllocError, Global};
 use transaction::{NsSet, PolicyWrite, Tx, Version, Write};
 use values::{KeyRef, NameRef, Part, Shared};

@@ -16,12 +16,12 @@ ghost use Rattle.plain.specs.Taking.{state_in, next_flag, IsRunning, IsTaken, Is
 use crate::candidate::{Candidate, OpenTx, OpenUpdate};
 use crate::effect::changes_of;
 use crate::endorsement::{is_endorsed, meets};
+use crate::history::entries_of;
 use crate::reads::read_verdict;
 use crate::state::StateNow;
 use crate::state_key::{StateKey, add_policy_keys};
 use crate::world::World;
-use block_steps::entries_of;
-use policy::{Definitions, Policy};
+use policy::Policy;
 use rules::{Change, Flag, NewDefinition, NewEntry};
 use std::alloc::{AllocError, Global};
 use transaction::{Tx, Version};
@@ -133,16 +133,15 @@ impl<'a> Running<'a> {
         &mut self,
         alloc: Global,
         admin: Option<&Policy>,
-        definitions: &Definitions,
         world: &World,
         version: Version,
         open_tx: &OpenTx<'a>,
     ) -> Result<Flag, AllocError>
-        ensures flag { IfOk result (λ flag. flag ≡ next_flag (option_copied admin.entry) definitions.now world.now.state self.old (opened open_tx.now.tx open_tx.now.signers)) }
-        ensures taken { OnOk result (IsTaken (option_copied admin.entry) definitions.now world.now.state version (opened open_tx.now.tx open_tx.now.signers) self.old self.new) }
+        ensures flag { IfOk result (λ flag. flag ≡ next_flag (option_copied admin.entry) world.now.definitions world.now.state self.old (opened open_tx.now.tx open_tx.now.signers)) }
+        ensures taken { OnOk result (IsTaken (option_copied admin.entry) world.now.definitions world.now.state version (opened open_tx.now.tx open_tx.now.signers) self.old self.new) }
         ensures flags { OnOk result (self.new.flags.items ≡ self.old.flags.items) }
     {
-        if !is_endorsed(definitions, world, self.touched.as_slice(), open_tx) {
+        if !is_endorsed(world.definitions(), world, self.touched.as_slice(), open_tx) {
             return Ok(Flag::EndorsementPolicyFailure);
         }
         let flag = self.read(alloc, world, version, open_tx)?;
@@ -154,13 +153,12 @@ impl<'a> Running<'a> {
         &mut self,
         alloc: Global,
         admin: Option<&Policy>,
-        definitions: &Definitions,
         world: &World,
         version: Version,
         open_update: &OpenUpdate<'_>,
     ) -> Result<Flag, AllocError>
-        ensures flag { IfOk result (λ flag. flag ≡ next_flag (option_copied admin.entry) definitions.now world.now.state self.old (updates open_update.now.update open_update.now.signers)) }
-        ensures taken { OnOk result (IsTaken (option_copied admin.entry) definitions.now world.now.state version (updates open_update.now.update open_update.now.signers) self.old self.new) }
+        ensures flag { IfOk result (λ flag. flag ≡ next_flag (option_copied admin.entry) world.now.definitions world.now.state self.old (updates open_update.now.update open_update.now.signers)) }
+        ensures taken { OnOk result (IsTaken (option_copied admin.entry) world.now.definitions world.now.state version (updates open_update.now.update open_update.now.signers) self.old self.new) }
         ensures flags { OnOk result (self.new.flags.items ≡ self.old.flags.items) }
     {
         if !meets(&open_update.signers, admin) {
@@ -175,28 +173,19 @@ impl<'a> Running<'a> {
         &mut self,
         alloc: Global,
         admin: Option<&Policy>,
-        definitions: &Definitions,
         world: &World,
         version: Version,
         candidate: &Candidate<'a>,
     ) -> Result<(), AllocError>
-        ensures taken { OnOk result (IsTaken (option_copied admin.entry) definitions.now world.now.state version (seen candidate.now) self.old self.new) }
-        ensures flags { OnOk result (self.new.flags.items ≡ self.old.flags.items ++ next_flag (option_copied admin.entry) definitions.now world.now.state self.old (seen candidate.now) ∷ []) }
+        ensures taken { OnOk result (IsTaken (option_copied admin.entry) world.now.definitions world.now.state version (seen candidate.now) self.old self.new) }
+        ensures flags { OnOk result (self.new.flags.items ≡ self.old.flags.items ++ next_flag (option_copied admin.entry) world.now.definitions world.now.state self.old (seen candidate.now) ∷ []) }
     {
         let flag = match candidate {
             Candidate::Flagged(flag) => flag.flag(),
-            Candidate::Open(open_tx) => self.take_open(
-                alloc,
-                admin,
-                definitions,
-                world,
-                version,
-                open_tx,
-            )?,
+            Candidate::Open(open_tx) => self.take_open(alloc, admin, world, version, open_tx)?,
             Candidate::Updates(open_update) => self.take_update(
                 alloc,
                 admin,
-                definitions,
                 world,
                 version,
                 open_update,
@@ -211,13 +200,12 @@ impl<'a> Running<'a> {
 pub(crate) fn fold<'a>(
     alloc: Global,
     admin: Option<&Policy>,
-    definitions: &Definitions,
     world: &World,
     block: u64,
     candidates: &[Candidate<'a>],
 ) -> Result<Running<'a>, AllocError>
     requires { length candidates.now < 2 ^ 32 }
-    ensures { IfOk result (λ r. IsFolded (job_over (option_copied admin.entry) definitions.now block world.now.state candidates.now) r) }
+    ensures { IfOk result (λ r. IsFolded (job_over (option_copied admin.entry) world.now.definitions block world.now.state candidates.now) r) }
 {
     let mut running = Running::new(alloc);
     for (tx, candidate) in candidates.iter().enumerate() {
@@ -225,7 +213,7 @@ pub(crate) fn fold<'a>(
             block,
             tx: tx as u32,
         };
-        running.take(alloc, admin, definitions, world, version, candidate)?;
+        running.take(alloc, admin, world, version, candidate)?;
     }
     Ok(running)
 }

@@ -12,14 +12,15 @@ ghost use Rattle.policy_eval.specs.UpdateSigners.{update_signers_of};
 ghost use Rattle.transaction.specs.Spelled.{IsSpelled, IsSpelledUpdate};
 ghost use Rattle.rules.specs.Candidate as candidate;
 ghost use Rattle.plain.specs.Keys.{keys_of};
-ghost use Rattle.plain.specs.Seen.{seen, channel_with};
+ghost use Rattle.plain.specs.Seen.{seen, channel_with, items_of};
 
 use crate::candidate::{Candidate, OpenTx, OpenUpdate};
+use crate::next_block::NextBlock;
 use crate::sets::is_in_form;
 use crate::state_key::{StateKey, written_keys};
 use crate::world::World;
-use block_steps::{decoded_item, origin_fault, origin_of};
 use channel::Configuration;
+use linking::{decoded_item, origin_fault, origin_of};
 use policy::{Definitions, Policy, PolicyFault};
 use policy_eval::{Verify, signers, update_signers};
 use rules::EarlyFlag;
@@ -54,18 +55,25 @@ fn is_all_defined(
     is_defined(definitions, chaincode) && are_defined(definitions, written)
 }
 
+/// What each place of a block is taken in by: the channel, who verifies signatures, the world before the block, and whether the
+/// block has one place alone.
+#[derive(Clone, Copy)]
+struct Setting<'s, V> {
+    channel: &'s Configuration,
+    verifier: &'s V,
+    world: &'s World,
+    alone: bool,
+}
+
 /// What the rules that ask for no row say of a transaction whose origin is good.
 fn checked_tx<'a, V: Verify>(
     alloc: Global,
-    channel: &Configuration,
-    world: &World,
-    verifier: &V,
-    alone: bool,
+    setting: &Setting<'_, V>,
     used: bool,
     tx: Tx<'a>,
 ) -> Result<Candidate<'a>, AllocError>
     requires { IsSpelled tx }
-    ensures { IfOk result (λ c. seen c ≡ candidate.flagged_or (candidate.content_fault (channel_with channel.now world.now) alone used (item.Tx tx.entry)) (candidate.opened tx.entry (signers_of (V.accepts verifier.now) tx.entry))) }
+    ensures { IfOk result (λ c. seen c ≡ candidate.flagged_or (candidate.content_fault (channel_with setting.now.channel.now setting.now.world.now) setting.now.alone used (item.Tx tx.entry)) (candidate.opened tx.entry (signers_of (V.accepts setting.now.verifier.now) tx.entry))) }
 {
     if used {
         return Ok(Candidate::Flagged(EarlyFlag::DuplicateTxId));
@@ -74,10 +82,14 @@ fn checked_tx<'a, V: Verify>(
         return Ok(Candidate::Flagged(EarlyFlag::BadRwset));
     }
     let written = written_keys(alloc, &tx)?;
-    if !is_all_defined(world.definitions(), &tx.chaincode, written.as_slice()) {
+    if !is_all_defined(
+        setting.world.definitions(),
+        &tx.chaincode,
+        written.as_slice(),
+    ) {
         return Ok(Candidate::Flagged(EarlyFlag::InvalidChaincode));
     }
-    let signers = signers(alloc, &tx, verifier)?;
+    let signers = signers(alloc, &tx, setting.verifier)?;
     Ok(Candidate::Open(OpenTx {
         tx,
         signers,
@@ -96,35 +108,32 @@ fn policy_spelled(alloc: Global, update: &Update<'_>) -> Result<Option<Policy>, 
     }
 }
 
-/// What the rules that ask for no row say of an update whose origin is good, and which is the only item of its block or not.
+/// What the rules that ask for no row say of an update whose origin is good.
 fn checked_update<'a, V: Verify>(
     alloc: Global,
-    channel: &Configuration,
-    world: &World,
-    verifier: &V,
-    alone: bool,
+    setting: &Setting<'_, V>,
     used: bool,
     update: Update<'a>,
 ) -> Result<Candidate<'a>, AllocError>
     requires { IsSpelledUpdate update }
-    ensures { IfOk result (λ c. seen c ≡ candidate.flagged_or (candidate.content_fault (channel_with channel.now world.now) alone used (item.Update update.entry)) (candidate.updates update.entry (update_signers_of (V.accepts verifier.now) update.entry))) }
+    ensures { IfOk result (λ c. seen c ≡ candidate.flagged_or (candidate.content_fault (channel_with setting.now.channel.now setting.now.world.now) setting.now.alone used (item.Update update.entry)) (candidate.updates update.entry (update_signers_of (V.accepts setting.now.verifier.now) update.entry))) }
 {
     if used {
         return Ok(Candidate::Flagged(EarlyFlag::DuplicateTxId));
     }
-    if !alone {
+    if !setting.alone {
         return Ok(Candidate::Flagged(EarlyFlag::InvalidConfigTransaction));
     }
-    if channel.admin().is_none() {
+    if setting.channel.admin().is_none() {
         return Ok(Candidate::Flagged(EarlyFlag::InvalidConfigTransaction));
     }
-    if !is_defined(world.definitions(), &update.namespace) {
+    if !is_defined(setting.world.definitions(), &update.namespace) {
         return Ok(Candidate::Flagged(EarlyFlag::InvalidConfigTransaction));
     }
     let Some(policy) = policy_spelled(alloc, &update)? else {
         return Ok(Candidate::Flagged(EarlyFlag::InvalidConfigTransaction));
     };
-    let signers = update_signers(alloc, &update, verifier)?;
+    let signers = update_signers(alloc, &update, setting.verifier)?;
     Ok(Candidate::Updates(OpenUpdate {
         update,
         signers,
@@ -134,21 +143,16 @@ fn checked_update<'a, V: Verify>(
 
 fn checked<'a, V: Verify>(
     alloc: Global,
-    channel: &Configuration,
-    world: &World,
-    verifier: &V,
-    alone: bool,
+    setting: &Setting<'_, V>,
     used: bool,
     item: Item<'a>,
 ) -> Result<Candidate<'a>, AllocError>
     requires { IsSpelledItem item }
-    ensures { IfOk result (λ c. seen c ≡ candidate.flagged_or (candidate.content_fault (channel_with channel.now world.now) alone used item.entry) (candidate.open_of (V.accepts verifier.now) item.entry)) }
+    ensures { IfOk result (λ c. seen c ≡ candidate.flagged_or (candidate.content_fault (channel_with setting.now.channel.now setting.now.world.now) setting.now.alone used item.entry) (candidate.open_of (V.accepts setting.now.verifier.now) item.entry)) }
 {
     match item {
-        Item::Tx(tx) => checked_tx(alloc, channel, world, verifier, alone, used, tx),
-        Item::Update(update) => checked_update(
-            alloc, channel, world, verifier, alone, used, update,
-        ),
+        Item::Tx(tx) => checked_tx(alloc, setting, used, tx),
+        Item::Update(update) => checked_update(alloc, setting, used, update),
     }
 }
 
@@ -176,19 +180,16 @@ struct Place<'a> {
     id: Option<TxId>,
 }
 
-/// The candidate of one place, behind places that use the earlier ids, in a block that has this one alone or not.
+/// The candidate of one place, behind places that use the earlier ids.
 fn place_of<'a, V: Verify>(
     alloc: Global,
-    channel: &Configuration,
-    verifier: &V,
-    world: &World,
+    setting: &Setting<'_, V>,
     version: BlockVersion,
-    alone: bool,
     earlier: &[TxId],
     bytes: &'a [u8],
 ) -> Result<Place<'a>, AllocError>
-    ensures id { IfOk result (λ t. t.id ≡ candidate.used_id channel.now (V.accepts verifier.now) (item_of version bytes.now)) }
-    ensures candidate { IfOk result (λ t. seen t.candidate ≡ candidate.candidate_of (channel_with channel.now world.now) (V.accepts verifier.now) alone (candidate.is_used world.now.first_uses earlier.now t.id) (item_of version bytes.now)) }
+    ensures id { IfOk result (λ t. t.id ≡ candidate.used_id setting.now.channel.now (V.accepts setting.now.verifier.now) (item_of version bytes.now)) }
+    ensures candidate { IfOk result (λ t. seen t.candidate ≡ candidate.candidate_of (channel_with setting.now.channel.now setting.now.world.now) (V.accepts setting.now.verifier.now) setting.now.alone (candidate.is_used setting.now.world.now.first_uses earlier.now t.id) (item_of version bytes.now)) }
 {
     let Some(item) = decoded_item(alloc, version, bytes)? else {
         return Ok(Place {
@@ -196,24 +197,16 @@ fn place_of<'a, V: Verify>(
             id: None,
         });
     };
-    if let Some(flag) = origin_fault(channel, verifier, &item) {
+    if let Some(flag) = origin_fault(setting.channel, setting.verifier, &item) {
         return Ok(Place {
             candidate: Candidate::Flagged(flag),
             id: None,
         });
     }
     let id = *origin_of(item.item()).id;
-    let used = is_used(world, earlier, &id);
+    let used = is_used(setting.world, earlier, &id);
     Ok(Place {
-        candidate: checked(
-            alloc,
-            channel,
-            world,
-            verifier,
-            alone,
-            used,
-            item.into_item(),
-        )?,
+        candidate: checked(alloc, setting, used, item.into_item())?,
         id: Some(id),
     })
 }
@@ -234,18 +227,15 @@ pub(crate) struct Intake<'a> {
     pub ids: Vec<Option<TxId>>,
 }
 
-/// Takes the items of a block of this version in order, which has one alone or not.
+/// Takes the items of a block of this version in order.
 fn taken_in<'a, V: Verify>(
     alloc: Global,
-    channel: &Configuration,
-    verifier: &V,
-    world: &World,
+    setting: &Setting<'_, V>,
     version: BlockVersion,
-    alone: bool,
     txs: &[Slice<'a>],
 ) -> Result<Intake<'a>, AllocError>
-    ensures candidates { IfOk result (λ r. map seen r.candidates.items ≡ candidate.candidates_from (channel_with channel.now world.now) (V.accepts verifier.now) alone world.now.first_uses [] (map (item_of version) txs.now)) }
-    ensures ids { IfOk result (λ r. r.ids.items ≡ map (candidate.used_id channel.now (V.accepts verifier.now)) (map (item_of version) txs.now)) }
+    ensures candidates { IfOk result (λ r. map seen r.candidates.items ≡ candidate.candidates_from (channel_with setting.now.channel.now setting.now.world.now) (V.accepts setting.now.verifier.now) setting.now.alone setting.now.world.now.first_uses [] (map (item_of version) txs.now)) }
+    ensures ids { IfOk result (λ r. r.ids.items ≡ map (candidate.used_id setting.now.channel.now (V.accepts setting.now.verifier.now)) (map (item_of version) txs.now)) }
 {
     let mut candidates = Vec::new(alloc);
     let mut ids = Vec::new(alloc);
@@ -253,11 +243,8 @@ fn taken_in<'a, V: Verify>(
     for bytes in txs {
         let taken = place_of(
             alloc,
-            channel,
-            verifier,
-            world,
+            setting,
             version,
-            alone,
             earlier.as_slice(),
             bytes.as_slice(),
         )?;
@@ -268,18 +255,22 @@ fn taken_in<'a, V: Verify>(
     Ok(Intake { candidates, ids })
 }
 
-/// Takes all items of a block of this version.
+/// Takes all items of the next block of a world.
 pub(crate) fn take_in<'a, V: Verify>(
     alloc: Global,
     channel: &Configuration,
     verifier: &V,
     world: &World,
-    version: BlockVersion,
-    txs: &[Slice<'a>],
+    block: &NextBlock<'_, 'a>,
 ) -> Result<Intake<'a>, AllocError>
-    ensures candidates { IfOk result (λ r. map seen r.candidates.items ≡ candidate.candidates_from (channel_with channel.now world.now) (V.accepts verifier.now) (length (map (item_of version) txs.now) == 1) world.now.first_uses [] (map (item_of version) txs.now)) }
-    ensures ids { IfOk result (λ r. r.ids.items ≡ map (candidate.used_id channel.now (V.accepts verifier.now)) (map (item_of version) txs.now)) }
+    ensures candidates { IfOk result (λ r. map seen r.candidates.items ≡ candidate.candidates_from (channel_with channel.now world.now) (V.accepts verifier.now) (length (items_of block.now) == 1) world.now.first_uses [] (items_of block.now)) }
+    ensures ids { IfOk result (λ r. r.ids.items ≡ map (candidate.used_id channel.now (V.accepts verifier.now)) (items_of block.now)) }
 {
-    let alone = txs.len() == 1;
-    taken_in(alloc, channel, verifier, world, version, alone, txs)
+    let setting = Setting {
+        channel,
+        verifier,
+        world,
+        alone: block.txs.len() == 1,
+    };
+    taken_in(alloc, &setting, block.version, block.txs)
 }

@@ -3,10 +3,13 @@
 #![tactic(auto)]
 
 mod candidate;
+mod change;
 mod effect;
 mod endorsement;
 mod fold;
+mod history;
 mod intake;
+mod next_block;
 mod ranges;
 mod reads;
 mod sets;
@@ -15,5 +18,6 @@ mod state_key;
 mod step;
 mod world;
 
+pub use next_block::NextBlock;
 pub use step::take_block;
 pub use world::World;

@@ -10,8 +10,7 @@ ghost use Rattle.plain.specs.StateNow.{state_now};
 use crate::sets::is_at_most;
 use crate::state::StateNow;
 use crate::state_key::StateKey;
-use block_steps::is_within;
-use rules::Change;
+use rules::{Change, is_within};
 use transaction::{KeyVersion, Range};
 use values::{KeyRef, NameRef};
 

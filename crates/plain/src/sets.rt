@@ -8,10 +8,10 @@ ghost use Rattle.rules.specs.Ranges.{is_within};
 ghost use Rattle.rules.specs.ReadWriteSets.{are_distinct, has_results_in_form, has_policy_in_form, is_set_in_form, is_in_form};
 ghost use Rattle.plain.specs.Rising.{are_rising};
 
-use block_steps::{Labelled, is_within};
 use policy::{Policy, PolicyFault};
+use rules::is_within;
 use std::alloc::{AllocError, Global};
-use transaction::{KeyVersion, NsSet, PolicyWrite, Range, Tx};
+use transaction::{KeyVersion, Labelled, NsSet, PolicyWrite, Range, Tx};
 use values::KeyRef;
 
 fn is_before(bytes: &[u8], others: &[u8]) -> bool

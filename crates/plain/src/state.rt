@@ -18,12 +18,14 @@ pub(crate) struct StateNow<'a> {
 }
 
 impl<'a> StateNow<'a> {
+    /// The row of a key. Linear in the changes that the world ever made, and in those since.
     pub fn row(self, key: &StateKey<'_>) -> Option<&'a Row>
         ensures { option_copied result ≡ get (state_now self.entry) (key_of key.now) }
     {
         row_after(self.world.row_at(key), self.changes, key)
     }
 
+    /// The version of a key's row; none where it has no row. Costs what `row` costs.
     pub fn version(self, key: &StateKey<'_>) -> Option<Version>
         ensures { result ≡ version_in (state_now self.entry) (key_of key.now) }
     {

@@ -17,15 +17,17 @@ pub(crate) struct StateKey<'a> {
 }
 
 impl<'a> StateKey<'a> {
+    /// Of parts that are lent.
     pub fn new(namespace: &NameRef<'a>, key: &KeyRef<'a>) -> StateKey<'a>
         ensures { key_of result ≡ (namespace.now, key.now) }
     {
         StateKey {
-            namespace: namespace.again(),
-            key: key.again(),
+            namespace: namespace.reborrow(),
+            key: key.reborrow(),
         }
     }
 
+    /// Of owned parts, which it lends.
     pub fn lent(namespace: &'a Name, key: &'a Key) -> StateKey<'a>
         ensures { key_of result ≡ (namespace.now, key.now) }
     {
@@ -35,18 +37,21 @@ impl<'a> StateKey<'a> {
         }
     }
 
+    /// Whether both parts are equal, byte by byte.
     pub fn is_same(&self, other: &StateKey<'_>) -> bool
         ensures { result ≡ is_same_key (key_of self.now) (key_of other.now) }
     {
         self.namespace.is_same(&other.namespace) && self.key.is_same(&other.key)
     }
 
+    /// Whether the change is one of this key.
     pub fn is_changed(&self, change: &Change) -> bool
         ensures { result ≡ is_same_key (key_of self.now) (change_of change.now).0 }
     {
         self.namespace.is_same(&change.namespace()) && self.key.is_same(&change.key())
     }
 
+    /// Whether the kept key is this one.
     pub fn is_kept(&self, key: &KeptKey) -> bool
         ensures { result ≡ is_same_key (key_of self.now) key.now }
     {

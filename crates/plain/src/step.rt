@@ -1,5 +1,4 @@
 ghost use Rattle.std.specs.Prelude.{◌≡◌, ◌<◌, ◌^◌, length, map, IfOk, OnOk, OnErr};
-ghost use Rattle.transaction.specs.Items.{item_of};
 ghost use Rattle.rules.specs.Candidate.{used_id};
 ghost use Rattle.rules.specs.Commit.{job_of, uses_from, committed};
 ghost use Rattle.rules.specs.Delta.{uses_in};
@@ -7,19 +6,17 @@ ghost use Rattle.rules.specs.Fold as fold;
 ghost use Rattle.rules.specs.World as definition;
 ghost use Rattle.rules.specs.declared.committed.CommittedBlock.{CommittedBlock};
 ghost use Rattle.plain.specs.Held.{IsBefore, held_in};
-ghost use Rattle.plain.specs.Seen.{next_job};
+ghost use Rattle.plain.specs.Seen.{next_job, items_of};
 ghost use Rattle.plain.specs.Taking.{IsFolded};
 
 use crate::fold::{Running, fold};
 use crate::intake::take_in;
+use crate::next_block::NextBlock;
 use crate::world::World;
-use block_steps::uses_of;
 use channel::Configuration;
 use policy_eval::Verify;
-use rules::{Flag, NewUse};
+use rules::{Flag, NewUse, uses_of};
 use std::alloc::{AllocError, Global};
-use transaction::BlockVersion;
-use values::Slice;
 
 /// What the items of the next block give, and where their ids are used.
 fn taken<'a, V: Verify>(
@@ -27,19 +24,17 @@ fn taken<'a, V: Verify>(
     channel: &Configuration,
     verifier: &V,
     world: &World,
-    number: u64,
-    version: BlockVersion,
-    txs: &[Slice<'a>],
+    block: &NextBlock<'_, 'a>,
 ) -> Result<(Running<'a>, Vec<NewUse>), AllocError>
-    requires { length txs.now < 2 ^ 32 }
-    ensures folded { IfOk result (λ r. IsFolded (next_job channel.now (V.accepts verifier.now) number world.now (map (item_of version) txs.now)) r.0) }
-    ensures uses { IfOk result (λ r. uses_in r.1.items ≡ uses_from (next_job channel.now (V.accepts verifier.now) number world.now (map (item_of version) txs.now)) 0 (map (used_id channel.now (V.accepts verifier.now)) (map (item_of version) txs.now))) }
+    requires { length block.now.txs.now < 2 ^ 32 }
+    ensures folded { IfOk result (λ r. IsFolded (next_job channel.now (V.accepts verifier.now) block.now.number world.now (items_of block.now)) r.0) }
+    ensures uses { IfOk result (λ r. uses_in r.1.items ≡ uses_from (next_job channel.now (V.accepts verifier.now) block.now.number world.now (items_of block.now)) 0 (map (used_id channel.now (V.accepts verifier.now)) (items_of block.now))) }
 {
-    let intake = take_in(alloc, channel, verifier, world, version, txs)?;
+    let intake = take_in(alloc, channel, verifier, world, block)?;
+    let number = block.number;
     let folded = fold(
         alloc,
         channel.admin(),
-        world.definitions(),
         world,
         number,
         intake.candidates.as_slice(),
@@ -53,7 +48,7 @@ fn taken<'a, V: Verify>(
     Ok((folded, uses))
 }
 
-/// Takes the items of the next block of a channel, which is of this version, and answers their flags. An `Err` changes nothing.
+/// Takes the items of the next block of a channel, and answers their flags. An `Err` is want of memory alone, and changes nothing.
 ///
 /// Whether the block is linked isn't asked: it is the next one of any world that holds this, and whose height is its number.
 ///
@@ -65,16 +60,14 @@ pub fn take_block<V: Verify>(
     channel: &Configuration,
     verifier: &V,
     world: &mut World,
-    number: u64,
-    version: BlockVersion,
-    txs: &[Slice<'_>],
+    block: &NextBlock<'_, '_>,
 ) -> Result<Vec<Flag>, AllocError>
-    requires { length txs.now < 2 ^ 32 }
-    ensures flags { IfOk result (λ flags. (w : definition.World) → IsBefore w number world.old → flags.items ≡ fold.flags (job_of channel.now (V.accepts verifier.now) w (map (item_of version) txs.now))) }
-    ensures held { OnOk result ((w : definition.World) (kept : CommittedBlock) → IsBefore w number world.old → world.new ≡ held_in (committed channel.now (V.accepts verifier.now) w (map (item_of version) txs.now) kept)) }
+    requires { length block.now.txs.now < 2 ^ 32 }
+    ensures flags { IfOk result (λ flags. (w : definition.World) → IsBefore w block.now.number world.old → flags.items ≡ fold.flags (job_of channel.now (V.accepts verifier.now) w (items_of block.now))) }
+    ensures held { OnOk result ((w : definition.World) (kept : CommittedBlock) → IsBefore w block.now.number world.old → world.new ≡ held_in (committed channel.now (V.accepts verifier.now) w (items_of block.now) kept)) }
     ensures refused { OnErr result (world.new ≡ world.old) }
 {
-    let (folded, uses) = taken(alloc, channel, verifier, world, number, version, txs)?;
+    let (folded, uses) = taken(alloc, channel, verifier, world, block)?;
     world.add(
         alloc,
         folded.changes,

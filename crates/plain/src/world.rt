@@ -123,7 +123,7 @@ impl World {
         }
     }
 
-    /// The policies of chaincodes.
+    /// The policies of chaincodes, as the last block left them.
     pub fn definitions(&self) -> &Definitions
         ensures { result.now ≡ self.now.definitions }
     {

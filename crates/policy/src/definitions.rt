@@ -28,7 +28,7 @@ impl Model for Definitions {
 }
 
 impl Definitions {
-    /// No policies.
+    /// No policies. Takes no memory.
     pub fn new(alloc: Global) -> Definitions
         ensures { result ≡ map.empty }
     {
@@ -38,7 +38,7 @@ impl Definitions {
         }
     }
 
-    /// The policy of a chaincode. Logarithmic in the number of chaincodes.
+    /// The policy of a chaincode, or `None` if it has none. Logarithmic in the number of chaincodes.
     pub fn of(&self, name: &NameRef<'_>) -> Option<&Policy>
         ensures { option_copied result ≡ map.get self.now name.now }
     {
@@ -52,8 +52,8 @@ impl Definitions {
         self.policies.len()
     }
 
-    /// Gives a chaincode its policy, in the place of an earlier one, which takes no memory. An `Err` changes
-    /// nothing. Logarithmic in the number of chaincodes.
+    /// Sets the policy of a chaincode. Takes no memory if it has one already. An `Err` changes nothing. Logarithmic in
+    /// the number of chaincodes.
     pub fn set(&mut self, name: &Name, policy: Policy) -> Result<(), AllocError>
         ensures ok { OnOk result (self.new ≡ map.insert self.old name.now policy) }
         ensures err { OnErr result (self.new ≡ self.old) }
@@ -76,7 +76,8 @@ impl Definitions {
         Ok(())
     }
 
-    /// The same policies. Linear in their principals and gates, in time and memory, and a look-up for each.
+    /// A copy of all names and policies: linear in their principals and gates, in time and memory, with a look-up for
+    /// each policy.
     pub fn copy(&self, alloc: Global) -> Result<Definitions, AllocError>
         ensures { IfOk result (λ copied. copied ≡ self.now) }
     {

@@ -36,7 +36,8 @@ impl Policy {
     ghost use Rattle.policy.specs.Spelled.{IsSpelled};
     ghost use Rattle.policy.specs.Text.{text_of};
 
-    /// The policy that the text spells. One pass, linear in the text; the memory is that of the tree.
+    /// The policy that the text spells (Fabric documentation, 'Endorsement policies'), or its first fault from the
+    /// left, or want of memory. One pass, linear in the text; the memory is that of the tree.
     pub fn parse(alloc: Global, text: &str) -> Result<Policy, PolicyFault>
         // What is read is spelled so.
         ensures found { IfOk result (λ policy. IsPolicy text.now policy) }
@@ -48,7 +49,7 @@ impl Policy {
         // A fault of the text is answered.
         ensures only_fault { (f : Fault) → HasFault text.now f → IsErrAnd result (λ e. IsOfKind f e) }
 
-        // The same, said of the functions that other definitions name.
+        // These once more, in terms of the functions that other definitions name.
         ensures meaning { IfOk result (λ policy. policy_of text.now ≡ Some policy) }
         ensures no_meaning { IfErr result (λ e. (e ≡ Memory) ⊎ (policy_of text.now ≡ None)) }
         ensures read { IfOk result (λ policy. policy_or_fault text.now ≡ Ok policy) }
@@ -57,8 +58,9 @@ impl Policy {
         Policy::parse_bytes(alloc, text.as_bytes())
     }
 
-    /// The policy that the bytes spell. The grammar is one of bytes, so that these may be any: a text that isn't
-    /// UTF-8 spells no policy. One pass, linear in them; the memory is that of the tree.
+    /// The policy that the bytes spell, or their first fault from the left, or want of memory. The grammar is one of
+    /// bytes, so that these may be any: a text that isn't UTF-8 spells no policy. One pass, linear in them; the memory
+    /// is that of the tree.
     pub fn parse_bytes(alloc: Global, bytes: &[u8]) -> Result<Policy, PolicyFault>
         // What is read is spelled so.
         ensures found { IfOk result (λ policy. IsPolicy bytes.now policy) }
@@ -70,7 +72,7 @@ impl Policy {
         // A fault of the text is answered.
         ensures only_fault { (f : Fault) → HasFault bytes.now f → IsErrAnd result (λ e. IsOfKind f e) }
 
-        // The same, said of the functions that other definitions name.
+        // These once more, in terms of the functions that other definitions name.
         ensures meaning { IfOk result (λ policy. policy_of bytes.now ≡ Some policy) }
         ensures no_meaning { IfErr result (λ e. (e ≡ Memory) ⊎ (policy_of bytes.now ≡ None)) }
         ensures read { IfOk result (λ policy. policy_or_fault bytes.now ≡ Ok policy) }
@@ -80,7 +82,7 @@ impl Policy {
         Ok(Policy { root })
     }
 
-    /// The whole tree.
+    /// The policy's tree.
     pub fn root(&self) -> &Expression
         ensures tree { result.now ≡ self.now }
         ensures spelled { IsSpelled self.now }
@@ -88,7 +90,7 @@ impl Policy {
         &self.root
     }
 
-    /// The same policy. Linear in its principals and gates, in time and memory.
+    /// A copy: linear in the principals and gates, in time and memory.
     pub fn copy(&self, alloc: Global) -> Result<Policy, AllocError>
         ensures { IfOk result (λ copied. copied ≡ self.now) }
     {

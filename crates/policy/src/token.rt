@@ -8,7 +8,7 @@ use crate::quoted::quoted;
 use crate::tree::PolicyRole;
 
 /// The word that begins a gate.
-#[derive(Clone, Copy, Debug, PartialEq, Eq)]
+#[derive(Clone, Copy)]
 pub enum Word {
     All,
     Any,

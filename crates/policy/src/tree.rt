@@ -15,7 +15,7 @@ pub enum PolicyRole {
 }
 
 /// An organization and a role in it.
-#[derive(Debug, Drop)]
+#[derive(Drop)]
 pub struct Principal {
     pub org: Name,
     pub role: PolicyRole,
@@ -60,7 +60,7 @@ impl Model for Expression {
 }
 
 impl Principal {
-    /// Copies the name once.
+    /// A copy, of up to 64 bytes.
     fn copy(&self, alloc: Global) -> Result<Principal, AllocError>
         ensures { IfOk result (λ p. p ≡ self.now) }
     {
@@ -72,7 +72,7 @@ impl Principal {
 }
 
 impl Expression {
-    /// The same tree. Linear in its principals and gates, in time and memory.
+    /// A copy: linear in the principals and gates, in time and memory.
     pub fn copy(&self, alloc: Global) -> Result<Expression, AllocError>
         ensures { IfOk result (λ copied. copied ≡ self.now) }
     {

@@ -1,4 +1,4 @@
-ghost use Rattle.std.specs.Prelude.{◌≡◌, ◌≤◌, ◌<◌, ◌↔◌, List, length, IsTrue, IfSome, IsNone, slice_set, cond, is_some};
+ghost use Rattle.std.specs.Prelude.{◌≡◌, ◌≤◌, ◌<◌, ◌↔◌, List, length, IsTrue, IfSome, IsNone, slice_set, cond, is_some, nat_le};
 ghost use Rattle.policy.specs.View.{trees};
 ghost use Rattle.policy_eval.specs.Evaluation.{fills, satisfies, first_free, Satisfied};
 ghost use Rattle.policy_eval.specs.Evaluating.{evaluate, evaluate_all, is_satisfied, taken};
@@ -36,8 +36,8 @@ fn first_free(principal: &Principal, signers: &[Identity<'_>], used: &[bool]) ->
         .position(|(signer, used)| !*used && satisfies(principal, signer))
 }
 
-/// Marks the first signer that satisfies the principal of those without a mark, and gives its place; none where there is none. The
-/// marks stand at the signers' places. At most one comparison for each signer.
+/// Marks the first signer that satisfies the principal of those without a mark, and gives its place; none where there
+/// is none. The marks stand at the signers' places. At most one comparison for each signer.
 pub fn take_signer(
     principal: &Principal,
     signers: &[Identity<'_>],
@@ -62,7 +62,7 @@ fn evaluate(expression: &Expression, signers: &[Identity<'_>], used: &mut [bool]
         Node::Gate { threshold, members } => {
             let mut saved = [false; MAX_ENDORSEMENTS];
             saved[..used.len()].copy_from_slice(used);
-            if *threshold as usize <= count_satisfied(members, signers, used) {
+            if are_enough(*threshold as usize, members, signers, used) {
                 true
             } else {
                 used.copy_from_slice(&saved[..used.len()]);
@@ -72,10 +72,17 @@ fn evaluate(expression: &Expression, signers: &[Identity<'_>], used: &mut [bool]
     }
 }
 
+// Whether so many of the members answer yes. Each is tried, also once enough did.
 #[cycle(evaluate)]
-fn count_satisfied(members: &[Expression], signers: &[Identity<'_>], used: &mut [bool]) -> usize
+fn are_enough(
+    threshold: usize,
+    members: &[Expression],
+    signers: &[Identity<'_>],
+    used: &mut [bool],
+) -> bool
     requires { length used.old ≤ MAX_ENDORSEMENTS }
-    ensures { evaluate_all (trees members.now) signers.now used.old ≡ (result, used.new) }
+    ensures answer { result ≡ nat_le threshold (evaluate_all (trees members.now) signers.now used.old).0 }
+    ensures marks { used.new ≡ (evaluate_all (trees members.now) signers.now used.old).1 }
 {
     let mut count = 0;
     for member in members {
@@ -83,10 +90,12 @@ fn count_satisfied(members: &[Expression], signers: &[Identity<'_>], used: &mut 
             count += 1;
         }
     }
-    count
+    threshold <= count
 }
 
-/// Whether the signers satisfy the policy.
+/// Whether the signers satisfy the policy (Fabric documentation, 'Endorsement policies'). The order is ours: from left
+/// to right, each principal takes the first signer left that satisfies it, and a gate that fails gives back what its
+/// members took.
 ///
 /// At most as many steps as the policy's principals times the signers, each a comparison of an identity with
 /// a principal, and for each gate a copy of the marks of used signers. No memory is asked for; recursion is

@@ -17,7 +17,7 @@ pub fn each_signer_once()
     ensures distinct { (accepts : Accepts) (tx : Tx) → AllPairs (λ (a b : Identity). a ≢ b) (signers_of accepts tx) }
 {}
 
-/// The same laws of an update's signers.
+/// Laws of an update's signers, and no work: they are its endorsers with an accepted signature, and no two are one.
 pub fn each_update_signer_once()
     ensures signed { (accepts : Accepts) (update : Update) (identity : Identity) → Contains (update_signers_of accepts update) identity ↔ HasSignedUpdate accepts update identity }
     ensures distinct { (accepts : Accepts) (update : Update) → AllPairs (λ (a b : Identity). a ≢ b) (update_signers_of accepts update) }

@@ -1,4 +1,5 @@
-//! Who signed a transaction or an update of a definition, whether they satisfy a policy, and which signer each of its principals took.
+//! Who signed a transaction or an update of a definition, whether they satisfy a policy, and which signer each of its
+//! principals took.
 //!
 //! There are at most 64 signers, and a policy has at most 256 principals in 32 nested gates. A call takes
 //! constant time and no memory where it says nothing else.

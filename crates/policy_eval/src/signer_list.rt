@@ -5,7 +5,7 @@ use std::marker::Model;
 use transaction::Identity;
 
 /// The identities that signed a transaction or an update, at most 64. A contract sees the list of them.
-#[derive(Debug, Drop)]
+#[derive(Drop)]
 pub struct Signers<'a> {
     pub(crate) identities: Vec<Identity<'a>>,
 }
@@ -23,6 +23,7 @@ impl<'a> Model for Signers<'a> {
 }
 
 impl<'a> Signers<'a> {
+    /// The identities, at most 64.
     pub fn as_slice(&self) -> &[Identity<'a>]
         ensures value { result.now ≡ self.now }
         ensures bound { length self.now ≤ max_endorsements }
@@ -30,12 +31,14 @@ impl<'a> Signers<'a> {
         self.identities.as_slice()
     }
 
+    /// The number of identities.
     pub fn len(&self) -> usize
         ensures { result ≡ length self.now }
     {
         self.identities.len()
     }
 
+    /// Whether nobody signed.
     pub fn is_empty(&self) -> bool
         ensures { result ≡ (length self.now == 0) }
     {

@@ -105,7 +105,7 @@ fn signers_from<'a, V: Verify>(
         if !contains(identities.as_slice(), &endorsement.endorser)
             && has_signed(endorsement, &mut message, body_len, verifier)?
         {
-            identities.push(endorsement.endorser.again())?;
+            identities.push(endorsement.endorser.reborrow())?;
         }
     }
     Ok(Signers { identities })
@@ -133,7 +133,8 @@ pub fn signers<'a, V: Verify>(
     )
 }
 
-/// The same for a transaction whose body's bytes are at hand: they are copied, and not encoded anew.
+/// The endorsers whose signature the verifier accepts, of a transaction whose body's bytes are at hand: [`signers`],
+/// but it copies the body, with room for the longest identity behind it, and doesn't encode it.
 pub fn signers_with_body<'a, V: Verify>(
     alloc: Global,
     tx: &Tx<'a>,
@@ -150,8 +151,8 @@ pub fn signers_with_body<'a, V: Verify>(
     signers_from(alloc, tx.endorsements.as_slice(), message, verifier)
 }
 
-/// The same for an update: its endorsers whose signature over its body and their own identity's bytes the
-/// verifier accepts, at the cost of `signers`.
+/// The endorsers of an update whose signature over its body and their own identity's bytes the verifier accepts, each
+/// once, in the order of their first accepted signatures. Costs what [`signers`] does.
 pub fn update_signers<'a, V: Verify>(
     alloc: Global,
     update: &Update<'a>,

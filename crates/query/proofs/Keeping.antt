@@ -121,7 +121,7 @@ one_block x e none pending nothing one =
 applied_as : (w : World) (d : Delta) (made : Option Policies) → AreBehind w d made → applied_with w d made ≡ applied w d
 applied_as w d made are_behind = ap (λ m. record (applied w d) { definitions = m }) are_behind
 
--- The same of the writer's log: behind what was shown it has this entry, and else what nobody sees.
+-- The writer's log has, behind what was shown, this entry and else what nobody sees.
 pub shows : (seat : ℕ) (v : View) (before x y : Shown) (e : Entry) (none pending : List Operation)
     → x ≡ before → ChangeNothing none → pending ≡ none ++ Block e ∷ []
     → IsLinkedDelta before.world e.delta → AreBehind before.world e.delta e.definitions

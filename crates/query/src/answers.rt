@@ -10,14 +10,14 @@ use std::marker::Model;
 use thiserror::Error;
 use values::{Hash, Items};
 
-/// An answer with the height that it comes from, all of it.
+/// An answer, whole of one height, with that height and its hashes.
 #[derive(Debug, Drop)]
 pub struct Reply<A> {
     /// The number of blocks.
     pub height: u64,
-    /// Of the last block; none at height 0.
+    /// The header hash of the last block; none at height 0.
     pub header_hash: Option<Hash>,
-    /// The same.
+    /// The commit hash of the last block; none at height 0.
     pub commit_hash: Option<Hash>,
     pub answer: A,
 }
@@ -73,6 +73,7 @@ impl PolicyText {
         })
     }
 
+    /// The text, lent.
     pub fn as_str(&self) -> &str
         ensures { result.now ≡ self.now }
     {

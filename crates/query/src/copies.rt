@@ -2,9 +2,8 @@
 ghost use Rattle.std.specs.Prelude.{◌≡◌, map, IfOk};
 ghost use Rattle.std.specs.Option.{option_copied};
 
-use block_steps::share_policy;
 use history_index::Entries;
-use rules::{CommittedBlock, HistoryEntry, KeyedRow, Row};
+use rules::{CommittedBlock, HistoryEntry, KeyedRow, Row, share_policy};
 use std::alloc::{AllocError, Global};
 use values::Items;
 
@@ -20,7 +19,7 @@ fn copied_row(keyed: &KeyedRow) -> Result<KeyedRow, AllocError>
     Ok(KeyedRow::new(keyed.kept_key().share()?, shared))
 }
 
-/// Linear in the rows.
+/// The rows, each with one owner more for its key, value and policy. Linear in their number; memory for the list.
 pub(crate) fn copied_rows(alloc: Global, rows: &[&KeyedRow]) -> Result<Items<KeyedRow>, AllocError>
     ensures { IfOk result (λ copied. copied ≡ map (λ row. row.now) rows.now) }
 {
@@ -31,7 +30,7 @@ pub(crate) fn copied_rows(alloc: Global, rows: &[&KeyedRow]) -> Result<Items<Key
     Ok(Items::from_vec(copied))
 }
 
-/// Linear in the number of entries.
+/// The entries of a history. Linear in their number; memory for the list.
 pub(crate) fn copied_entries(
     alloc: Global,
     entries: Entries<'_>,
@@ -45,7 +44,7 @@ pub(crate) fn copied_entries(
     Ok(Items::from_vec(copied))
 }
 
-/// Linear in the transactions of the block.
+/// The block, with its bytes shared and its flags copied. Linear in its transactions.
 pub(crate) fn copied_block(
     alloc: Global,
     block: Option<&CommittedBlock>,

@@ -86,7 +86,7 @@ impl Front {
         (Word::tracked(0, &mut count), Front { count: 0, seen })
     }
 
-    /// The same beginning.
+    /// This beginning once more. Constant time, no memory.
     pub(crate) fn again(&self) -> Front
         ensures { result ≡ self.now }
     {

@@ -19,11 +19,12 @@ use std::marker::Model;
 use transaction::TxId;
 use values::{BoundRef, Items, KeyRef, NameRef};
 
-/// Asks of what is published, for one thread. Each answer comes from one height, never below one that the handle has seen or
-/// was told of.
+/// Asks of what is published, for one thread. Each answer comes from one height, never below one that the handle has
+/// seen or was told of.
 ///
-/// A query takes no lock and doesn't wait: it costs an entry, two atomic steps to come and two to go, the look-up and a copy
-/// of the answer. While it lasts, the publisher waits for it at the next publish but one.
+/// A query takes no lock and waits for nobody. It costs an entry (two atomic steps to come, two to go), the look-up and
+/// a copy of the answer. The publisher waits for a query that lasts, at the latest when it makes room for the next
+/// block.
 #[derive(Drop)]
 pub struct QueryHandle {
     reader: ShownReader,
@@ -58,8 +59,8 @@ impl QueryHandle {
         }
     }
 
-    /// From now on no answer is of a height below the receipt's. The receipt is one of the publisher that the handle was
-    /// opened with. Constant time, no memory.
+    /// Has no later answer come from a height below the receipt's, which is of the publisher that the handle was opened
+    /// with. Constant time, no memory.
     pub fn learn(&mut self, receipt: &Receipt)
         requires { receipt.now.front.book ≡ self.old.book }
         ensures { Learns self.old receipt.now.front.list self.new }
@@ -80,8 +81,8 @@ impl QueryHandle {
         Ok(reply)
     }
 
-    /// What the state has at a key. Logarithmic in the number of rows; the value and the policy are shared, so that no
-    /// memory is taken.
+    /// The row at a key, if there is one. Logarithmic in the number of rows; takes no memory, since value and policy
+    /// are shared.
     pub fn get(
         &mut self,
         namespace: &NameRef<'_>,
@@ -92,13 +93,14 @@ impl QueryHandle {
         ensures err { OnErr result (self.new ≡ self.old) }
     {
         self.ask(RowAt {
-            namespace: namespace.again(),
-            key: key.again(),
+            namespace: namespace.reborrow(),
+            key: key.reborrow(),
         })
     }
 
-    /// The rows of a namespace from a start to before an end, up to a limit; an empty end is no bound. Logarithmic in the
-    /// number of rows, and linear in those that are answered, whose keys are copied.
+    /// The rows of a namespace from a start to before an end, up to a limit; an empty end is no bound. Logarithmic in
+    /// the number of rows, and linear in those that are answered; memory for a list of them, whose keys and values are
+    /// shared.
     pub fn range(
         &mut self,
         alloc: Global,
@@ -113,14 +115,15 @@ impl QueryHandle {
     {
         self.ask(RowsIn {
             alloc,
-            namespace: namespace.again(),
-            start: start.again(),
-            end: end.again(),
+            namespace: namespace.reborrow(),
+            start: start.reborrow(),
+            end: end.reborrow(),
             limit,
         })
     }
 
-    /// The value writes and deletes of a key, the newest first. Linear in their number; the values are shared.
+    /// The value writes and deletes of a key, the newest first. Linear in their number; memory for a list of them,
+    /// whose values are shared.
     pub fn history(
         &mut self,
         alloc: Global,
@@ -133,8 +136,8 @@ impl QueryHandle {
     {
         self.ask(HistoryOf {
             alloc,
-            namespace: namespace.again(),
-            key: key.again(),
+            namespace: namespace.reborrow(),
+            key: key.reborrow(),
         })
     }
 
@@ -147,7 +150,8 @@ impl QueryHandle {
         self.ask(FirstUseOf { id: *id })
     }
 
-    /// The canonical text of a chaincode's policy, if it has one. Logarithmic in the number of chaincodes, and linear in the text.
+    /// The canonical text of a chaincode's policy, if it has one. Logarithmic in the number of chaincodes, and linear
+    /// in the text, in time and memory.
     pub fn definition(
         &mut self,
         alloc: Global,
@@ -159,12 +163,12 @@ impl QueryHandle {
     {
         let question = DefinitionOf {
             alloc,
-            chaincode: chaincode.again(),
+            chaincode: chaincode.reborrow(),
         };
         self.ask(question)
     }
 
-    /// The block of a number, if there is one. Its flags are copied.
+    /// The block of a number, if there is one. Its bytes are shared; its flags are copied, with memory for them.
     pub fn block(
         &mut self,
         alloc: Global,

@@ -1,5 +1,5 @@
-//! Whole blocks published to threads that query. Each answer comes from one height, and no handle sees a height below one
-//! that it has seen or was told of; no query waits.
+//! Whole blocks published to threads that query. Each answer comes from one height, and no handle sees a height below
+//! one that it has seen or was told of; no query waits.
 #![tactic(auto)]
 
 mod answers;

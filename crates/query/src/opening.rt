@@ -41,7 +41,51 @@ fn handle(writer: &mut ShownWriter) -> Result<QueryHandle, AllocError>
     Ok(QueryHandle::over(reader, writer.published()))
 }
 
-/// The writer, told of what it shows. That takes a publish of nothing, which waits for nobody, since no reader is there.
+/// A writer over two worlds that hold the same, with no delta behind them, and so many places for readers.
+fn writer_over(
+    alloc: Global,
+    front: &Front,
+    first: World,
+    second: World,
+    places: usize,
+) -> Result<ShownWriter, AllocError>
+    requires alike { first ≡ second }
+    requires empty { front.now.list ≡ [] }
+    requires places { (0 < places) × (places ≤ max_readers) }
+    ensures shown { IfOk result (λ w. w.desk.shown.value ≡ record { world = first; front = front.now }) }
+    ensures none { IfOk result (λ w. drop w.behind w.log.items ≡ []) }
+{
+    let first = Shown {
+        world: first,
+        front: front.again(),
+    };
+    let second = Shown {
+        world: second,
+        front: front.again(),
+    };
+    ShownWriter::new(alloc, first, second, places)
+}
+
+/// The writer, told of what it shows. That takes a publish of nothing, which waits for nobody, since no reader is
+/// there.
+fn begun<R: Wait>(rt: &R, writer: ShownWriter) -> Result<ShownWriter, AllocError>
+    requires empty { writer.desk.shown.value.front.list ≡ [] }
+    requires none { drop writer.behind writer.log.items ≡ [] }
+    ensures told { IfOk result (λ w. IsTold (view w.desk.place) writer.desk.shown.value.world writer.desk.shown.value.front.book) }
+    ensures shown { IfOk result (λ w. w.desk.shown.value ≡ writer.desk.shown.value) }
+    ensures none { IfOk result (λ w. drop w.behind w.log.items ≡ []) }
+{
+    let (writer, begun) = writer.publish_as::<Begins, R>(rt);
+    match begun {
+        Ok(()) => Ok(writer),
+        Err(_) => {
+            drop(writer.take(rt));
+            Err(AllocError)
+        }
+    }
+}
+
+/// The writer over two worlds that hold the same, told of what it shows.
 fn start<R: Wait>(
     alloc: Global,
     rt: &R,
@@ -57,23 +101,8 @@ fn start<R: Wait>(
     ensures shown { IfOk result (λ w. w.desk.shown.value ≡ record { world = first; front = front.now }) }
     ensures none { IfOk result (λ w. drop w.behind w.log.items ≡ []) }
 {
-    let first = Shown {
-        world: first,
-        front: front.again(),
-    };
-    let second = Shown {
-        world: second,
-        front: front.again(),
-    };
-    let writer = ShownWriter::new(alloc, first, second, places)?;
-    let (writer, begun) = writer.publish_as::<Begins, R>(rt);
-    match begun {
-        Ok(()) => Ok(writer),
-        Err(_) => {
-            drop(writer.take(rt));
-            Err(AllocError)
-        }
-    }
+    let writer = writer_over(alloc, front, first, second, places)?;
+    begun(rt, writer)
 }
 
 /// Makes the handles. Where there is no place for one the writer is ended.
@@ -103,6 +132,20 @@ fn hand_out<R: Wait>(
     Ok((writer, handles))
 }
 
+/// Room for so many handles, at most 32.
+fn room_for(alloc: Global, readers: usize) -> Result<Vec<QueryHandle>, OpenFault>
+    ensures room { IfOk result (λ handles. (handles.items ≡ []) × (readers ≤ vec_capacity handles) × (readers ≤ max_readers)) }
+    ensures readers { (result ≡ Err OpenFault.Readers) ↔ (max_readers < readers) }
+{
+    if readers > MAX_READERS {
+        return Err(OpenFault::Readers);
+    }
+    match Vec::with_capacity(alloc, readers) {
+        Ok(handles) => Ok(handles),
+        Err(_) => Err(OpenFault::Memory),
+    }
+}
+
 /// The writer over two worlds that hold the same, and so many handles, at most 32.
 fn begin<R: Wait>(
     alloc: Global,
@@ -121,14 +164,11 @@ fn begin<R: Wait>(
     ensures handles { IfOk result (λ r. All (λ h. h ≡ record { book = front.now.book; base = first; list = [] }) r.1.items) }
     ensures readers { (result ≡ Err OpenFault.Readers) ↔ (max_readers < readers) }
 {
-    if readers > MAX_READERS {
-        return Err(OpenFault::Readers);
-    }
-    let Ok(writer) = start(alloc, rt, front, first, second, readers.max(1)) else {
-        return Err(OpenFault::Memory);
+    let handles = match room_for(alloc, readers) {
+        Ok(handles) => handles,
+        Err(fault) => return Err(fault),
     };
-    let Ok(handles) = Vec::with_capacity(alloc, readers) else {
-        drop(writer.take(rt));
+    let Ok(writer) = start(alloc, rt, front, first, second, readers.max(1)) else {
         return Err(OpenFault::Memory);
     };
     hand_out(rt, writer, readers, handles)
@@ -136,8 +176,7 @@ fn begin<R: Wait>(
 
 /// Opens a publisher over two worlds that hold the same, and so many handles, at most 32, which have seen nothing yet.
 ///
-/// Memory for the handles and their places; the worlds are taken as they are. No thread is waited for: `Wait` is asked for
-/// by a step that could.
+/// Takes memory for the handles and their places. Waits for no thread: `Wait` is asked for by a step that could.
 pub fn open<R: Wait>(
     alloc: Global,
     rt: &R,

@@ -1,4 +1,4 @@
-//! The one who publishes.
+//! The publisher: the one end that shows readers the next block.
 ghost use Rattle.std.specs.Prelude.{◌≡◌, [], ◌∷◌, ◌++◌, false, drop, IfOk, IfErr, OnOk, OnErr};
 ghost use Rattle.left_right.specs.Sides.{view};
 ghost use Rattle.rules.specs.World.{height_of};
@@ -14,16 +14,18 @@ use crate::front::{Counter, Front};
 use crate::receipt::Receipt;
 use crate::shown::{Entry, Operation, Sees, ShownWriter};
 use core::mem::replace_with;
-use rules::Delta;
+use policy::Definitions;
+use rules::{Delta, Flag};
 use std::alloc::{AllocError, Global};
 use std::marker::Model;
 use std::sync::Wait;
+use values::{Hash, Items, Shared};
 use world::{ReadyDelta, Room, World};
 
-/// Publishes blocks, each whole. It isn't `Drop`: `close` ends it.
+/// Publishes blocks, each whole. It has no `Drop`: [`Publisher::close`] ends it.
 ///
-/// It keeps two worlds, one that readers take and one that it makes the next of. Both own the same values, keys, policies and
-/// block bytes, those of the deltas; no world is ever copied.
+/// It keeps two worlds: readers take one, and it makes the other the next. Both share values, keys, policies and block
+/// bytes with the deltas; no world is copied.
 pub struct Publisher {
     alloc: Global,
     counter: Counter,
@@ -92,6 +94,66 @@ fn show<R: Wait>(rt: &R, writer: &mut ShownWriter, entry: Entry) -> Result<(), A
         (rt, entry),
         |writer, (rt, entry)| shown(writer, rt, entry),
     )
+}
+
+/// Shows readers one delta more, behind the list that they see, and answers the longer list.
+fn add<R: Wait>(
+    rt: &R,
+    writer: &mut ShownWriter,
+    counter: &Counter,
+    front: &Front,
+    delta: ReadyDelta,
+    definitions: Option<Shared<Definitions>>,
+) -> Result<Front, AllocError>
+    requires none { ChangeNothing (drop writer.old.behind writer.old.log.items) }
+    requires counter { counter.now ≡ counter_of front.now.book }
+    requires shown { writer.old.desk.shown.value.front ≡ front.now }
+    requires linked { IsLinkedDelta writer.old.desk.shown.value.world delta }
+    requires definitions { AreBehind writer.old.desk.shown.value.world delta definitions }
+    ensures place { view writer.new.desk.place ≡ view writer.old.desk.place }
+    ensures front { IfOk result (λ f. f ≡ record { book = front.now.book; list = front.now.list ++ delta ∷ [] }) }
+    ensures ok { IfOk result (λ f. writer.new.desk.shown.value ≡ absorbed writer.old.desk.shown.value (Block (record { delta = delta; definitions = definitions; front = f }))) }
+    ensures none { OnOk result (ChangeNothing (drop writer.new.behind writer.new.log.items)) }
+    ensures err { OnErr result (writer.new.desk.shown.value ≡ writer.old.desk.shown.value) }
+{
+    let Some(longer) = front.with(counter, delta.delta()) else {
+        return Err(AllocError);
+    };
+    let entry = Entry {
+        delta,
+        definitions,
+        front: longer.again(),
+    };
+    show(rt, writer, entry)?;
+    Ok(longer)
+}
+
+/// What is had before a delta is published: what its receipt says, and the policies of chaincodes behind it, where
+/// these change.
+#[derive(Drop)]
+struct Preparation {
+    number: u64,
+    header_hash: Hash,
+    commit_hash: Hash,
+    flags: Items<Flag>,
+    definitions: Option<Shared<Definitions>>,
+}
+
+/// Memory for a copy of the block's flags, and for policies of chaincodes where these change.
+fn prepare(alloc: Global, world: &World, delta: &Delta) -> Result<Preparation, AllocError>
+    ensures number { IfOk result (λ p. p.number ≡ height_of world.now) }
+    ensures block { IfOk result (λ p. (p.header_hash ≡ delta.now.block.header_hash) × (p.commit_hash ≡ delta.now.block.commit_hash) × (p.flags ≡ delta.now.block.flags)) }
+    ensures definitions { IfOk result (λ p. AreBehind world.now delta.now p.definitions) }
+{
+    let definitions = world.definitions_behind(delta)?;
+    let block = delta.block.get();
+    Ok(Preparation {
+        number: world.height(),
+        header_hash: block.header_hash,
+        commit_hash: block.commit_hash,
+        flags: block.flags.copy(alloc)?,
+        definitions,
+    })
 }
 
 /// The writer, whose other world has absorbed what it lacked, where memory wasn't refused, and is shown then.
@@ -166,7 +228,7 @@ impl Publisher {
         }
     }
 
-    /// Whether a publish has failed: then nothing more is published.
+    /// Whether a publish has failed. Nothing more is published then.
     pub fn failed(&self) -> bool
         ensures { result ≡ self.now.failed }
     {
@@ -180,10 +242,11 @@ impl Publisher {
         &self.writer.published().world
     }
 
-    /// Has both worlds make room for a delta that comes next, the `room_for` that delta in the world that is published. By then both have
-    /// absorbed the last block too, so the next publish is spared that.
+    /// Has both worlds make room for the next delta: its [`ReadyDelta::room_in`] the published world. Both absorb the
+    /// last block too, which spares the next publish that.
     ///
-    /// An `Err` has changed nothing. It waits twice for queries that began before. Where a publish has failed it does nothing.
+    /// Readers see no change. Memory for the room alone. Waits twice for queries that began before. Does nothing where
+    /// a publish has failed.
     pub fn make_room<R: Wait>(&mut self, rt: &R, room: Room) -> Result<(), AllocError>
         ensures { self.new ≡ self.old }
     {
@@ -193,10 +256,10 @@ impl Publisher {
         make_room(rt, &mut self.writer, room)
     }
 
-    /// Publishes the next block, whole: from now on queries answer from the world after it. It makes room for it first.
+    /// Makes room for the next block and publishes it, whole: from then on queries answer from the world after it.
     ///
-    /// An `Err` publishes nothing. Costs the delta twice, once for each world, and its batch once. It waits for queries that began
-    /// before the last publish, and before each of the two steps that make room.
+    /// An `Err` publishes nothing. Costs the delta twice, once for each world, and its batch once. Waits for queries
+    /// that began before the last publish, and before each of the two steps that make room.
     pub fn publish<R: Wait>(&mut self, rt: &R, delta: Delta) -> Result<Receipt, PublishFault>
         requires linked { IsLinkedDelta (published_world self.old) delta }
         requires open { self.old.failed ≡ false }
@@ -217,8 +280,11 @@ impl Publisher {
         self.publish_ready(rt, ready)
     }
 
-    /// The same with a delta whose batch is made, and without making room. Memory for the receipt, and for policies of chaincodes where
-    /// these change; for nothing else where room was made, and so want of memory then leaves all as it was.
+    /// Publishes the next block, whose batch is made, without making room. Waits for queries that began before the last
+    /// publish.
+    ///
+    /// Takes memory for the receipt, and for policies of chaincodes where these change; this comes first, so that
+    /// `Memory` changes nothing. Tests alone show that it takes no other where room was made.
     pub fn publish_ready<R: Wait>(
         &mut self,
         rt: &R,
@@ -233,25 +299,25 @@ impl Publisher {
         ensures front { IfOk result (λ r. r.front ≡ record { book = self.new.book; list = self.new.list }) }
         ensures err { IfErr result (λ fault. Leaves self.old fault self.new) }
     {
-        let number = self.writer.published().world.height();
-        let block = delta.delta().block.get();
-        let (header_hash, commit_hash) = (block.header_hash, block.commit_hash);
-        let Ok(flags) = block.flags.copy(self.alloc) else {
+        let Ok(made) = prepare(self.alloc, self.published(), delta.delta()) else {
             return Err(PublishFault::Memory);
         };
-        let Ok(definitions) = self.published().definitions_behind(delta.delta()) else {
-            return Err(PublishFault::Memory);
-        };
+        let Preparation {
+            number,
+            header_hash,
+            commit_hash,
+            flags,
+            definitions,
+        } = made;
         self.failed = true;
-        let Some(front) = self.front.with(&self.counter, delta.delta()) else {
-            return Err(PublishFault::Failed);
-        };
-        let entry = Entry {
+        let Ok(front) = add(
+            rt,
+            &mut self.writer,
+            &self.counter,
+            &self.front,
             delta,
             definitions,
-            front: front.again(),
-        };
-        let Ok(()) = show(rt, &mut self.writer, entry) else {
+        ) else {
             return Err(PublishFault::Failed);
         };
         self.front = front.again();
@@ -266,8 +332,11 @@ impl Publisher {
         })
     }
 
-    /// Ends the publisher, and waits for queries that have begun. Handles get no entry from then on.
-    pub fn close<R: Wait>(self, rt: &R) {
+    /// Ends the publisher, waits for queries that have begun, and answers what was published last: all that it had
+    /// published, and nothing more. Handles get no entry from then on.
+    pub fn close<R: Wait>(self, rt: &R) -> Front
+        ensures { result ≡ record { book = self.book; list = self.list } }
+    {
         let Publisher {
             alloc: _,
             counter: _counter,
@@ -275,6 +344,7 @@ impl Publisher {
             writer,
             failed: _,
         } = self;
-        drop(writer.take(rt));
+        let last = writer.take(rt);
+        last.front.again()
     }
 }

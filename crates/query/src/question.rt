@@ -4,8 +4,7 @@ ghost use Rattle.rules.specs.Answers.{range_answer};
 
 use crate::answers::{PolicyText, RangeRows};
 use crate::copies::{copied_block, copied_entries, copied_rows};
-use block_steps::share_row;
-use rules::{CommittedBlock, FirstUse, HistoryEntry, Row};
+use rules::{CommittedBlock, FirstUse, HistoryEntry, Row, share_row};
 use std::alloc::{AllocError, Global};
 use transaction::TxId;
 use values::{BoundRef, Items, KeyRef, NameRef};

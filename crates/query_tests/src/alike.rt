@@ -1,9 +1,9 @@
 //! Whether answers are the same.
 
-use failing::Failed;
 use query::Reply;
 use rules::{CommittedBlock, HistoryEntry, KeyedRow, Row};
 use std::alloc::{AllocError, Global};
+use test_support::Failed;
 use values::Part;
 use world::World;
 
@@ -32,6 +32,7 @@ fn has_same_policy(alloc: Global, one: &Row, other: &Row) -> Result<bool, AllocE
     })
 }
 
+/// Whether value, version and policy are the same.
 pub fn is_same_row(alloc: Global, one: &Row, other: &Row) -> Result<bool, AllocError> {
     Ok(
         one.version == other.version
@@ -40,6 +41,7 @@ pub fn is_same_row(alloc: Global, one: &Row, other: &Row) -> Result<bool, AllocE
     )
 }
 
+/// Whether key and row are the same.
 pub fn is_same_keyed_row(
     alloc: Global,
     one: &KeyedRow,
@@ -52,10 +54,12 @@ pub fn is_same_keyed_row(
     )
 }
 
+/// Whether version, id and value are the same.
 pub fn is_same_entry(one: &HistoryEntry, other: &HistoryEntry) -> bool {
     one.version == other.version && one.id == other.id && is_same_value(&one.value, &other.value)
 }
 
+/// Whether bytes, hashes and flags are the same.
 pub fn is_same_block(one: &CommittedBlock, other: &CommittedBlock) -> bool {
     one.bytes.get().is_same(other.bytes.get())
         && one.header_hash == other.header_hash

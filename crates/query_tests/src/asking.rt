@@ -2,11 +2,11 @@
 
 use crate::alike::{is_of, is_same_block, is_same_entry, is_same_keyed_row, is_same_row};
 use crate::blocks::{bound, key, name};
-use failing::{Failed, check};
 use policy::Policy;
 use query::{PolicyText, QueryHandle, RangeRows, Reply};
 use rules::{CommittedBlock, HistoryEntry, Row};
 use std::alloc::{AllocError, Global};
+use test_support::{Failed, check};
 use transaction::TxId;
 use values::{BoundRef, KeyRef, NameRef};
 use world::World;
@@ -83,50 +83,59 @@ pub fn check_key(
     check_history(alloc, handle, world, &namespace, &at)
 }
 
+// A range that is asked for.
+#[derive(Drop)]
+struct Range<'a> {
+    namespace: NameRef<'a>,
+    start: BoundRef<'a>,
+    end: BoundRef<'a>,
+    limit: usize,
+}
+
 fn are_rows_alike(
     alloc: Global,
     answer: &RangeRows,
     world: &World,
-    namespace: &NameRef<'_>,
-    start: &BoundRef<'_>,
-    end: &BoundRef<'_>,
-    limit: usize,
+    range: &Range<'_>,
 ) -> Result<bool, AllocError> {
     let mut left = answer.rows.as_slice().iter();
-    for other in world.state().range(namespace, start, end) {
+    for other in world
+        .state()
+        .range(&range.namespace, &range.start, &range.end)
+    {
         match left.next() {
             Some(one) if is_same_keyed_row(alloc, one, other)? => {}
             Some(_) => return Ok(false),
-            None => return Ok(answer.more && answer.rows.len() == limit),
+            None => return Ok(answer.more && answer.rows.len() == range.limit),
         }
     }
-    Ok(!answer.more && left.next().is_none() && answer.rows.len() <= limit)
+    Ok(!answer.more && left.next().is_none() && answer.rows.len() <= range.limit)
 }
 
 fn check_range_reply(
     alloc: Global,
     reply: &Reply<RangeRows>,
     world: &World,
-    namespace: &NameRef<'_>,
-    start: &BoundRef<'_>,
-    end: &BoundRef<'_>,
-    limit: usize,
+    range: &Range<'_>,
 ) -> Result<(), Failed> {
     check(is_of(reply, world))?;
-    check(are_rows_alike(alloc, &reply.answer, world, namespace, start, end, limit)?)
+    check(are_rows_alike(alloc, &reply.answer, world, range)?)
 }
 
 fn check_range_of(
     alloc: Global,
     handle: &mut QueryHandle,
     world: &World,
-    namespace: &NameRef<'_>,
-    start: &BoundRef<'_>,
-    end: &BoundRef<'_>,
-    limit: usize,
+    range: &Range<'_>,
 ) -> Result<(), Failed> {
-    let reply = handle.range(alloc, namespace, start, end, limit)?;
-    check_range_reply(alloc, &reply, world, namespace, start, end, limit)
+    let reply = handle.range(
+        alloc,
+        &range.namespace,
+        &range.start,
+        &range.end,
+        range.limit,
+    )?;
+    check_range_reply(alloc, &reply, world, range)
 }
 
 /// Wants a range answered alike.
@@ -138,8 +147,13 @@ pub fn check_range(
     (start, end): (&[u8], &[u8]),
     limit: usize,
 ) -> Result<(), Failed> {
-    let (namespace, start, end) = (name(namespace)?, bound(start)?, bound(end)?);
-    check_range_of(alloc, handle, world, &namespace, &start, &end, limit)
+    let range = Range {
+        namespace: name(namespace)?,
+        start: bound(start)?,
+        end: bound(end)?,
+        limit,
+    };
+    check_range_of(alloc, handle, world, &range)
 }
 
 fn is_same_answer(kept: &Option<CommittedBlock>, block: Option<&CommittedBlock>) -> bool {

@@ -5,10 +5,8 @@ use crate::spoiling::spoiled;
 use crate::story::Story;
 use crate::updates::script_of_updates;
 use block::BlockVersion;
-use failing::Failed;
-use random_numbers::Random;
 use std::alloc::Global;
-use trials::script;
+use test_support::{Failed, Random, script};
 use values::Bytes;
 use world::World;
 

@@ -7,12 +7,12 @@ use block::{BlockFault, BlockVersion, Header, decode_block};
 use channel::{Channel, ChannelFault};
 use commit::{Accepted, Refused};
 use drafts::draft;
-use failing::Failed;
 use key_book::KeyBook;
 use ledger::Ledger;
 use policy::Definitions;
 use rules::Delta;
 use std::alloc::{AllocError, Global};
+use test_support::Failed;
 use values::{BoundRef, Bytes, KeyRef, Name, NameRef, is_bound, is_key, is_name};
 use world::World;
 
@@ -25,6 +25,7 @@ admin OR('Org1.peer','Org2.peer')
 
 const KEYS: &str = "Org1:client:c0 11\nOrg1:peer:p0 22\nOrg2:peer:q0 33\n";
 
+/// The name. The error is `Missing` where the bytes are none.
 pub fn name(bytes: &[u8]) -> Result<NameRef<'_>, Failed> {
     if !is_name(bytes) {
         return Err(Failed::Missing("a name"));
@@ -32,6 +33,7 @@ pub fn name(bytes: &[u8]) -> Result<NameRef<'_>, Failed> {
     Ok(NameRef::new(bytes))
 }
 
+/// The key. The error is `Missing` where the bytes are none.
 pub fn key(bytes: &[u8]) -> Result<KeyRef<'_>, Failed> {
     if !is_key(bytes) {
         return Err(Failed::Missing("a key"));
@@ -60,6 +62,7 @@ pub fn first_worlds(alloc: Global) -> Result<(World, World), Failed>
     Ok((World::new(alloc, definitions), World::new(alloc, copy)))
 }
 
+/// The bound. The error is `Missing` where the bytes are none.
 pub fn bound(bytes: &[u8]) -> Result<BoundRef<'_>, Failed> {
     if !is_bound(bytes) {
         return Err(Failed::Missing("a bound"));
@@ -111,6 +114,7 @@ fn drafted_behind(
 }
 
 impl Drafter {
+    /// At height 0.
     pub fn open(alloc: Global) -> Result<Drafter, Failed> {
         let keys = KeyBook::read(alloc, KEYS)?;
         let channel = configuration(alloc)?;
@@ -138,7 +142,7 @@ impl Drafter {
         drafted_behind(self.alloc, &channel, &self.keys, version, last, script)
     }
 
-    /// The same of a script that was written, if memory was had for it.
+    /// The bytes of the next block, of this version and a script that was written if memory was had for it.
     pub fn drafted_of(
         &self,
         version: BlockVersion,

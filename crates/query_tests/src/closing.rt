@@ -5,13 +5,13 @@ use crate::opening::{opened, submit_next};
 use crate::story::Story;
 use block::BlockVersion;
 use commit::{CommittedBlock, Committer, QueryFault, QueryHandle, Reply};
-use failing::Failed;
 use gates::Open;
 use header_hash::tx_id;
 use rules::{HistoryEntry, Row};
 use std::alloc::{AllocError, Global};
 use std::sync::Wait;
 use std::thread::Threads;
+use test_support::Failed;
 use values::Items;
 
 const SCRIPT: &str =

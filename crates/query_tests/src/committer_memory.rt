@@ -7,11 +7,11 @@ use crate::opening::opened;
 use crate::story::Story;
 use block::BlockVersion;
 use commit::{Committer, NotCommitted, QueryHandle, Receipt, Refused};
-use failing::{Failed, Outcome, begins};
 use gates::Open;
 use std::alloc::Global;
 use std::sync::Wait;
 use std::thread::Threads;
+use test_support::{Failed, Outcome, begins};
 use values::Hash;
 
 const WRITES: [&str; 4] = [

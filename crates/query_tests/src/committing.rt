@@ -8,13 +8,12 @@ use crate::opening::opened;
 use crate::story::Story;
 use block::BlockVersion;
 use commit::{Accepted, Committer, NotCommitted, OpenFault, QueryHandle, Receipt, Refused};
-use failing::{Failed, check};
 use gates::{Gate, Open, Phase, Reverse};
 use rules::NewUse;
 use std::alloc::{AllocError, Global};
 use std::sync::Wait;
 use std::thread::Threads;
-use trials::{Meeting, Yielding};
+use test_support::{Failed, Meeting, Yielding, check};
 use world::World;
 
 static KEYS: [&[u8]; 5] = [b"a", b"b", b"c", b"d", b"e"];
@@ -53,6 +52,7 @@ fn is_same(answer: &Result<Receipt, NotCommitted>, of_ledger: &Result<Accepted, 
     }
 }
 
+/// Whether a committer answered as the ledger did.
 pub fn are_same(
     answers: &[Result<Receipt, NotCommitted>],
     of_ledger: &[Result<Accepted, Refused>],
@@ -80,7 +80,7 @@ fn is_answered<R: Threads + Wait + Sync, G: Gate + Sync>(
     }
 }
 
-// The same of all from this one on, handed in one by one.
+// Whether all from this one on, handed in one by one, are answered as the ledger answered them.
 fn are_answered<R: Threads + Wait + Sync, G: Gate + Sync>(
     rt: &R,
     committer: &mut Committer,
@@ -96,7 +96,7 @@ fn are_answered<R: Threads + Wait + Sync, G: Gate + Sync>(
     true
 }
 
-// The same of all from this one on, handed in at once.
+// Whether all from this one on, handed in at once, are answered as the ledger answered them.
 fn are_answered_at_once<R: Threads + Wait + Sync, G: Gate + Sync>(
     rt: &R,
     committer: &mut Committer,

@@ -9,12 +9,12 @@ use chain_vectors::rows::rows;
 use chain_vectors::uses::uses;
 use chain_vectors::{CHANNEL, Left, SaysOk, read_use};
 use channel::Channel;
-use failing::Failed;
 use ledger::Ledger;
 use query::{Publisher, QueryHandle};
 use rules::Delta;
 use std::alloc::Global;
 use std::sync::Wait;
+use test_support::Failed;
 use transaction::TxId;
 use world::World;
 

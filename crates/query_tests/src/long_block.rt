@@ -6,13 +6,12 @@ use crate::opening::{opened, submit_next};
 use crate::story::Story;
 use block::BlockVersion;
 use commit::{Committer, Flag, QueryFault, QueryHandle, Receipt};
-use failing::{Failed, check};
 use gates::{Open, Reverse};
 use std::alloc::{AllocError, Global};
 use std::sync::Wait;
 use std::thread;
 use std::thread::Threads;
-use trials::{chain_flags, chain_script, keys_script};
+use test_support::{Failed, chain_flags, chain_script, check, keys_script};
 
 const LENGTH: u32 = 1000;
 

@@ -7,12 +7,12 @@ use crate::opening::{opened, submit_next};
 use crate::story::Story;
 use block::BlockVersion;
 use commit::{Accepted, Committer, Flag, QueryHandle, Refused};
-use failing::Failed;
 use gates::Open;
 use rules::KeyedRow;
 use std::alloc::{AllocError, Global};
 use std::sync::Wait;
 use std::thread::Threads;
+use test_support::Failed;
 
 const ROWS: u32 = 600;
 
@@ -136,15 +136,14 @@ fn is_valid<R: Threads + Wait + Sync>(
     Ok(receipt.flags.as_slice() == [Flag::Valid].as_slice())
 }
 
-// The same, and whether all of this is answered behind it, of rows that a block wrote.
+// Whether the block of this number is valid, and all of this is answered behind it, of rows that a block wrote.
 fn is_answered_behind<R: Threads + Wait + Sync>(
     rt: &R,
     committer: &mut Committer,
     handle: &mut QueryHandle,
     story: &Story,
     number: usize,
-    asks: &[Ask],
-    written_in: u64,
+    (asks, written_in): (&[Ask], u64),
 ) -> Result<bool, Failed> {
     if !is_valid(rt, committer, story, number)? {
         return Ok(false);
@@ -161,13 +160,13 @@ fn is_so_of<R: Threads + Wait + Sync>(
     let Some(handle) = handles.first_mut() else {
         return Err(Failed::Missing("a handle"));
     };
-    if !is_answered_behind(rt, committer, handle, story, 0, behind_writes(), 0)? {
+    if !is_answered_behind(rt, committer, handle, story, 0, (behind_writes(), 0))? {
         return Ok(false);
     }
-    if !is_answered_behind(rt, committer, handle, story, 1, behind_writes(), 1)? {
+    if !is_answered_behind(rt, committer, handle, story, 1, (behind_writes(), 1))? {
         return Ok(false);
     }
-    is_answered_behind(rt, committer, handle, story, 2, behind_deletes(), 1)
+    is_answered_behind(rt, committer, handle, story, 2, (behind_deletes(), 1))
 }
 
 fn is_so_by<R: Threads + Wait + Sync>(rt: &R, story: &mut Story) -> Result<bool, Failed> {
@@ -224,7 +223,7 @@ fn are_answered_as_by_ledger<R: Threads + Wait + Sync>(
     Ok(are_same(answers.as_slice(), story.answers.as_slice()) && is_used(story.answers.get(1)))
 }
 
-fn is_foreseen_by<R: Threads + Wait + Sync>(rt: &R, story: &mut Story) -> Result<bool, Failed> {
+fn is_tentative_by<R: Threads + Wait + Sync>(rt: &R, story: &mut Story) -> Result<bool, Failed> {
     add_with_a_used_id(story)?;
     let (mut committer, _handles) = opened(rt, story.alloc, 2, 0)?;
     let is_so = are_answered_as_by_ledger(rt, &mut committer, story);
@@ -232,14 +231,14 @@ fn is_foreseen_by<R: Threads + Wait + Sync>(rt: &R, story: &mut Story) -> Result
     is_so
 }
 
-fn is_foreseen<R: Threads + Wait + Sync>(rt: &R, alloc: Global) -> Result<bool, Failed> {
+fn is_tentative<R: Threads + Wait + Sync>(rt: &R, alloc: Global) -> Result<bool, Failed> {
     let mut story = Story::open(alloc, 0)?;
-    is_foreseen_by(rt, &mut story)
+    is_tentative_by(rt, &mut story)
 }
 
-// In this run the second block is foreseen while the commit hash of the first, whose id it has, is made.
+// In this run the second block is tentative while the commit hash of the first, whose id it has, is made.
 #[test]
-fn a_foreseen_block_has_a_used_id(rt: HostRuntime) -> Result<(), Failed> {
-    assert!(rt; is_foreseen(&rt, rt.alloc())?);
+fn a_tentative_block_has_a_used_id(rt: HostRuntime) -> Result<(), Failed> {
+    assert!(rt; is_tentative(&rt, rt.alloc())?);
     Ok(())
 }

@@ -9,11 +9,11 @@ use crate::blocks::{Drafter, first_worlds};
 use crate::opening::opened_publisher;
 use crate::publishing::publish_next;
 use block::BlockVersion;
-use failing::{Failed, Outcome, begins, is_alike};
 use query::{OpenFault, Publisher, QueryHandle, Reply, open};
 use rules::{Delta, Row};
 use std::alloc::Global;
 use std::sync::Wait;
+use test_support::{Failed, Outcome, begins, is_alike};
 use values::Hash;
 use world::World;
 
@@ -30,6 +30,7 @@ fn opened<R: Wait>(rt: &R, alloc: Global) -> Result<usize, OpenFault> {
     Ok(handles.len())
 }
 
+/// What comes of opening a publisher.
 pub fn outcome_of_opening<R: Wait>(rt: &R, alloc: Global) -> Result<Outcome, Failed> {
     begins(alloc)?;
     match opened(rt, alloc) {
@@ -214,6 +215,7 @@ fn outcome_by<R: Wait>(
     outcome_behind_first(rt, alloc, publisher, handles, &mut drafter, is_asked)
 }
 
+/// What comes of a publish.
 pub fn outcome_of_publishing<R: Wait>(rt: &R, alloc: Global) -> Result<Outcome, Failed> {
     let (mut publisher, mut handles) = opened_publisher(rt, alloc, 2)?;
     let outcome = outcome_by(rt, alloc, &mut publisher, &mut handles, false);
@@ -221,6 +223,7 @@ pub fn outcome_of_publishing<R: Wait>(rt: &R, alloc: Global) -> Result<Outcome, 
     outcome
 }
 
+/// What comes of each query.
 pub fn outcome_of_asking<R: Wait>(rt: &R, alloc: Global) -> Result<Outcome, Failed> {
     let (world, other) = first_worlds(alloc)?;
     let (mut publisher, mut handles) = open(alloc, rt, world, other, 1)?;

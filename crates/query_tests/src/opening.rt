@@ -3,13 +3,13 @@ ghost use Rattle.std.specs.Prelude.{◌≡◌, All, IfOk};
 
 use crate::blocks::{configuration, empty_world};
 use commit::{Committer, QueryHandle, Receipt};
-use failing::Failed;
 use gates::Gate;
 use key_book::KeyBook;
 use query::{OpenFault, Publisher, open};
 use std::alloc::Global;
 use std::sync::Wait;
 use std::thread::Threads;
+use test_support::Failed;
 
 /// A committer of the channel of all blocks.
 pub fn opened<R: Wait>(

@@ -3,13 +3,13 @@ ghost use Rattle.std.specs.Prelude.{◌≡◌, length, IsTrue, IfOk};
 ghost use Rattle.header_hash.specs.Hashes.{header_hash_of};
 ghost use Rattle.rules.specs.Linked.{IsLinkedDelta};
 
-use block_steps::{DecodedBlock, LinkedBlock};
-use failing::Failed;
 use header_hash::header_hash;
+use linking::{DecodedBlock, LinkedBlock};
 use query::{Publisher, Receipt};
 use rules::{CommittedBlock, Delta};
 use std::alloc::Global;
 use std::sync::Wait;
+use test_support::Failed;
 use world::{ReadyDelta, World};
 
 // Whether a block is kept as what it is.

@@ -3,12 +3,11 @@
 
 use crate::at_random::AtRandom;
 use crate::committing::{Blocks, Course, check_seeds, check_writes, of_writes};
-use failing::Failed;
 use gates::Phase;
 use std::alloc::Global;
 use std::sync::Wait;
 use std::thread::Threads;
-use trials::Awaiting;
+use test_support::{Awaiting, Failed};
 
 const AT_ONCE: Course = Course {
     times: 1,

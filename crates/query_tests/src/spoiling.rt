@@ -1,10 +1,9 @@
 //! Blocks that were spoiled on their way.
 
 use block::{Block, BlockVersion, Header, decode_block, encode_block};
-use failing::Failed;
 use header_hash::data_hash;
-use random_numbers::Random;
 use std::alloc::{AllocError, Global};
+use test_support::{Failed, Random};
 use values::Bytes;
 
 // Where the count of transactions stands, behind no previous hash and behind one. The first one's length is next to it.
@@ -89,7 +88,7 @@ fn changed(alloc: Global, random: &mut Random, bytes: &[u8]) -> Result<Vec<u8>, 
     }
 }
 
-// The same block of the other version.
+// The block as one of the other version.
 fn of_other_version(alloc: Global, bytes: &[u8]) -> Result<Bytes, Failed> {
     let Ok(block) = decode_block(alloc, bytes) else {
         return Ok(Bytes::from_slice(alloc, bytes)?);

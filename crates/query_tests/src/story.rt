@@ -3,10 +3,9 @@
 use crate::blocks::Drafter;
 use block::BlockVersion;
 use commit::{Accepted, Refused};
-use failing::{Failed, check};
-use random_numbers::Random;
 use rules::NewUse;
 use std::alloc::{AllocError, Global};
+use test_support::{Failed, Random, check};
 use values::Bytes;
 
 #[derive(Drop)]
@@ -42,6 +41,7 @@ impl Story {
         })
     }
 
+    /// The height of the ledger.
     pub fn height(&self) -> u64 {
         self.drafter.world().height()
     }
@@ -59,6 +59,7 @@ impl Story {
         }
     }
 
+    /// Hands the block to the ledger, and keeps it with the answer.
     pub fn add(&mut self, bytes: Bytes) -> Result<(), AllocError> {
         let answer = self.drafter.submit(&bytes);
         self.answers.push(answer)?;
@@ -77,7 +78,7 @@ impl Story {
         check(self.is_last_taken())
     }
 
-    /// The same of a script that was written, if memory was had for it.
+    /// The next block, of a script that was written if memory was had for it, which the ledger is to take.
     pub fn take_of(
         &mut self,
         version: BlockVersion,

@@ -6,13 +6,13 @@ mod vectors;
 use crate::blocks::Drafter;
 use crate::opening::opened_publisher;
 use crate::publishing::publish_next;
-use failing::Failed;
 use query::{Publisher, QueryHandle, Receipt, Reply};
 use rules::{CommittedBlock, Delta, Flag};
 use std::alloc::Global;
 use std::sync::Wait;
 use std::thread;
 use std::thread::Threads;
+use test_support::Failed;
 use vectors::{SCRIPT, block, header_hash};
 
 const ASKS: u32 = 1_000;

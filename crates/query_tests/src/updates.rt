@@ -2,9 +2,8 @@
 
 use crate::at_random::AtRandom;
 use crate::committing::{Blocks, Course, check_seeds};
-use failing::Failed;
-use random_numbers::Random;
 use std::alloc::{AllocError, Global};
+use test_support::{Failed, Random};
 
 // The last has no definition.
 const CHAINCODES: [&str; 4] = ["cc", "cc", "dd", "zz"];

@@ -19,7 +19,7 @@ not_taken p used None e = refl
 not_taken p used (Some place) e = absurd cc
 
 -- a gate that gets too few
-too_few : (n : ℕ) (used : List Bool) (members : ℕ × List Bool) → (gated n used members).0 ≡ false → members.0 < n
+pub too_few : (n : ℕ) (used : List Bool) (members : ℕ × List Bool) → (gated n used members).0 ≡ false → members.0 < n
 too_few n used members e = by (nat_le n members.0) refl e
   where
     by : (b : Bool) → nat_le n members.0 ≡ b → (cond {A = Bool × List Bool} b (true, members.1) (false, used)).0 ≡ false → members.0 < n
@@ -30,7 +30,7 @@ failed : (b : Bool) (o : Option Principal) → b ≡ false → is_some o ≡ tru
 failed false o e there = there
 failed true o e there = absurd cc
 
-some_count : {members : Trees} {ts : List Token} → SpellsMembers members ts → 1 ≤ count members
+pub some_count : {members : Trees} {ts : List Token} → SpellsMembers members ts → 1 ≤ count members
 some_count (last_is s) = omega arith
 some_count (more_are s m) = omega arith
 

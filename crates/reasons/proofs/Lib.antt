@@ -1,5 +1,8 @@
 mod Lacking
+mod Missing
+mod Reordered
 mod Lists
+mod Refused
 mod Differences
 mod Form
 mod Identity

@@ -2,6 +2,8 @@ pub mod First
 pub mod Form
 pub mod Identity
 pub mod Shortfall
+pub mod Missing
+pub mod Reordered
 pub mod Endorsement
 pub mod Reads
 pub mod Ranges

@@ -1,11 +1,18 @@
+ghost use Rattle.std.specs.List.{Contains};
 ghost use Rattle.std.specs.Prelude.{◌≡◌, ◌<◌, ℕ, List, length, map, false, Option, Some, true, None, IfSome, IsSome, is_some};
 ghost use Rattle.transaction.specs.declared.item.Item.{Item};
 ghost use Rattle.transaction.specs.declared.identity.Identity.{Identity};
 ghost use Rattle.transaction.specs.declared.transaction.Endorsement.{Endorsement};
+ghost use Rattle.transaction.specs.declared.transaction.Tx.{Tx};
+ghost use Rattle.transaction.specs.declared.update.Update.{Update};
+ghost use Rattle.policy.specs.declared.tree.Principal.{Principal};
 ghost use Rattle.policy.specs.Tree.{Tree};
 ghost use Rattle.policy.specs.Spelled.{IsSpelled};
 ghost use Rattle.policy_eval.specs.Accepts.{Accepts};
 ghost use Rattle.policy_eval.specs.Evaluating.{is_satisfied};
+ghost use Rattle.policy_eval.specs.Evaluation.{none_used};
+ghost use Rattle.policy_eval.specs.Signers.{signers_of, HasSigned};
+ghost use Rattle.policy_eval.specs.UpdateSigners.{update_signers_of, HasSignedUpdate};
 ghost use Rattle.channel.specs.Configuration.{Configuration};
 ghost use Rattle.rules.specs.declared.flag.Flag.{Flag};
 ghost use Rattle.rules.specs.State.{StateKey, version_in, is_among};
@@ -23,6 +30,8 @@ ghost use Rattle.reasons.specs.declared.stale_read.StaleRead.{StaleRead};
 ghost use Rattle.reasons.specs.declared.phantom_key.PhantomKey.{PhantomKey};
 ghost use Rattle.reasons.specs.declared.shortfall.Shortfall.{Shortfall};
 ghost use Rattle.reasons.specs.First.{first_below};
+ghost use Rattle.reasons.specs.Missing.{Misses};
+ghost use Rattle.reasons.specs.Reordered.{IsReordered, AsksWideLast};
 ghost use Rattle.reasons.specs.Shortfall.{shortfall_of};
 ghost use Rattle.reasons.specs.Endorsement.{touches};
 ghost use Rattle.reasons.specs.Reason.{flag_of, IsReason, AreReasons};
@@ -62,6 +71,38 @@ pub fn unsatisfied_policies_miss_a_principal()
         → IsSome (shortfall_of endorsements signers policy).missing }
     ensures satisfied { (policy : Tree) (endorsements : List Endorsement) (signers : List Identity) → is_satisfied policy signers ≡ true
         → (shortfall_of endorsements signers policy).missing ≡ None }
+{}
+
+/// Laws of who is missing, and no work: where signers don't satisfy a policy that some text spells, it is the first principal, in the
+/// order of the text, of the first member that isn't satisfied with the signers that those before it left; and no other.
+pub fn missing_principals_are_the_first()
+    ensures missing { (policy : Tree) (endorsements : List Endorsement) (signers : List Identity) → IsSpelled policy → is_satisfied policy signers ≡ false
+        → IfSome (shortfall_of endorsements signers policy).missing (Misses policy signers (none_used signers)) }
+    ensures only { (policy : Tree) (signers : List Identity) (p q : Principal) → Misses policy signers (none_used signers) p → Misses policy signers (none_used signers) q → p ≡ q }
+{
+    policy_eval::one_evaluation();
+}
+
+/// Laws of who is refused, and no work: the endorsers of a transaction, or of an update, none of whose signatures the verifier accepts.
+pub fn refused_endorsers_have_not_signed()
+    ensures named { (accepts : Accepts) (tx : Tx) (policy : Tree) (i : Identity) → Contains (shortfall_of tx.endorsements (signers_of accepts tx) policy).refused i
+        → ((e : Endorsement) × Contains tx.endorsements e × (e.endorser ≡ i)) × (HasSigned accepts tx i → ⊥) }
+    ensures each { (accepts : Accepts) (tx : Tx) (policy : Tree) (e : Endorsement) → Contains tx.endorsements e → (HasSigned accepts tx e.endorser → ⊥)
+        → Contains (shortfall_of tx.endorsements (signers_of accepts tx) policy).refused e.endorser }
+    ensures named_of_an_update { (accepts : Accepts) (u : Update) (policy : Tree) (i : Identity) → Contains (shortfall_of u.endorsements (update_signers_of accepts u) policy).refused i
+        → ((e : Endorsement) × Contains u.endorsements e × (e.endorser ≡ i)) × (HasSignedUpdate accepts u i → ⊥) }
+    ensures each_of_an_update { (accepts : Accepts) (u : Update) (policy : Tree) (e : Endorsement) → Contains u.endorsements e → (HasSignedUpdate accepts u e.endorser → ⊥)
+        → Contains (shortfall_of u.endorsements (update_signers_of accepts u) policy).refused e.endorser }
+{
+    policy_eval::each_signer_once();
+    policy_eval::each_update_signer_once();
+}
+
+/// A law of another order, and no work: it would do exactly where the signers satisfy a policy of the same gates, each of which asks its
+/// members in another order, those that each role of an organization fills last.
+pub fn another_order_asks_any_role_last()
+    ensures { (policy : Tree) (endorsements : List Endorsement) (signers : List Identity)
+        → (other : Tree) × IsReordered policy other × AsksWideLast other × ((shortfall_of endorsements signers policy).another_order ≡ is_satisfied other signers) }
 {}
 
 /// A law, and no work: where the key of a read that doesn't hold, or of a range that doesn't, is there, its version is that of the

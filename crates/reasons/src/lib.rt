@@ -21,8 +21,9 @@ pub use form_fault::FormFault;
 pub use id_use::IdUse;
 pub use key_list::KeyList;
 pub use laws::{
-    each_place_has_one_reason, named_places_come_before, named_policies_are_not_satisfied,
-    named_writers_left_what_is_there, reasons_have_the_flags, touched_keys_have_a_toucher,
+    another_order_asks_any_role_last, each_place_has_one_reason, missing_principals_are_the_first,
+    named_places_come_before, named_policies_are_not_satisfied, named_writers_left_what_is_there,
+    reasons_have_the_flags, refused_endorsers_have_not_signed, touched_keys_have_a_toucher,
     unsatisfied_policies_miss_a_principal,
 };
 pub use phantom_key::PhantomKey;

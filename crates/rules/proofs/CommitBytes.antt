@@ -1,5 +1,5 @@
 -- What is hashed of a block tells all that it is made of.
-use Rattle.std.proofs.Common.{◌≡◌, ℕ, ◌<◌, ◌^◌, ◌≤◌, eqb, Bool, true, false, cond, List, [], ◌∷◌, ◌++◌, length, map, Option, Some, None, refl, sym, ap, ◌∙◌, append_assoc, arith}
+use Rattle.std.proofs.Common.{◌≡◌, ℕ, ◌<◌, ◌^◌, ◌≤◌, eqb, Bool, true, false, cond, List, [], ◌∷◌, ◌++◌, length, map, drop, get_or, Option, Some, None, refl, sym, ap, ◌∙◌, append_assoc, arith}
 use Rattle.std.specs.Prelude.{IfSome, option_map}
 use Rattle.std.specs.List.{flat_map, AllByRecursion}
 use Rattle.std.proofs.lemmas.Bool.{eqb-true}
@@ -150,3 +150,15 @@ pub commits_told : (a b : BlockCommit) → HasRoom a → HasRoom b → commit_by
 commits_told a b room also same =
     let one : told_of a ≡ told_of b = told told_field (told_of a) (told_of b) (has_room a room) (has_room b also) (bytes_told a ∙ same ∙ sym (bytes_told b)) in
     (ap (λ (t : Told). t.0) one, ap (λ (t : Told). t.1.0) one, ap (λ (t : Told). t.1.1.0) one, ap (λ (t : Told). t.1.1.1.0) one, ap (λ (t : Told). t.1.1.1.1) one)
+
+-- ---- behind a hash
+
+-- two lists that are the same, with fronts of one length
+pub same_front : (p q x y : List ℕ) → length p ≡ length q → p ++ x ≡ q ++ y → (p ≡ q) × (x ≡ y)
+same_front [] [] x y n e = (refl, e)
+same_front [] (b ∷ q) x y n e = absurd (omega (arith, n))
+same_front (a ∷ p) [] x y n e = absurd (omega (arith, n))
+same_front (a ∷ p) (b ∷ q) x y n e =
+    let first : a ≡ b = ap (λ (l : List ℕ). get_or l 0 0) e in
+    let others = same_front p q x y (omega (arith, n)) (ap (drop 1) e) in
+    ((λ i. first i ∷ others.0 i), others.1)

@@ -27,5 +27,6 @@ pub mod OpenUpdates
 pub mod NewIds
 pub mod Numbers
 pub mod Crossing
+mod UseLists
 mod Worked
 pub mod rows

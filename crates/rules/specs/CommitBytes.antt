@@ -71,7 +71,7 @@ told_change c = (c.0.0, (c.0.1, option_map told_row c.1))
 abbrev pub told_definition : List ℕ × Tree → List ℕ × List ℕ
 told_definition d = (d.0, text_of d.1)
 
--- lengths and numbers that have room in their bytes, as all have that a ledger holds
+-- lengths and numbers that have room in their bytes
 abbrev pub HasRoomForRow : ToldRow → Type 0
 HasRoomForRow r = IsVersion r.0 × ((length r.1.0 < 2 ^ 32) × (length r.1.1 < 2 ^ 16))
 

@@ -22,6 +22,7 @@ pub enum Change {
 }
 
 impl Change {
+    /// The namespace of the key.
     pub fn namespace(&self) -> NameRef<'_>
         ensures { result ≡ (change_of self.now).0.0 }
     {
@@ -31,6 +32,7 @@ impl Change {
         }
     }
 
+    /// The key in its namespace.
     pub fn key(&self) -> KeyRef<'_>
         ensures { result ≡ (change_of self.now).0.1 }
     {
@@ -50,7 +52,7 @@ impl Change {
         }
     }
 
-    /// The same change, with one more owner of its row or key. Takes no memory, and is refused only to the 2^63rd owner.
+    /// The change once more: its row or key gets one more owner. Takes no memory; only the 2^63rd owner is refused.
     pub fn share(&self) -> Result<Change, AllocError>
         ensures { IfOk result (λ shared. shared ≡ self.now) }
     {

@@ -26,7 +26,7 @@ pub enum EarlyFlag {
 }
 
 impl EarlyFlag {
-    /// The same as one of all flags.
+    /// The flag that a place with this fault has.
     pub fn flag(self) -> Flag
         ensures { result ≡ flag_of self }
     {

@@ -76,6 +76,7 @@ impl Flag {
         }
     }
 
+    /// Whether it is VALID.
     pub fn is_valid(self) -> bool
         ensures { result ≡ is_valid self }
     {

@@ -109,7 +109,7 @@ impl KeptEntry {
         })
     }
 
-    /// The same entry, with one more owner of all that it keeps. Takes no memory, and is refused only to the 2^63rd owner.
+    /// The entry once more: all that it keeps gets one more owner. Takes no memory; only the 2^63rd owner is refused.
     pub fn share(&self) -> Result<KeptEntry, AllocError>
         ensures { IfOk result (λ shared. shared ≡ self.now) }
     {

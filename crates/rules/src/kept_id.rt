@@ -59,7 +59,7 @@ impl KeptId {
         })
     }
 
-    /// One more owner of the same bytes. Takes no memory, and is refused only to the 2^63rd owner.
+    /// The id once more: its bytes get one more owner. Takes no memory; only the 2^63rd owner is refused.
     pub fn share(&self) -> Result<KeptId, AllocError>
         ensures { IfOk result (λ kept. kept ≡ self.now) }
     {

@@ -88,7 +88,7 @@ impl KeptKey {
         })
     }
 
-    /// One more owner of the same bytes. Takes no memory, and is refused only to the 2^63rd owner.
+    /// The key once more: its bytes get one more owner. Takes no memory; only the 2^63rd owner is refused.
     pub fn share(&self) -> Result<KeptKey, AllocError>
         ensures { IfOk result (λ k. k ≡ self.now) }
     {
@@ -101,6 +101,7 @@ impl KeptKey {
         })
     }
 
+    /// The namespace, lent.
     pub fn namespace(&self) -> NameRef<'_>
         ensures { result ≡ self.now.0 }
     {
@@ -108,6 +109,7 @@ impl KeptKey {
         NameRef::new(&all[self.namespace_start as usize..self.namespace_end as usize])
     }
 
+    /// The key in its namespace, lent.
     pub fn key(&self) -> KeyRef<'_>
         ensures { result ≡ self.now.1 }
     {

@@ -25,30 +25,35 @@ impl Model for KeyedRow {
 }
 
 impl KeyedRow {
+    /// A row at its key. Takes no memory.
     pub fn new(key: KeptKey, row: Row) -> KeyedRow
         ensures { result ≡ (key, row) }
     {
         KeyedRow { key, row }
     }
 
+    /// Its namespace and key, as they are kept.
     pub fn kept_key(&self) -> &KeptKey
         ensures { result.now ≡ self.now.0 }
     {
         &self.key
     }
 
+    /// The namespace of its key.
     pub fn namespace(&self) -> NameRef<'_>
         ensures { result ≡ self.now.0.0 }
     {
         self.key.namespace()
     }
 
+    /// Its key in the namespace.
     pub fn key(&self) -> KeyRef<'_>
         ensures { result ≡ self.now.0.1 }
     {
         self.key.key()
     }
 
+    /// The row alone.
     pub fn row(&self) -> &Row
         ensures { result.now ≡ self.now.1 }
     {

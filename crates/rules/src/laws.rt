@@ -1,6 +1,7 @@
-ghost use Rattle.std.specs.Prelude.{◌≡◌, ◌≢◌, ◌<◌, ◌≤◌, ℕ, suc, Bool, true, false, if◌then◌else◌, List, length, map, Option, Some, None, IsSome, option_map, Result, Err, slice_index};
+ghost use Rattle.std.specs.Prelude.{◌≡◌, ◌≢◌, ◌<◌, ◌≤◌, ℕ, suc, Bool, true, false, if◌then◌else◌, List, ◌++◌, length, map, Option, Some, None, IsSome, option_map, Result, Err, slice_index};
 ghost use Rattle.std.specs.FinMap.{get, find, is_sorted};
 ghost use Rattle.std.specs.Option.{option_or};
+ghost use Rattle.values.specs.Hash.{IsHash};
 ghost use Rattle.block.specs.declared.block.Block.{Block};
 ghost use Rattle.transaction.specs.declared.item.Item.{Item};
 ghost use Rattle.transaction.specs.declared.transaction.Version.{Version};
@@ -218,6 +219,15 @@ pub fn update_bytes_are_of_what_is_left()
 pub fn commit_bytes_tell_the_block()
     ensures { (a b : BlockCommit) → HasRoom a → HasRoom b → commit_bytes a ≡ commit_bytes b
         → (a.version ≡ b.version) × (a.number ≡ b.number) × (a.flags ≡ b.flags)
+        × (map told_change (differing a.before a.after) ≡ map told_change (differing b.before b.after))
+        × (option_map told_definition a.definition ≡ option_map told_definition b.definition) }
+{}
+
+/// A law, and no work: where the same bytes are hashed of two blocks, behind the commit hash before each, these hashes are the same, and
+/// so is all that `commit_bytes_tell_the_block` names. Whether equal commit hashes say as much rests on SHA-256.
+pub fn hashed_bytes_tell_the_commit_hash_before()
+    ensures { (p q : List ℕ) (a b : BlockCommit) → IsHash p → IsHash q → HasRoom a → HasRoom b → p ++ commit_bytes a ≡ q ++ commit_bytes b
+        → (p ≡ q) × (a.version ≡ b.version) × (a.number ≡ b.number) × (a.flags ≡ b.flags)
         × (map told_change (differing a.before a.after) ≡ map told_change (differing b.before b.after))
         × (option_map told_definition a.definition ≡ option_map told_definition b.definition) }
 {}

@@ -1,5 +1,5 @@
 //! What a script says of one transaction, or of one update of a definition.
-ghost use Rattle.std.specs.Prelude.{◌≡◌, []};
+ghost use Rattle.std.specs.Prelude.{◌≡◌};
 ghost use Rattle.scripts.specs.Script as spec;
 ghost use Rattle.scripts.specs.Taking.{Changes};
 
@@ -24,12 +24,12 @@ pub enum Content {
 /// computed.
 #[derive(Drop)]
 pub struct Draft {
-    line: u64,
-    creator: OwnedIdentity,
-    nonce: Bytes,
-    chaincode: Name,
-    content: Content,
-    endorsers: Items<OwnedIdentity>,
+    pub(crate) line: u64,
+    pub(crate) creator: OwnedIdentity,
+    pub(crate) nonce: Bytes,
+    pub(crate) chaincode: Name,
+    pub(crate) content: Content,
+    pub(crate) endorsers: Items<OwnedIdentity>,
 }
 
 impl Model for Draft {
@@ -63,27 +63,6 @@ impl Content {
 }
 
 impl Draft {
-    /// One without endorsers, from the `tx` or `update` line of this number.
-    pub fn new(
-        alloc: Global,
-        line: u64,
-        creator: OwnedIdentity,
-        nonce: Bytes,
-        chaincode: Name,
-        content: Content,
-    ) -> Draft
-        ensures { result ≡ record { line = line; creator = creator; nonce = nonce; chaincode = chaincode; content = content; endorsers = [] } }
-    {
-        Draft {
-            line,
-            creator,
-            nonce,
-            chaincode,
-            content,
-            endorsers: Items::new(alloc),
-        }
-    }
-
     // Adds a namespace, which is open from then on, or answers no where it can't stand there.
     pub(crate) fn add_namespace(&mut self, alloc: Global, name: Name) -> Result<bool, AllocError>
         ensures { Changes result self.new (spec.with_namespace name self.old) }
@@ -112,12 +91,14 @@ impl Draft {
         self.line
     }
 
+    /// The creator.
     pub fn creator(&self) -> Identity<'_>
         ensures { result ≡ self.now.creator }
     {
         self.creator.lend()
     }
 
+    /// The nonce.
     pub fn nonce(&self) -> &Bytes
         ensures { result.now ≡ self.now.nonce }
     {
@@ -131,12 +112,14 @@ impl Draft {
         self.chaincode.lend()
     }
 
+    /// What it has beside creator, nonce and chaincode.
     pub fn content(&self) -> &Content
         ensures { result.now ≡ self.now.content }
     {
         &self.content
     }
 
+    /// The endorsers, in the order of their lines.
     pub fn endorsers(&self) -> &[OwnedIdentity]
         ensures { result.now ≡ self.now.endorsers }
     {

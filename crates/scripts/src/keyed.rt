@@ -22,12 +22,14 @@ impl Model for OwnedRead {
 impl OwnedRead {
     ghost use Rattle.std.specs.Prelude.{◌≡◌};
 
+    /// A read of this key.
     pub fn new(key: Key, version: Option<Version>) -> OwnedRead
         ensures { result ≡ record { key = key; version = version } }
     {
         OwnedRead { key, version }
     }
 
+    /// The read, lent.
     pub fn lend(&self) -> Read<'_>
         ensures { result ≡ self.now }
     {
@@ -56,12 +58,14 @@ impl Model for OwnedKeyVersion {
 impl OwnedKeyVersion {
     ghost use Rattle.std.specs.Prelude.{◌≡◌};
 
+    /// A result of a range query.
     pub fn new(key: Key, version: Version) -> OwnedKeyVersion
         ensures { result ≡ record { key = key; version = version } }
     {
         OwnedKeyVersion { key, version }
     }
 
+    /// The result, lent.
     pub fn lend(&self) -> KeyVersion<'_>
         ensures { result ≡ self.now }
     {
@@ -90,12 +94,14 @@ impl Model for OwnedWrite {
 impl OwnedWrite {
     ghost use Rattle.std.specs.Prelude.{◌≡◌};
 
+    /// A write of this value, or a delete without one.
     pub fn new(key: Key, value: Option<Bytes>) -> OwnedWrite
         ensures { result ≡ record { key = key; value = value } }
     {
         OwnedWrite { key, value }
     }
 
+    /// The write, lent.
     pub fn lend(&self) -> Write<'_>
         ensures { result ≡ self.now }
     {
@@ -129,12 +135,14 @@ impl Model for OwnedPolicyWrite {
 impl OwnedPolicyWrite {
     ghost use Rattle.std.specs.Prelude.{◌≡◌};
 
+    /// A write of this policy text, or its removal without one.
     pub fn new(key: Key, policy: Option<Bytes>) -> OwnedPolicyWrite
         ensures { result ≡ record { key = key; policy = policy } }
     {
         OwnedPolicyWrite { key, policy }
     }
 
+    /// The policy write, lent.
     pub fn lend(&self) -> PolicyWrite<'_>
         ensures { result ≡ self.now }
     {

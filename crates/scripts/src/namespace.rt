@@ -30,7 +30,7 @@ pub(crate) fn add_one<T: Drop>(
     Ok(true)
 }
 
-// The same of a vector.
+// Adds an item to a vector, or answers no where they are that many already.
 pub(crate) fn push_one<T: Drop>(
     items: &mut Vec<T>,
     most: usize,
@@ -100,7 +100,7 @@ impl OwnedRange {
         add_one(&mut self.results, MAX_LIST, found)
     }
 
-    /// The same range, lent. Linear in its results, in time and memory.
+    /// The range, lent. Linear in its results, in time and memory.
     pub fn lend(&self, alloc: Global) -> Result<Range<'_>, AllocError>
         ensures { IfOk result (λ lent. lent ≡ self.now) }
     {
@@ -211,7 +211,7 @@ impl OwnedNsSet {
         }
     }
 
-    /// The same namespace, lent. Linear in its entries and results, in time and memory.
+    /// The namespace, lent. Linear in its entries and results, in time and memory.
     pub fn lend(&self, alloc: Global) -> Result<NsSet<'_>, AllocError>
         ensures { IfOk result (λ lent. lent ≡ self.now) }
     {

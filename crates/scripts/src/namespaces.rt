@@ -35,7 +35,7 @@ fn add_to_last(namespaces: &mut Vec<OwnedNsSet>, entry: Entry) -> Result<bool, A
 }
 
 impl Namespaces {
-    /// None.
+    /// No namespaces. Takes no memory.
     pub fn new(alloc: Global) -> Namespaces
         ensures { result ≡ [] }
     {
@@ -58,6 +58,7 @@ impl Namespaces {
         add_to_last(&mut self.list, entry)
     }
 
+    /// The namespaces, in order.
     pub fn as_slice(&self) -> &[OwnedNsSet]
         ensures { result.now ≡ self.now }
     {

@@ -42,7 +42,7 @@ fn say_lines(
 {
     for statement in Statements::new(text) {
         so_far.go_before(version, statement.bytes)?;
-        if !so_far.say(alloc, version, keys, statement.line, statement.bytes)? {
+        if !so_far.say(alloc, version, keys, &statement)? {
             return Ok(Some(statement.line));
         }
     }
@@ -66,8 +66,8 @@ fn read_lines(
     })
 }
 
-/// Reads the draft script of a block of this version. Its lines are read as those of a channel text, and their parts are separated
-/// by one or more spaces:
+/// Reads the draft script of a block of this version. Its lines are read as those of a channel text, and their parts
+/// are separated by one or more spaces:
 ///
 /// | line | says |
 /// |---|---|

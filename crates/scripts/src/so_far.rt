@@ -10,7 +10,7 @@ use crate::script::Item;
 use block::MAX_TXS;
 use key_book::KeyBook;
 use std::alloc::{AllocError, Global};
-use text_lines::first_part;
+use text_lines::{Statement, first_part};
 use transaction::{BlockVersion, Identity, OwnedIdentity};
 use values::{Bytes, Items, Name};
 
@@ -127,7 +127,14 @@ impl SoFar {
     {
         match saying {
             Saying::Begins(creator, nonce, chaincode, content) => {
-                let draft = Draft::new(alloc, line, creator, nonce, chaincode, content);
+                let draft = Draft {
+                    line,
+                    creator,
+                    nonce,
+                    chaincode,
+                    content,
+                    endorsers: Items::new(alloc),
+                };
                 Ok(self.open_draft(keys, draft))
             }
             Saying::Raw(bytes) => self.add_raw(bytes),
@@ -143,14 +150,13 @@ impl SoFar {
         alloc: Global,
         version: BlockVersion,
         keys: &KeyBook,
-        line: u64,
-        bytes: &[u8],
+        statement: &Statement<'_>,
     ) -> Result<bool, AllocError>
-        ensures { Takes result self.old self.new (spec.said_with version keys.now line self.old bytes.now) }
+        ensures { Takes result self.old self.new (spec.said_with version keys.now statement.now.line self.old statement.now.bytes.now) }
     {
-        let Some(saying) = read_line(alloc, version, bytes)? else {
+        let Some(saying) = read_line(alloc, version, statement.bytes)? else {
             return Ok(false);
         };
-        self.take_in(alloc, keys, line, saying)
+        self.take_in(alloc, keys, statement.line, saying)
     }
 }

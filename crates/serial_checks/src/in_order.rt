@@ -71,7 +71,8 @@ fn cells(job: &Job<'_, '_>, i: u32, board: &mut PlainBoard) -> (bool, Flag)
     (is_endorsed, job.flag(i, is_endorsed, reads))
 }
 
-/// The verdicts of a job's candidates and their flags, taken one by one in order. Costs what the two checks of each cost.
+/// The verdicts of a job's candidates and their flags, taken one by one in order. Costs what the two checks of each cost, and
+/// memory for two verdicts and a flag of each. An `Err` is want of memory alone.
 pub fn verdicts(alloc: Global, job: &Job<'_, '_>) -> Result<(PlainBoard, Vec<Flag>), AllocError>
     ensures board { IfOk result (λ r. Shows job.now r.0) }
     ensures flags { IfOk result (λ r. r.1.items ≡ fold.flags job.now) }
@@ -93,7 +94,7 @@ pub fn verdicts(alloc: Global, job: &Job<'_, '_>) -> Result<(PlainBoard, Vec<Fla
     Ok((board, flags))
 }
 
-/// The flags of a job's candidates.
+/// The flags of a job's candidates, taken one by one in order. Costs what `verdicts` does; an `Err` is want of memory alone.
 pub fn flags(alloc: Global, job: &Job<'_, '_>) -> Result<Vec<Flag>, AllocError>
     ensures { IfOk result (λ flags. flags.items ≡ fold.flags job.now) }
 {

@@ -79,7 +79,7 @@ fn put(edits: &mut Vec<Edit>, edit: Edit) -> Result<(), AllocError>
     Ok(())
 }
 
-/// The same edits, each with one more owner of its row or key, in the room of a list that has none.
+/// Shares edits into the room of a list that has none: each row or key gets one more owner.
 fn shared(room: Vec<Edit>, edits: &[Edit]) -> Result<Vec<Edit>, AllocError>
     requires { room.items ≡ [] }
     ensures { IfOk result (λ shared. shared.items ≡ edits.now) }
@@ -103,7 +103,7 @@ impl Batch {
         }
     }
 
-    /// The same, with room for so many changes.
+    /// A batch without changes, with room for so many, whose memory it takes.
     pub fn with_capacity(alloc: Global, capacity: usize) -> Result<Batch, AllocError>
         ensures { IfOk result (λ batch. batch ≡ empty) }
     {
@@ -121,8 +121,8 @@ impl Batch {
         Batch::of_looked_up(alloc, changes, &[], &FoundRows::none(alloc))
     }
 
-    /// The same as `of`, where rows of these keys were looked up: a row that is put at one of them is guessed to have its place where that
-    /// one was found. Where the keys are in their order that takes a step more for each, and no more memory.
+    /// The changes of a delta, as by `of`, where rows of some keys were looked up: a row that is put at one of these is guessed to have
+    /// its place where that one was found. Where the keys are in their order that takes a step more for each, and no more memory.
     pub fn of_looked_up(
         alloc: Global,
         changes: &[Change],
@@ -202,14 +202,14 @@ impl Batch {
         self.set(change.share()?)
     }
 
-    /// The same changes, whose rows and keys have one owner more. Takes memory for the changes.
+    /// The batch once more: its rows and keys get one more owner. Takes memory for the changes.
     pub fn share(&self) -> Result<Batch, AllocError>
         ensures { IfOk result (λ batch. batch ≡ self.now) }
     {
         self.share_in(Vec::new(self.alloc))
     }
 
-    /// The same, in the room of a list without edits.
+    /// The batch once more, in the room of a list without edits.
     pub(crate) fn share_in(&self, room: Vec<Edit>) -> Result<Batch, AllocError>
         requires { room.items ≡ [] }
         ensures { IfOk result (λ batch. batch ≡ self.now) }

@@ -22,7 +22,7 @@ pub(crate) fn home_of(pages: &[Page], wanted: &Wanted<'_>) -> usize
     count_below(others, wanted)
 }
 
-/// The same, where it is known to be at or behind a place. Logarithmic in how far behind.
+/// The page of a key that is known to be at a place or behind it. Logarithmic in how far behind.
 pub(crate) fn home_from(pages: &[Page], from: usize, wanted: &Wanted<'_>) -> usize
     requires pages { AreInOrder pages.now }
     requires some { 0 < length pages.now }

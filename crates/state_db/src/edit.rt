@@ -45,6 +45,7 @@ impl Model for Edit {
 }
 
 impl Edit {
+    /// The change, with the head of its key.
     pub fn new(change: Change) -> Edit
         ensures { result ≡ change_of change }
     {
@@ -70,6 +71,7 @@ impl Edit {
         self.place as usize
     }
 
+    /// The head of its key.
     pub fn head(&self) -> Head
         ensures head { result ≡ head_of self.now.0 }
         ensures named { IsTrue (is_name self.now.0.0) }
@@ -77,18 +79,21 @@ impl Edit {
         self.head
     }
 
+    /// The change alone.
     pub fn into_change(self) -> Change
         ensures { change_of result ≡ self }
     {
         self.change
     }
 
+    /// The namespace of its key.
     pub fn namespace(&self) -> NameRef<'_>
         ensures { result ≡ self.now.0.0 }
     {
         self.change.namespace()
     }
 
+    /// Its key in the namespace.
     pub fn key(&self) -> KeyRef<'_>
         ensures { result ≡ self.now.0.1 }
     {
@@ -112,7 +117,7 @@ impl Edit {
         }
     }
 
-    /// The same edit, with one more owner of its row or key. Takes no memory.
+    /// The edit once more: its row or key gets one more owner. Takes no memory.
     pub fn share(&self) -> Result<Edit, AllocError>
         ensures { IfOk result (λ shared. shared ≡ self.now) }
     {
@@ -123,6 +128,7 @@ impl Edit {
         })
     }
 
+    /// Its key, to be looked for.
     pub fn wanted(&self) -> Wanted<'_>
         ensures { result ≡ self.now.0 }
     {

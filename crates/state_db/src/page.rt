@@ -57,18 +57,21 @@ impl Page {
         })
     }
 
+    /// How many rows it has.
     pub fn len(&self) -> usize
         ensures { result ≡ length self.now }
     {
         self.rows.len()
     }
 
+    /// Whether it has no row.
     pub fn is_empty(&self) -> bool
         ensures { result ≡ (length self.now == 0) }
     {
         self.rows.is_empty()
     }
 
+    /// Its rows, in the order of their keys.
     pub fn rows(&self) -> &[Slot]
         ensures { result.now ≡ self.now }
     {

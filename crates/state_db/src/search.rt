@@ -43,7 +43,7 @@ pub(crate) fn count_below<T: Ordered>(items: &[T], wanted: &Wanted<'_>) -> usize
     count_between(items, wanted, 0, items.len())
 }
 
-/// The same. Logarithmic in the answer, and so fast where few do.
+/// How many items stand below what is wanted, as by `count_below`. Logarithmic in the answer, and so fast where few do.
 pub(crate) fn count_few_below<T: Ordered>(items: &[T], wanted: &Wanted<'_>) -> usize
     requires { Falls (T.is_below wanted.now) items.now }
     ensures place { result ≡ leading (T.is_below wanted.now) items.now }

@@ -48,18 +48,21 @@ impl Slot {
         Slot { head, row }
     }
 
+    /// The head of its key.
     pub fn head(&self) -> Head
         ensures { result ≡ head_of self.now.0 }
     {
         self.head
     }
 
+    /// The row at its key.
     pub fn keyed_row(&self) -> &KeyedRow
         ensures { result.now ≡ self.now }
     {
         self.row.get()
     }
 
+    /// Its key, to be looked for.
     pub fn wanted(&self) -> Wanted<'_>
         ensures { result ≡ self.now.0 }
     {

@@ -77,7 +77,7 @@ impl StateDb {
         row_of(self.pages.as_slice(), &wanted)
     }
 
-    /// The same, of a key whose head is known.
+    /// The row of a key whose head is known. Logarithmic in the number of rows.
     pub fn row(&self, key: &StateKey<'_>) -> Option<&Row>
         ensures { option_copied result ≡ get self.now.state key.now }
     {
@@ -142,8 +142,8 @@ impl StateDb {
         }
     }
 
-    /// Makes room. Where it is the `room_for` a batch, no `apply` of that batch asks for memory. Takes memory for pages, and for
-    /// shares of rows.
+    /// Makes room for changes, of pages and of shares of rows, and takes memory for it; the rows stay as they are. Meant for
+    /// `room_for` a batch: `apply` of that batch is to find its memory here. Tests show this; no clause says it.
     pub fn reserve(&mut self, room: Room) -> Result<(), AllocError>
         ensures { self.new ≡ self.old }
     {
@@ -153,9 +153,9 @@ impl StateDb {
         Ok(())
     }
 
-    /// Makes the changes of a batch, or none. All memory is taken first: for the shares of the batch's rows, and pages
-    /// for those that the changes may split. Each change takes logarithmic time and moves up to 256 rows of its page; a
-    /// page that comes or goes moves the pages behind it.
+    /// Makes the changes of a batch; an `Err`, for want of memory, changes nothing. Takes memory for shares of the batch's rows, and for
+    /// pages where the changes may split some. Each change takes logarithmic time and moves up to 256 rows of its page; a page that
+    /// comes or goes moves the pages behind it.
     pub fn apply(&mut self, batch: &Batch) -> Result<(), AllocError>
         ensures ok { OnOk result (self.new.state ≡ changed self.old.state batch.now) }
         ensures err { OnErr result (self.new ≡ self.old) }
@@ -164,7 +164,8 @@ impl StateDb {
         self.apply_owned(batch.share_in(room)?)
     }
 
-    /// The same with a batch that is given away, whose rows need no further owner: memory is taken for pages alone.
+    /// Makes the changes of a batch that is given away; an `Err` changes nothing, and the batch is lost. Its rows need no further owner:
+    /// memory is taken for pages alone.
     pub fn apply_owned(&mut self, batch: Batch) -> Result<(), AllocError>
         ensures ok { OnOk result (self.new.state ≡ changed self.old.state batch) }
         ensures err { OnErr result (self.new ≡ self.old) }
@@ -175,7 +176,7 @@ impl StateDb {
         }
     }
 
-    /// The same; where the changes can't be made, the batch comes back.
+    /// Makes the changes of a batch that is given away, or, for want of memory, none: then the batch comes back.
     pub fn apply_or_return(&mut self, batch: Batch) -> Result<(), Batch>
         ensures ok { OnOk result (self.new.state ≡ changed self.old.state batch) }
         ensures err { IfErr result (λ back. (back ≡ batch) × (self.new ≡ self.old)) }

@@ -38,36 +38,39 @@ impl<'a> Model for StateKey<'a> {
 }
 
 impl<'a> StateKey<'a> {
+    /// A key of a namespace, with its head. Linear in the first 23 bytes alone.
     pub fn new(namespace: &NameRef<'a>, key: &KeyRef<'a>) -> StateKey<'a>
         ensures { result ≡ (namespace.now, key.now) }
     {
         StateKey {
             head: head_of(namespace.as_slice(), key.as_slice()),
-            namespace: namespace.again(),
-            key: key.again(),
+            namespace: namespace.reborrow(),
+            key: key.reborrow(),
         }
     }
 
+    /// Its namespace.
     pub fn namespace(&self) -> NameRef<'a>
         ensures { result ≡ self.now.0 }
     {
-        self.namespace.again()
+        self.namespace.reborrow()
     }
 
+    /// Its key in the namespace.
     pub fn key(&self) -> KeyRef<'a>
         ensures { result ≡ self.now.1 }
     {
-        self.key.again()
+        self.key.reborrow()
     }
 
-    /// The same key, lent again.
-    pub fn again(&self) -> StateKey<'a>
+    /// A second loan of the key, for as long as the first.
+    pub fn reborrow(&self) -> StateKey<'a>
         ensures { result ≡ self.now }
     {
         StateKey {
             head: self.head,
-            namespace: self.namespace.again(),
-            key: self.key.again(),
+            namespace: self.namespace.reborrow(),
+            key: self.key.reborrow(),
         }
     }
 

@@ -39,7 +39,7 @@ impl<'a> Wanted<'a> {
         Wanted::with_head(head, namespace, key)
     }
 
-    /// The same, where the head is known.
+    /// A key to look for, whose head the caller has already.
     pub fn with_head(head: Head, namespace: &NameRef<'a>, key: &'a [u8]) -> Wanted<'a>
         requires { head ≡ head_of (namespace.now, key.now) }
         ensures { result ≡ (namespace.now, key.now) }

@@ -4,11 +4,10 @@ use crate::fixture::{commit_hash_of, entry, kept_key, name, numbered, row, versi
 use crate::noted::{
     CHAINCODES, IDS, KEYS, NAMESPACE, Noted, POLICIES, has_policy, id_of, key_of, use_at,
 };
-use failing::Failed;
 use policy::Policy;
-use random_numbers::Random;
 use rules::{Change, CommittedBlock, Delta, KeptEntry, KeyedRow, NewDefinition, NewUse, Row};
 use std::alloc::Global;
+use test_support::{Failed, Random};
 use transaction::BlockVersion;
 use values::{Bytes, Items, Part, Shared};
 
@@ -21,6 +20,7 @@ pub struct Drawing {
 }
 
 impl Drawing {
+    /// Draws by a seed of its own.
     pub fn new() -> Drawing {
         Drawing {
             random: Random::new(88172645463325252),
@@ -28,6 +28,7 @@ impl Drawing {
         }
     }
 
+    /// The number of a key.
     pub fn key(&mut self) -> usize {
         self.random.below(KEYS as u8) as usize
     }
@@ -36,6 +37,7 @@ impl Drawing {
         self.random.below(IDS as u8) as usize
     }
 
+    /// A number up to this one.
     pub fn up_to(&mut self, most: u8) -> usize {
         self.random.below(most.saturating_add(1)) as usize
     }

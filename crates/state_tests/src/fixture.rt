@@ -1,11 +1,12 @@
 //! Names and keys, and the rows and history entries at them.
 
-use failing::Failed;
 use rules::{KeptEntry, KeptId, KeptKey, Row};
 use std::alloc::Global;
+use test_support::Failed;
 use transaction::{TxId, Version};
 use values::{BoundRef, Bytes, Hash, KeyRef, NameRef, Part, Shared, is_bound, is_key, is_name};
 
+/// The name. The error is `Missing` where the bytes are none.
 pub fn name(bytes: &[u8]) -> Result<NameRef<'_>, Failed> {
     if !is_name(bytes) {
         return Err(Failed::Missing("a name"));
@@ -13,6 +14,7 @@ pub fn name(bytes: &[u8]) -> Result<NameRef<'_>, Failed> {
     Ok(NameRef::new(bytes))
 }
 
+/// The key. The error is `Missing` where the bytes are none.
 pub fn key(bytes: &[u8]) -> Result<KeyRef<'_>, Failed> {
     if !is_key(bytes) {
         return Err(Failed::Missing("a key"));
@@ -20,6 +22,7 @@ pub fn key(bytes: &[u8]) -> Result<KeyRef<'_>, Failed> {
     Ok(KeyRef::new(bytes))
 }
 
+/// The bound. The error is `Missing` where the bytes are none.
 pub fn bound(bytes: &[u8]) -> Result<BoundRef<'_>, Failed> {
     if !is_bound(bytes) {
         return Err(Failed::Missing("a bound"));
@@ -27,6 +30,7 @@ pub fn bound(bytes: &[u8]) -> Result<BoundRef<'_>, Failed> {
     Ok(BoundRef::new(bytes))
 }
 
+/// The key of a namespace, as worlds keep it.
 pub fn kept_key(alloc: Global, namespace: &[u8], at: &[u8]) -> Result<KeptKey, Failed> {
     Ok(KeptKey::copied(alloc, &name(namespace)?, &key(at)?)?)
 }

@@ -4,11 +4,11 @@ use crate::fixture::{bound, commit_hash_of, key, name, version_of};
 use crate::noted::{
     CHAINCODES, KEYS, NAMESPACE, Noted, POLICIES, has_policy, id_of, key_of, use_at,
 };
-use failing::Failed;
 use history_index::Entries;
 use policy::Policy;
 use rules::Row;
 use std::alloc::{AllocError, Global};
+use test_support::Failed;
 use world::{RangeAnswer, World};
 
 /// The header hash that a block is given.
@@ -98,7 +98,7 @@ fn range_is_noted(
     Ok(is_answer(&answer, noted, (first, end), limit))
 }
 
-/// The same of a range between two keys, in any order, up to no rows, to some, and to all.
+/// Whether ranges between two keys, in any order, up to no rows, to some, and to all, have the rows that are noted.
 pub fn ranges_are_noted(
     alloc: Global,
     world: &World,
@@ -113,6 +113,7 @@ pub fn ranges_are_noted(
     Ok(true)
 }
 
+/// Whether each id has the first use that is noted, or none.
 pub fn ids_are_noted(world: &World, noted: &Noted) -> bool {
     for (number, used) in noted.uses.iter().enumerate() {
         let expected = match used {
@@ -148,6 +149,7 @@ fn has_definition(
     }
 }
 
+/// Whether each chaincode has the policy that is noted, or none.
 pub fn definitions_are_noted(alloc: Global, world: &World, noted: &Noted) -> Result<bool, Failed> {
     for (chaincode, place) in CHAINCODES.iter().zip(noted.definitions.iter()) {
         if !has_definition(alloc, world, chaincode, *place)? {

@@ -2,10 +2,10 @@
 ghost use Rattle.std.specs.Prelude.{◌<◌, ◌≤◌, OnOk};
 
 use crate::fixture::{entry, key, name};
-use failing::{Failed, Outcome, begins, check};
 use history_index::{Entries, HistoryIndex};
 use rules::KeptEntry;
 use std::alloc::{AllocError, Global};
+use test_support::{Failed, Outcome, begins, check};
 use values::{Items, Shared};
 
 // A key in its namespace, and the places of its entries.
@@ -195,6 +195,7 @@ fn outcome_of_more(alloc: Global, index: &mut HistoryIndex) -> Result<Outcome, F
     outcome_of_growth(alloc, index, entries)
 }
 
+/// What comes of an entry for which the index has to grow.
 pub fn outcome(alloc: Global) -> Result<Outcome, Failed> {
     let mut index = HistoryIndex::new(alloc);
     outcome_of_more(alloc, &mut index)

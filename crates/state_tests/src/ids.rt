@@ -1,9 +1,9 @@
 //! Ids, and where they were used first.
 
-use failing::Failed;
 use rules::{FirstUse, Flag, NewUse};
 use std::alloc::Global;
 use std::hash::{FoldHasher, Hasher};
+use test_support::Failed;
 use txid_index::TxIds;
 use values::{Items, Shared};
 

@@ -1,9 +1,9 @@
 //! The order of keys, by their heads and beyond.
 
 use crate::fixture::{key, name};
-use failing::Failed;
 use state_keys::StateKey;
 use std::cmp::Ordering;
+use test_support::Failed;
 
 // Namespaces with keys in them, in order: a head has 23 bytes of both and of the zero between them.
 static IN_ORDER: [(&[u8], &[u8]); 14] = [
@@ -32,7 +32,7 @@ fn state_key<'a>(namespace: &'a [u8], at: &'a [u8]) -> Result<StateKey<'a>, Fail
 }
 
 fn is_order(a: &StateKey<'_>, b: &StateKey<'_>, order: Ordering) -> bool {
-    a.order(b) == order && a.is_same(b) == order.is_eq() && b.again().order(a) == order.reverse()
+    a.order(b) == order && a.is_same(b) == order.is_eq() && b.reborrow().order(a) == order.reverse()
 }
 
 // Whether the key of a number stands so with all keys, and all with it.

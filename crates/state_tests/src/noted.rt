@@ -1,8 +1,8 @@
 //! A world as plain lists, by the number of each key and id.
 
-use failing::Failed;
 use rules::{FirstUse, Flag};
 use std::alloc::Global;
+use test_support::Failed;
 
 pub const NAMESPACE: &[u8] = b"cc";
 
@@ -37,6 +37,7 @@ pub fn key_of(number: usize) -> &'static [u8] {
     IN_ORDER.get(number).copied().unwrap_or(b"")
 }
 
+/// The id of this number.
 pub fn id_of(number: usize) -> [u8; 64] {
     let [.., low] = number.to_be_bytes();
     let mut id = [7; 64];
@@ -44,6 +45,7 @@ pub fn id_of(number: usize) -> [u8; 64] {
     id
 }
 
+/// The first use that is noted at a place.
 pub fn use_at(place: u32) -> FirstUse {
     FirstUse {
         block: 0,
@@ -69,6 +71,7 @@ pub struct Noted {
 }
 
 impl Noted {
+    /// Nothing is noted yet.
     pub fn new(alloc: Global) -> Noted {
         Noted {
             rows: [None; KEYS],
@@ -78,6 +81,7 @@ impl Noted {
         }
     }
 
+    /// The same notes once more.
     pub fn copy(&self, alloc: Global) -> Result<Noted, Failed> {
         Ok(Noted {
             rows: self.rows,
@@ -87,12 +91,14 @@ impl Noted {
         })
     }
 
+    /// Notes the row of a key, or that it is deleted.
     pub fn set(&mut self, key: usize, row: Option<u32>) {
         if let Some(slot) = self.rows.get_mut(key) {
             *slot = row;
         }
     }
 
+    /// Notes the first use of an id, if none is noted.
     pub fn add_use(&mut self, id: usize, number: u32) {
         if let Some(slot) = self.uses.get_mut(id) {
             if slot.is_none() {
@@ -101,12 +107,14 @@ impl Noted {
         }
     }
 
+    /// Notes the policy of a chaincode.
     pub fn define(&mut self, chaincode: usize, policy: usize) {
         if let Some(slot) = self.definitions.get_mut(chaincode) {
             *slot = Some(policy);
         }
     }
 
+    /// The row that is noted of a key.
     pub fn row(&self, key: usize) -> Option<u32> {
         self.rows.get(key).copied().flatten()
     }

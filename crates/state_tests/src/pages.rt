@@ -1,9 +1,9 @@
 //! Rows that are put, changed and deleted, and the pages that hold them.
 
 use crate::steps::{Call, Changes, Step, apply, are_all, are_sizes, are_steps, batch_of};
-use failing::{Failed, Outcome, begins};
 use state_db::{Batch, StateDb};
 use std::alloc::Global;
+use test_support::{Failed, Outcome, begins};
 
 fn scenarios() -> &'static [(&'static str, &'static [Step])] {
     &SCENARIOS
@@ -238,6 +238,7 @@ fn outcome_of_six_hundred(alloc: Global, state: &mut StateDb) -> Result<Outcome,
     outcome_of_apply(alloc, state, &batch)
 }
 
+/// What comes of a batch.
 pub fn outcome(alloc: Global) -> Result<Outcome, Failed> {
     let mut state = StateDb::new(alloc);
     outcome_of_six_hundred(alloc, &mut state)

@@ -1,9 +1,9 @@
 //! Steps of a state: rows that are put and deleted, and what has to be so.
 
 use crate::fixture::{bound, key, name, numbered, row};
-use failing::Failed;
 use state_db::{Batch, Rows, StateDb};
 use std::alloc::Global;
+use test_support::Failed;
 
 /// A namespace, a key, and the value that is put, or none where the key's row is deleted.
 pub type Call = (&'static [u8], &'static [u8], Option<&'static [u8]>);
@@ -91,18 +91,21 @@ fn fill(alloc: Global, batch: &mut Batch, changes: Changes) -> Result<(), Failed
     Ok(())
 }
 
+/// The batch of these changes.
 pub fn batch_of(alloc: Global, changes: Changes) -> Result<Batch, Failed> {
     let mut batch = Batch::new(alloc);
     fill(alloc, &mut batch, changes)?;
     Ok(batch)
 }
 
+/// Makes these changes, and tells whether they were made.
 pub fn apply(alloc: Global, state: &mut StateDb, changes: Changes) -> Result<bool, Failed> {
     let batch = batch_of(alloc, changes)?;
     state.apply(&batch)?;
     Ok(true)
 }
 
+/// Whether the pages have so many rows, and there are no more pages.
 pub fn are_sizes(state: &StateDb, sizes: &[usize]) -> bool {
     for (page, size) in sizes.iter().enumerate() {
         if state.page_rows(page) != Some(*size) {
@@ -162,6 +165,7 @@ fn are_numbered(rows: Rows<'_>, from: u32, to: u32) -> bool {
     number == to
 }
 
+/// Whether these keys have rows, and no other.
 pub fn are_all(state: &StateDb, from: u32, to: u32) -> Result<bool, Failed> {
     let all = bound(b"")?;
     Ok(are_numbered(state.range(&name(b"cc")?, &all, &all), from, to))
@@ -208,6 +212,7 @@ fn are_steps_of(alloc: Global, state: &mut StateDb, steps: &[Step]) -> Result<bo
     Ok(true)
 }
 
+/// Whether each step is as it should be, one behind the other, from an empty state.
 pub fn are_steps(alloc: Global, steps: &[Step]) -> Result<bool, Failed> {
     let mut state = StateDb::new(alloc);
     are_steps_of(alloc, &mut state, steps)

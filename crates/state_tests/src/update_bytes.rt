@@ -1,12 +1,12 @@
 //! The rows that a batch makes differ, spelled. The bytes were worked out by hand.
 
 use crate::fixture::{key, name};
-use failing::Failed;
 use policy::Policy;
 use rules::Row;
 use state_db::{Batch, StateDb};
 use state_keys::StateKey;
 use std::alloc::Global;
+use test_support::Failed;
 use transaction::Version;
 use values::{Part, Shared};
 

@@ -7,10 +7,10 @@ use crate::held::{
     ranges_are_noted,
 };
 use crate::noted::{KEYS, NAMESPACE, Noted};
-use failing::{Failed, Outcome, begins};
 use policy::Definitions;
 use rules::Delta;
 use std::alloc::{AllocError, Global};
+use test_support::{Failed, Outcome, begins};
 use world::{RangeAnswer, ReadyDelta, World};
 
 const BLOCKS: u32 = 2000;
@@ -155,7 +155,7 @@ impl Worlds {
         Ok(is_key && are_ranges && are_definitions && are_ids && is_behind(&self.world, block))
     }
 
-    // The same of all keys.
+    // Whether each key is as noted behind this block.
     fn is_right_at_last(&self, alloc: Global, block: u32) -> Result<bool, Failed> {
         is_noted_behind(alloc, &self.world, &self.noted, block)
     }
@@ -268,10 +268,12 @@ fn outcome_of(alloc: Global, way: Way) -> Result<Outcome, Failed> {
     worlds.outcome(alloc, way)
 }
 
+/// What comes of a delta that is lent.
 pub fn outcome(alloc: Global) -> Result<Outcome, Failed> {
     outcome_of(alloc, Way::Lent)
 }
 
+/// What comes of a delta that is given away.
 pub fn outcome_of_giving(alloc: Global) -> Result<Outcome, Failed> {
     outcome_of(alloc, Way::Given)
 }
@@ -284,7 +286,7 @@ fn a_delta_at_last(rt: HostRuntime) -> Result<(), Failed> {
     Ok(())
 }
 
-// The same of a delta that is given away and comes back.
+// A delta that is given away and comes back, with refused memory too.
 #[test]
 fn a_delta_that_comes_back(rt: HostRuntime) -> Result<(), Failed> {
     assert!(rt; outcome_of_giving(rt.alloc())? == Outcome::Done);

@@ -10,6 +10,7 @@ ghost use Rattle.task_desk.specs.Links.{AreBelow};
 use crate::run::Run;
 use crate::status::Status;
 use crate::statuses::Statuses;
+use crate::task::Task;
 use crate::wait_lists::{WaitLists, Waiting};
 use std::alloc::{AllocError, Global};
 use std::marker::Model;
@@ -57,7 +58,8 @@ fn done_each(desk: &mut Desk, run: Run)
 }
 
 impl Desk {
-    /// Two tasks for each of n transactions, ready.
+    /// Two tasks for each of n transactions, all ready. Takes memory for all that later calls need; an `Err` is want
+    /// of it.
     pub fn new(alloc: Global, n: u32) -> Result<Desk, AllocError>
         requires { n ≤ 4096 }
         ensures { IfOk result (λ d. d ≡ new_desk n) }
@@ -71,7 +73,7 @@ impl Desk {
 
     /// Takes some ready task out; none where none is ready. While a task isn't done and none is out, one is ready.
     /// Constant, but linear in the tasks where each that is ready was handed.
-    pub fn take(&mut self) -> Option<u32>
+    pub fn take(&mut self) -> Option<Task>
         ensures taken { MatchOption result (NoneReady self.old × (self.new ≡ self.old))
             (λ t. (is_ready (status_at self.old t) ≡ true) × (self.new ≡ with_out self.old t)) }
         ensures never_stuck { list_all is_done self.old ≡ false → count_by is_out self.old ≡ 0 → IsSome result }
@@ -86,7 +88,7 @@ impl Desk {
 
     /// Parks a task that is out on a smaller one, or makes it ready where that is done. Elsewhere false, and nothing
     /// changes. Constant.
-    pub fn park(&mut self, task: u32, h: u32) -> bool
+    pub fn park(&mut self, task: Task, h: Task) -> bool
         ensures answer { result ≡ can_park self.old task h }
         ensures new { self.new ≡ (if result then with_parked self.old task h else self.old) }
     {
@@ -105,7 +107,7 @@ impl Desk {
 
     /// A task that is out is done, and exactly those parked on it become ready. Elsewhere false, and nothing changes.
     /// Linear in the tasks that become ready.
-    pub fn done(&mut self, task: u32) -> bool
+    pub fn done(&mut self, task: Task) -> bool
         ensures answer { result ≡ is_out (status_at self.old task) }
         ensures new { self.new ≡ (if result then with_done self.old task else self.old) }
     {
@@ -141,7 +143,7 @@ impl Desk {
 
     /// Hands the least ready task that wasn't handed since it became ready, which stays ready; none where there is none.
     /// Constant.
-    pub fn hand(&mut self) -> Option<u32>
+    pub fn hand(&mut self) -> Option<Task>
         ensures { MatchOption result (NoneUnhanded self.old × (self.new ≡ self.old))
             (λ t. IsNext self.old t × (self.new ≡ with_handed self.old t)) }
     {
@@ -154,7 +156,7 @@ impl Desk {
 
     /// Takes a task out where it is ready. Elsewhere false, and nothing changes. Constant where all tasks before it were
     /// handed, else linear in these.
-    pub fn start(&mut self, task: u32) -> bool
+    pub fn start(&mut self, task: Task) -> bool
         ensures answer { result ≡ is_ready (status_at self.old task) }
         ensures new { self.new ≡ (if result then with_out self.old task else self.old) }
     {

@@ -1,6 +1,4 @@
 //! The tasks of one block and where each of them is: ready, out, parked on another one, or done.
-//!
-//! Task 2i is the endorsement check of transaction i, and task 2i + 1 its read check.
 #![tactic(auto)]
 
 mod bit_set;
@@ -10,6 +8,7 @@ mod run;
 mod status;
 mod status_list;
 mod statuses;
+mod task;
 mod task_set;
 mod unhanded;
 mod wait_lists;
@@ -18,3 +17,4 @@ pub use desk::Desk;
 pub use laws::{a_run_is_its_tasks, calls_keep_a_desk, no_call_strands_a_task, some_task_is_ready};
 pub use run::Run;
 pub use status::Status;
+pub use task::Task;

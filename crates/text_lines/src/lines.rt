@@ -6,7 +6,7 @@ use std::marker::Model;
 use std::str::Lines;
 
 /// A line that says something.
-#[derive(Clone, Copy, Debug)]
+#[derive(Clone, Copy)]
 pub struct Statement<'a> {
     /// The line's number, counted from 1 over all lines.
     pub line: u64,
@@ -40,6 +40,7 @@ impl<'a> Model for Statements<'a> {
 }
 
 impl<'a> Statements<'a> {
+    /// The lines of this text. Reads none yet.
     pub fn new(text: &'a str) -> Statements<'a>
         ensures { result ≡ spec.statements text.now }
     {

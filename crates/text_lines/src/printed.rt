@@ -7,7 +7,7 @@ use std::fmt;
 
 /// Bytes that print as the word that spells them: `%` where there are none, else each byte from 0x21 to
 /// 0x7e but `%` as itself, and any other as `%` and two upper-case hexadecimal digits.
-#[derive(Clone, Copy, Debug)]
+#[derive(Clone, Copy)]
 pub struct Word<'a>(pub &'a [u8]);
 
 fn upper_digit(value: u8) -> char

@@ -1,6 +1,7 @@
 //! The expected values were worked out by hand from the rules of a channel text and of policies.
 
 mod limits;
+pub mod memory;
 
 use channel::{Channel, ChannelFault, Configuration};
 use policy::{Definitions, Policy, PolicyFault};
@@ -349,41 +350,5 @@ fn faults_of_policies(rt: HostRuntime) {
     for &(text, line, fault) in policies() {
         let wanted = ChannelFault::Policy(line, fault);
         assert!(rt; fault_of(rt.alloc(), text) == Some(wanted), "{text:?}");
-    }
-}
-
-// Texts, and the fault that each has with memory enough.
-fn read_with_memory() -> &'static [(&'static str, Option<ChannelFault>)] {
-    &READ_WITH_MEMORY
-}
-
-static READ_WITH_MEMORY: [(&str, Option<ChannelFault>); 4] = [
-    (
-        "channel ch\nadmin AND('A.admin','B.admin')\nchaincode cc OR('A.peer','B.peer')\nchaincode dd 'A.peer'",
-        None,
-    ),
-    (
-        "channel ch\nchaincode cc OR('A.peer','B.peer')\nchaincode dd AND('A.peer',",
-        Some(ChannelFault::Policy(3, PolicyFault::Syntax { at: 13 })),
-    ),
-    (
-        "channel ch\nadmin AND('A.peer',",
-        Some(ChannelFault::Policy(2, PolicyFault::Syntax { at: 13 })),
-    ),
-    (
-        "admin OR('A.admin')\nadmin OR('A.admin')",
-        Some(ChannelFault::Repeated(2)),
-    ),
-];
-
-// To be run with memory that is refused at any one call.
-#[test]
-fn refused_memory_is_no_fault_of_the_text(rt: HostRuntime) {
-    for &(text, expected) in read_with_memory() {
-        let fault = fault_of(rt.alloc(), text);
-        assert!(rt;
-            fault == expected || fault == Some(ChannelFault::Memory),
-            "{text:?}"
-        );
     }
 }

@@ -14,9 +14,8 @@ pub enum Role {
     Orderer,
 }
 
-/// Who creates or endorses a transaction: a member of an organization, told from the others by its
-/// label. Lent.
-#[derive(Debug, Drop)]
+/// Who creates or endorses a transaction: a member of an organization, told from the others by its label. Lent.
+#[derive(Drop)]
 pub struct Identity<'a> {
     pub org: NameRef<'a>,
     pub role: Role,
@@ -24,18 +23,18 @@ pub struct Identity<'a> {
 }
 
 impl<'a> Identity<'a> {
-    /// The same identity, lent again.
-    pub fn again(&self) -> Identity<'a>
+    /// This identity once more, lent for as long.
+    pub fn reborrow(&self) -> Identity<'a>
         ensures { result ≡ self.now }
     {
         Identity {
-            org: self.org.again(),
+            org: self.org.reborrow(),
             role: self.role,
-            label: self.label.again(),
+            label: self.label.reborrow(),
         }
     }
 
-    /// Whether both are one identity. Linear in their bytes.
+    /// Whether both are one identity: organization, role and label are equal. Linear in their bytes.
     pub fn is_same(&self, other: &Identity<'_>) -> bool
         ensures { result ≡ is_same_identity self.now other.now }
     {
@@ -50,8 +49,8 @@ impl<'a> Identity<'a> {
     }
 }
 
-/// An identity of one's own. A contract sees the identity.
-#[derive(Debug, Drop)]
+/// An owned identity. A contract sees the identity.
+#[derive(Drop)]
 pub struct OwnedIdentity {
     org: Name,
     role: Role,
@@ -67,13 +66,14 @@ impl Model for OwnedIdentity {
 }
 
 impl OwnedIdentity {
-    /// Takes its parts over.
+    /// The identity of these parts, which it takes over.
     pub fn new(org: Name, role: Role, label: Bytes) -> OwnedIdentity
         ensures { result ≡ record { org = org; role = role; label = label } }
     {
         OwnedIdentity { org, role, label }
     }
 
+    /// The identity, lent.
     pub fn lend(&self) -> Identity<'_>
         ensures { result ≡ self.now }
     {

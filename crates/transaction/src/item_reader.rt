@@ -92,13 +92,13 @@ fn read_whole_item(
     }
 }
 
-/// The item that the bytes spell in a block of this version, all of the bytes, which it lends: a transaction, or an update
-/// of a definition, which version 2 alone has. One pass; nothing is copied but the id, and no count or length is believed
-/// before the bytes are there.
+/// The item that the bytes spell in a block of this version, all of the bytes, which it lends: a transaction, or an
+/// update of a definition, which version 2 alone has. One pass; nothing is copied but the id, and no count or length is
+/// believed before the bytes are there.
 ///
 /// Memory is for its lists alone: at most 12 bytes for each byte of an item, and at most 22 for each byte of what is
-/// refused, beside what the heap adds to each. A list gets its room once, for no more items than the bytes behind its count
-/// can spell.
+/// refused, beside what the heap adds to each. A list gets its room once, for no more items than the bytes behind its
+/// count can spell.
 pub fn decode_item(
     alloc: Global,
     version: BlockVersion,
@@ -111,7 +111,7 @@ pub fn decode_item(
     // An item that is spelled is answered, and Form only where none is.
     ensures spelled { (item : Item) → SpellsItem version bytes.now item → GivesUnless Memory result (Ok item) }
     ensures form { result ≡ Err Form → (item : Item) → ¬ SpellsItem version bytes.now item }
-    // The same, said of the function that the rules of validation name.
+    // Both once more, in terms of the function that the rules of validation name.
     ensures reading { IfOk result (λ item. item_of version bytes.now ≡ Some item) }
     ensures no_reading { result ≡ Err Form → item_of version bytes.now ≡ None }
 {

@@ -22,7 +22,8 @@ pub fn transaction_reading()
     ensures { (bytes : List ℕ) (tx : Tx) → ((i : ℕ) → slice_index bytes i < 256) → (tx_of bytes ≡ Some tx) ↔ SpellsTx bytes tx }
 {}
 
-/// The same law of items, in a block of either version.
+/// A law of the grammar of items, and no work: what `item_of` gives for bytes, in a block of either version, is the
+/// item that they spell, and none where they spell none.
 pub fn item_reading()
     ensures { (version : BlockVersion) (bytes : List ℕ) (item : Item) → ((i : ℕ) → slice_index bytes i < 256) → (item_of version bytes ≡ Some item) ↔ SpellsItem version bytes item }
 {}

@@ -1,5 +1,5 @@
-//! Transactions, updates of definitions and identities: their types, which lend from the bytes that they were decoded from,
-//! and their bytes both ways.
+//! Transactions, updates of definitions and identities: their types, which lend from the bytes that they were decoded
+//! from, and their bytes both ways.
 #![tactic(auto)]
 
 mod block_version;
@@ -9,6 +9,7 @@ mod field;
 mod identity;
 mod item;
 mod item_reader;
+mod labelled;
 mod laws;
 mod limits;
 mod opening;
@@ -27,6 +28,7 @@ pub use fault::{EncodeFault, TxFault};
 pub use identity::{Identity, OwnedIdentity, Role};
 pub use item::Item;
 pub use item_reader::decode_item;
+pub use labelled::Labelled;
 pub use laws::{item_reading, limits_are_the_definitions, transaction_reading};
 pub use limits::{ID_BYTES, MAX_ENDORSEMENTS, MAX_TX_BYTES};
 pub use put::{put_counted8, put_counted16, put_counted32, put_length32, put_u32, put_u64};

@@ -1,5 +1,5 @@
-//! Where in a transaction's bytes the keys that it writes stand, by the lengths of all that stands before them. No clause speaks
-//! of these places: who goes to one compares the bytes that it finds there.
+//! Where in a transaction's bytes the keys that it writes stand, by the lengths of all that stands before them. No
+//! clause speaks of these places: who goes to one compares the bytes that it finds there.
 
 use crate::identity::Identity;
 use crate::limits::ID_BYTES;

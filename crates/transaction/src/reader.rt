@@ -318,7 +318,7 @@ pub fn decode_tx(alloc: Global, bytes: &[u8]) -> Result<SpelledTx<'_>, TxFault>
     // A transaction that is spelled is answered, and Form only where none is.
     ensures spelled { (tx : Tx) → SpellsTx bytes.now tx → GivesUnless Memory result (Ok tx) }
     ensures form { result ≡ Err Form → (tx : Tx) → ¬ SpellsTx bytes.now tx }
-    // The same, said of the function that the rules of validation name.
+    // Both once more, in terms of the function that the rules of validation name.
     ensures reading { IfOk result (λ tx. tx_of bytes.now ≡ Some tx) }
     ensures no_reading { result ≡ Err Form → tx_of bytes.now ≡ None }
 {

@@ -10,7 +10,7 @@ use std::marker::Model;
 /// A transaction with the bytes that spell it, both lent. A contract sees the transaction.
 ///
 /// It lends the parts of its bytes that are signed and hashed, so that they can't be those of another transaction.
-#[derive(Debug, Drop)]
+#[derive(Drop)]
 pub struct SpelledTx<'a> {
     tx: Tx<'a>,
     bytes: &'a [u8],
@@ -35,6 +35,7 @@ impl<'a> SpelledTx<'a> {
         SpelledTx { tx, bytes }
     }
 
+    /// The transaction.
     pub fn tx(&self) -> &Tx<'a>
         ensures value { result.now ≡ self.now }
         ensures spelled { IsSpelled result.now }
@@ -42,6 +43,7 @@ impl<'a> SpelledTx<'a> {
         &self.tx
     }
 
+    /// The transaction, without its bytes.
     pub fn into_tx(self) -> Tx<'a>
         ensures value { result ≡ self.entry }
         ensures spelled { IsSpelled result }

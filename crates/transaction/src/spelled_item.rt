@@ -11,7 +11,7 @@ use std::marker::Model;
 /// An item with the bytes that spell it, both lent. A contract sees the item.
 ///
 /// It lends the parts of its bytes that are signed and hashed, so that they can't be those of another item.
-#[derive(Debug, Drop)]
+#[derive(Drop)]
 pub struct SpelledItem<'a> {
     item: Item<'a>,
     bytes: &'a [u8],
@@ -38,6 +38,7 @@ impl<'a> SpelledItem<'a> {
         SpelledItem { item, bytes }
     }
 
+    /// The item.
     pub fn item(&self) -> &Item<'a>
         ensures value { result.now ≡ self.now }
         ensures spelled { IsSpelledItem result.now }
@@ -45,6 +46,7 @@ impl<'a> SpelledItem<'a> {
         &self.item
     }
 
+    /// The item, without its bytes.
     pub fn into_item(self) -> Item<'a>
         ensures value { result ≡ self.entry }
         ensures spelled { IsSpelledItem result }

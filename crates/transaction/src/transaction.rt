@@ -13,14 +13,14 @@ pub struct Version {
 }
 
 /// A key that was read, with its version, or none where it was absent.
-#[derive(Debug, Drop)]
+#[derive(Drop)]
 pub struct Read<'a> {
     pub key: KeyRef<'a>,
     pub version: Option<Version>,
 }
 
 /// A key with its version, as a range query found it.
-#[derive(Debug, Drop)]
+#[derive(Drop)]
 pub struct KeyVersion<'a> {
     pub key: KeyRef<'a>,
     pub version: Version,
@@ -28,7 +28,7 @@ pub struct KeyVersion<'a> {
 
 /// A range query with its raw results, from the start to before the end, which is unbounded where it
 /// is empty.
-#[derive(Debug, Drop)]
+#[derive(Drop)]
 pub struct Range<'a> {
     pub start: BoundRef<'a>,
     pub end: BoundRef<'a>,
@@ -38,21 +38,21 @@ pub struct Range<'a> {
 }
 
 /// A key with its new value, or none where it is deleted.
-#[derive(Debug, Drop)]
+#[derive(Drop)]
 pub struct Write<'a> {
     pub key: KeyRef<'a>,
     pub value: Option<Slice<'a>>,
 }
 
 /// A key with the text of its new policy, or none where its policy is removed.
-#[derive(Debug, Drop)]
+#[derive(Drop)]
 pub struct PolicyWrite<'a> {
     pub key: KeyRef<'a>,
     pub policy: Option<Slice<'a>>,
 }
 
 /// What a transaction read and wrote in one namespace.
-#[derive(Debug, Drop)]
+#[derive(Drop)]
 pub struct NsSet<'a> {
     pub name: NameRef<'a>,
     pub reads: Items<Read<'a>>,
@@ -62,14 +62,14 @@ pub struct NsSet<'a> {
 }
 
 /// An endorser with its signature.
-#[derive(Debug, Drop)]
+#[derive(Drop)]
 pub struct Endorsement<'a> {
     pub endorser: Identity<'a>,
     pub signature: Slice<'a>,
 }
 
 /// A transaction: what a chaincode read and wrote, who asked for it and who endorsed it.
-#[derive(Debug, Drop)]
+#[derive(Drop)]
 pub struct Tx<'a> {
     pub channel: NameRef<'a>,
     pub id: TxId,

@@ -3,7 +3,7 @@ use crate::transaction::{Endorsement, TxId};
 use values::{Items, NameRef, Slice};
 
 /// An update of a chaincode's definition: the policy that it is to have, who asked for it and who endorsed it.
-#[derive(Debug, Drop)]
+#[derive(Drop)]
 pub struct Update<'a> {
     pub channel: NameRef<'a>,
     pub id: TxId,

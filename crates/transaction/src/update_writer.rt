@@ -44,8 +44,8 @@ fn put_update(out: &mut Vec<u8>, update: &Update<'_>) -> Result<(), EncodeFault>
     Ok(())
 }
 
-/// The bytes of the update's body: what an endorser signs, followed by its identity's bytes. Linear in them, in time and
-/// memory, also where they are too many.
+/// The bytes of the update's body: what an endorser signs, followed by its identity's bytes. Linear in them, in time
+/// and memory, also where they are too many.
 pub fn encode_update_body(alloc: Global, update: &Update<'_>) -> Result<Bytes, EncodeFault>
     ensures spelled { IfOk result (λ bytes. SpellsUpdateBody bytes update.now) }
     ensures encoded { (bytes : List ℕ) → SpellsUpdateBody bytes update.now → GivesUnless Memory result (Ok bytes) }
@@ -56,8 +56,8 @@ pub fn encode_update_body(alloc: Global, update: &Update<'_>) -> Result<Bytes, E
     within_limit(bytes)
 }
 
-/// The bytes of the update before the creator's signature, which the creator signs. Linear in them, in time and memory, also
-/// where they are too many.
+/// The bytes of the update before the creator's signature, which the creator signs. Linear in them, in time and memory,
+/// also where they are too many.
 pub fn encode_update_signed(alloc: Global, update: &Update<'_>) -> Result<Bytes, EncodeFault>
     ensures spelled { IfOk result (λ bytes. SpellsSignedUpdate bytes update.now) }
     ensures encoded { (bytes : List ℕ) → SpellsSignedUpdate bytes update.now → GivesUnless Memory result (Ok bytes) }
@@ -68,7 +68,8 @@ pub fn encode_update_signed(alloc: Global, update: &Update<'_>) -> Result<Bytes,
     within_limit(bytes)
 }
 
-/// The bytes that spell the update, as version 2 has them. Linear in them, in time and memory, also where they are too many.
+/// The bytes that spell the update, as version 2 has them. Linear in them, in time and memory, also where they are too
+/// many.
 pub fn encode_update(alloc: Global, update: &Update<'_>) -> Result<Bytes, EncodeFault>
     ensures spelled { IfOk result (λ bytes. SpellsUpdate bytes update.now) }
     // An update that has a spelling gets it.

@@ -24,6 +24,7 @@ impl Model for IdKey {
 }
 
 impl IdKey {
+    /// The id, as a key of the map.
     pub fn new(id: &TxId) -> IdKey
         ensures { result ≡ id.now }
     {

@@ -15,6 +15,7 @@ pub(crate) struct UsePlace {
 }
 
 impl UsePlace {
+    /// The use that stands at this place of the lists.
     pub fn used<'a>(&self, lists: &'a [SharedUses]) -> &'a NewUse
         requires { IsThere lists.now self.now }
         ensures { result.now ≡ use_in lists.now self.now }

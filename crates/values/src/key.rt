@@ -39,7 +39,7 @@ impl Model for Key {
 }
 
 impl Key {
-    /// Copies the bytes once.
+    /// The key with these bytes, which it copies: up to 1,024.
     pub fn from_slice(alloc: Global, bytes: &[u8]) -> Result<Key, AllocError>
         requires { IsTrue (is_key bytes.now) }
         ensures { IfOk result (λ key. key ≡ bytes.now) }
@@ -49,6 +49,7 @@ impl Key {
         })
     }
 
+    /// The bytes, from 1 to 1,024.
     pub fn as_slice(&self) -> &[u8]
         ensures value { result.now ≡ self.now }
         ensures key { IsTrue (is_key result.now) }
@@ -56,20 +57,21 @@ impl Key {
         self.bytes.as_slice()
     }
 
+    /// The key, as a lent value.
     pub fn lend(&self) -> KeyRef<'_>
         ensures { result ≡ self.now }
     {
         KeyRef::new(self.bytes.as_slice())
     }
 
-    /// The same key, copied once.
+    /// A copy, of up to 1,024 bytes.
     pub fn copy(&self, alloc: Global) -> Result<Key, AllocError>
         ensures { IfOk result (λ copied. copied ≡ self.now) }
     {
         Key::from_slice(alloc, self.as_slice())
     }
 
-    /// Whether both have the same bytes. Linear in their number.
+    /// Whether both are one key: their bytes are equal. Linear in their number.
     pub fn is_same(&self, other: &Key) -> bool
         ensures { result ≡ bytes_eq self.now other.now }
     {

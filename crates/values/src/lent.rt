@@ -10,7 +10,7 @@ use std::alloc::{AllocError, Global};
 use std::marker::Model;
 
 /// Lent bytes. A contract sees the list of them.
-#[derive(Debug, Drop)]
+#[derive(Drop)]
 pub struct Slice<'a> {
     bytes: &'a [u8],
 }
@@ -22,32 +22,35 @@ impl<'a> Model for Slice<'a> {
 }
 
 impl<'a> Slice<'a> {
+    /// These bytes, lent.
     pub fn new(bytes: &'a [u8]) -> Slice<'a>
         ensures { result ≡ bytes.now }
     {
         Slice { bytes }
     }
 
+    /// The bytes.
     pub fn as_slice(&self) -> &'a [u8]
         ensures { result.now ≡ self.now }
     {
         self.bytes
     }
 
-    /// The same bytes, lent again.
-    pub fn again(&self) -> Slice<'a>
+    /// These bytes once more, lent for as long.
+    pub fn reborrow(&self) -> Slice<'a>
         ensures { result ≡ self.now }
     {
         Slice { bytes: self.bytes }
     }
 
-    /// The same bytes, copied once.
+    /// A copy: linear in the number of bytes, in time and memory.
     pub fn copy(&self, alloc: Global) -> Result<Bytes, AllocError>
         ensures { IfOk result (λ copied. copied ≡ self.now) }
     {
         Bytes::from_slice(alloc, self.bytes)
     }
 
+    /// The number of bytes.
     pub fn len(&self) -> usize
         ensures value { result ≡ length self.now }
         ensures most { result < 2 ^ 63 }
@@ -55,13 +58,14 @@ impl<'a> Slice<'a> {
         self.bytes.len()
     }
 
+    /// Whether there are no bytes.
     pub fn is_empty(&self) -> bool
         ensures { result ≡ (length self.now == 0) }
     {
         self.bytes.is_empty()
     }
 
-    /// Whether both have the same bytes. Linear in their number.
+    /// Whether the bytes are equal. Linear in their number.
     pub fn is_same(&self, other: &Slice<'_>) -> bool
         ensures { result ≡ bytes_eq self.now other.now }
     {
@@ -70,7 +74,7 @@ impl<'a> Slice<'a> {
 }
 
 /// A name that is lent.
-#[derive(Debug, Drop)]
+#[derive(Drop)]
 pub struct NameRef<'a> {
     bytes: &'a [u8],
 }
@@ -84,6 +88,7 @@ impl<'a> Model for NameRef<'a> {
 }
 
 impl<'a> NameRef<'a> {
+    /// The name with these bytes, lent.
     pub fn new(bytes: &'a [u8]) -> NameRef<'a>
         requires { IsTrue (is_name bytes.now) }
         ensures { result ≡ bytes.now }
@@ -91,6 +96,7 @@ impl<'a> NameRef<'a> {
         NameRef { bytes }
     }
 
+    /// The bytes, from 1 to 64.
     pub fn as_slice(&self) -> &'a [u8]
         ensures value { result.now ≡ self.now }
         ensures name { IsTrue (is_name result.now) }
@@ -98,14 +104,14 @@ impl<'a> NameRef<'a> {
         self.bytes
     }
 
-    /// The same bytes, lent again.
-    pub fn again(&self) -> NameRef<'a>
+    /// This name once more, lent for as long.
+    pub fn reborrow(&self) -> NameRef<'a>
         ensures { result ≡ self.now }
     {
         NameRef { bytes: self.bytes }
     }
 
-    /// From 1 to 64.
+    /// The number of bytes, from 1 to 64.
     pub fn len(&self) -> usize
         ensures value { result ≡ length self.now }
         ensures most { result ≤ max_name_bytes }
@@ -113,14 +119,14 @@ impl<'a> NameRef<'a> {
         self.bytes.len()
     }
 
-    /// The same bytes, copied once.
+    /// A copy, of up to 64 bytes.
     pub fn copy(&self, alloc: Global) -> Result<Name, AllocError>
         ensures { IfOk result (λ copied. copied ≡ self.now) }
     {
         Name::from_slice(alloc, self.bytes)
     }
 
-    /// Whether both have the same bytes. Linear in their number.
+    /// Whether both are one name: their bytes are equal.
     pub fn is_same(&self, other: &NameRef<'_>) -> bool
         ensures { result ≡ bytes_eq self.now other.now }
     {
@@ -129,7 +135,7 @@ impl<'a> NameRef<'a> {
 }
 
 /// A key that is lent.
-#[derive(Debug, Drop)]
+#[derive(Drop)]
 pub struct KeyRef<'a> {
     bytes: &'a [u8],
 }
@@ -143,6 +149,7 @@ impl<'a> Model for KeyRef<'a> {
 }
 
 impl<'a> KeyRef<'a> {
+    /// The key with these bytes, lent.
     pub fn new(bytes: &'a [u8]) -> KeyRef<'a>
         requires { IsTrue (is_key bytes.now) }
         ensures { result ≡ bytes.now }
@@ -150,6 +157,7 @@ impl<'a> KeyRef<'a> {
         KeyRef { bytes }
     }
 
+    /// The bytes, from 1 to 1,024.
     pub fn as_slice(&self) -> &'a [u8]
         ensures value { result.now ≡ self.now }
         ensures key { IsTrue (is_key result.now) }
@@ -157,21 +165,21 @@ impl<'a> KeyRef<'a> {
         self.bytes
     }
 
-    /// The same bytes, lent again.
-    pub fn again(&self) -> KeyRef<'a>
+    /// This key once more, lent for as long.
+    pub fn reborrow(&self) -> KeyRef<'a>
         ensures { result ≡ self.now }
     {
         KeyRef { bytes: self.bytes }
     }
 
-    /// The same bytes, copied once.
+    /// A copy, of up to 1,024 bytes.
     pub fn copy(&self, alloc: Global) -> Result<Key, AllocError>
         ensures { IfOk result (λ copied. copied ≡ self.now) }
     {
         Key::from_slice(alloc, self.bytes)
     }
 
-    /// Whether both have the same bytes. Linear in their number.
+    /// Whether both are one key: their bytes are equal. Linear in their number.
     pub fn is_same(&self, other: &KeyRef<'_>) -> bool
         ensures { result ≡ bytes_eq self.now other.now }
     {
@@ -180,7 +188,7 @@ impl<'a> KeyRef<'a> {
 }
 
 /// Where a range of keys begins or ends, lent; empty where it is unbounded.
-#[derive(Debug, Drop)]
+#[derive(Drop)]
 pub struct BoundRef<'a> {
     bytes: &'a [u8],
 }
@@ -194,6 +202,7 @@ impl<'a> Model for BoundRef<'a> {
 }
 
 impl<'a> BoundRef<'a> {
+    /// The bound with these bytes, lent.
     pub fn new(bytes: &'a [u8]) -> BoundRef<'a>
         requires { IsTrue (is_bound bytes.now) }
         ensures { result ≡ bytes.now }
@@ -201,6 +210,7 @@ impl<'a> BoundRef<'a> {
         BoundRef { bytes }
     }
 
+    /// The bytes, up to 1,024.
     pub fn as_slice(&self) -> &'a [u8]
         ensures value { result.now ≡ self.now }
         ensures bound { IsTrue (is_bound result.now) }
@@ -208,14 +218,14 @@ impl<'a> BoundRef<'a> {
         self.bytes
     }
 
-    /// The same bytes, lent again.
-    pub fn again(&self) -> BoundRef<'a>
+    /// This bound once more, lent for as long.
+    pub fn reborrow(&self) -> BoundRef<'a>
         ensures { result ≡ self.now }
     {
         BoundRef { bytes: self.bytes }
     }
 
-    /// Whether both have the same bytes. Linear in their number.
+    /// Whether both are one bound: their bytes are equal. Linear in their number.
     pub fn is_same(&self, other: &BoundRef<'_>) -> bool
         ensures { result ≡ bytes_eq self.now other.now }
     {

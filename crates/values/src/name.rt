@@ -46,7 +46,7 @@ impl Model for Name {
 }
 
 impl Name {
-    /// Copies the bytes once.
+    /// The name with these bytes, which it copies: up to 64.
     pub fn from_slice(alloc: Global, bytes: &[u8]) -> Result<Name, AllocError>
         requires { IsTrue (is_name bytes.now) }
         ensures { IfOk result (λ name. name ≡ bytes.now) }
@@ -56,6 +56,7 @@ impl Name {
         })
     }
 
+    /// The bytes, from 1 to 64.
     pub fn as_slice(&self) -> &[u8]
         ensures value { result.now ≡ self.now }
         ensures name { IsTrue (is_name result.now) }
@@ -63,20 +64,21 @@ impl Name {
         self.bytes.as_slice()
     }
 
+    /// The name, as a lent value.
     pub fn lend(&self) -> NameRef<'_>
         ensures { result ≡ self.now }
     {
         NameRef::new(self.bytes.as_slice())
     }
 
-    /// The same name, copied once.
+    /// A copy, of up to 64 bytes.
     pub fn copy(&self, alloc: Global) -> Result<Name, AllocError>
         ensures { IfOk result (λ copied. copied ≡ self.now) }
     {
         Name::from_slice(alloc, self.as_slice())
     }
 
-    /// Whether both have the same bytes.
+    /// Whether both are one name: their bytes are equal.
     pub fn is_same(&self, other: &Name) -> bool
         ensures { result ≡ bytes_eq self.now other.now }
     {

@@ -6,8 +6,8 @@ use crate::shared::Shared;
 use std::alloc::{AllocError, Global};
 use std::marker::Model;
 
-/// Where bytes begin and end in others, if they stand at this place of them: compares them. Places are counted by 32 bits, and
-/// what ends behind them isn't found.
+/// Where the bytes begin and end in all of them, if they stand at this place; else `None`. Compares them. Places have
+/// 32 bits: what ends behind 2^32 - 1 isn't found.
 pub fn found_at(all: &[u8], start: usize, bytes: &[u8]) -> Option<(u32, u32)>
     ensures bounds { IfSome result (λ p. (p.0 ≤ p.1) × (p.1 ≤ length all.now)) }
     ensures bytes { IfSome result (λ p. between p.0 p.1 all.now ≡ bytes.now) }
@@ -44,8 +44,8 @@ impl Model for Part {
 }
 
 impl Part {
-    /// The part of shared bytes that begins at a place, where these bytes stand there; else `None`. Compares them, and takes
-    /// no memory.
+    /// The part of shared bytes that begins at this place, if these bytes stand there; else `None`. Compares them,
+    /// takes no memory, and is refused only to the 2^63rd owner.
     pub fn found(
         whole: &Shared<Bytes>,
         start: usize,
@@ -63,7 +63,8 @@ impl Part {
         }))
     }
 
-    /// All of bytes of its own, which it copies: linear in their number, in time and memory. Refused where there are 2^32.
+    /// A part that is all of its own bytes, a copy of these: linear in their number, in time and memory. Refused for
+    /// 2^32 bytes and more.
     pub fn copied(alloc: Global, bytes: &[u8]) -> Result<Part, AllocError>
         ensures { IfOk result (λ part. part ≡ bytes.now) }
     {
@@ -77,7 +78,7 @@ impl Part {
         })
     }
 
-    /// One more owner of the same part. Takes no memory, and is refused only to the 2^63rd owner.
+    /// One more owner of this part. Takes no memory, and is refused only to the 2^63rd owner.
     pub fn share(&self) -> Result<Part, AllocError>
         ensures { IfOk result (λ part. part ≡ self.now) }
     {
@@ -88,6 +89,7 @@ impl Part {
         })
     }
 
+    /// The bytes of the part.
     pub fn as_slice(&self) -> &[u8]
         ensures { result.now ≡ self.now }
     {

@@ -30,7 +30,7 @@ impl<T> Shared<T> {
         })
     }
 
-    /// One more owner of the same value. Takes no memory, and is refused only to the 2^63rd owner.
+    /// One more owner of this value. Takes no memory, and is refused only to the 2^63rd owner.
     pub fn share(&self) -> Result<Shared<T>, AllocError>
         ensures { IfOk result (λ s. s ≡ self.now) }
     {
@@ -39,6 +39,7 @@ impl<T> Shared<T> {
         })
     }
 
+    /// The value.
     pub fn get(&self) -> &T
         ensures { result.now ≡ self.now }
     {

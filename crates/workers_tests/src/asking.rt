@@ -1,10 +1,10 @@
 //! What checks of a job find.
 
 use dependency::{NOT_VALIDATED, run_events};
-use failing::Failed;
 use key_chains::Job;
 use rules::Event;
 use std::alloc::Global;
+use test_support::Failed;
 
 /// The most transactions of a block here.
 pub const TXS: usize = 6;

@@ -5,7 +5,6 @@ ghost use Rattle.transaction.specs.Spelled.{IsSpelledUpdate};
 use block::{Header, MAX_TXS, Previous, decode_block};
 use candidates::OpenUpdate;
 use drafts::draft;
-use failing::Failed;
 use key_book::KeyBook;
 use key_chains::{Candidate, Job};
 use policy::{Definitions, Policy};
@@ -13,6 +12,7 @@ use policy_eval::{signers, update_signers};
 use rules::{EarlyFlag, Row};
 use state_db::{Batch, StateDb};
 use std::alloc::{AllocError, Global};
+use test_support::Failed;
 use transaction::{BlockVersion, Item, TxFault, Update, Version, decode_item};
 use values::{Bytes, Key, Name, Part, Shared, is_key, is_name};
 
@@ -288,6 +288,7 @@ impl Ground {
         Ground::over(alloc, &batch, script.as_str())
     }
 
+    /// The job of the block.
     pub fn job(&self, alloc: Global) -> Result<Job<'_, '_>, Failed> {
         let candidates = candidates_of(
             alloc,

@@ -4,9 +4,9 @@ use crate::asking::{Numbers, found, numbers};
 use crate::building::Ground;
 use crate::rows::{BlockCase, flagged, readers_and_writers, updates};
 use dependency::NOT_VALIDATED;
-use failing::Failed;
 use rules::Event;
 use std::alloc::Global;
+use test_support::Failed;
 
 /// The block whose checks are listed.
 #[derive(Clone, Copy)]

@@ -20,6 +20,7 @@ fn is_entered(entered: &AtomicU32) -> bool {
 }
 
 impl Late {
+    /// Nobody has entered yet.
     pub fn new() -> Late {
         Late {
             endorsed: [AtomicU32::new(0), AtomicU32::new(0), AtomicU32::new(0)],

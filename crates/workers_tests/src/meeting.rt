@@ -3,14 +3,13 @@
 use crate::building::{Ground, Keys};
 use crate::holding::Late;
 use check_workers::{Checked, check_all};
-use failing::Failed;
 use gates::{Gate, Phase, Reverse};
 use key_chains::Job;
 use rules::Flag;
 use std::alloc::Global;
 use std::sync::Wait;
 use std::thread::Threads;
-use trials::Meeting;
+use test_support::{Failed, Meeting};
 
 /// What holds workers back.
 #[derive(Clone, Copy)]

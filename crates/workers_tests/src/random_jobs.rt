@@ -2,14 +2,12 @@
 
 use crate::building::{Ground, RowCase};
 use check_workers::{Checked, check_all};
-use failing::Failed;
 use key_chains::Job;
-use random_numbers::Random;
 use rules::Flag;
 use std::alloc::{AllocError, AllocGlobal, Global};
 use std::sync::Wait;
 use std::thread::Threads;
-use trials::{Yielding, script};
+use test_support::{Failed, Random, Yielding, script};
 
 // The rows before each block. Two of the keys that scripts use have none.
 const ROWS: [RowCase<'static>; 3] = [

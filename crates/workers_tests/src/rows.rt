@@ -192,10 +192,12 @@ endorse Org1:peer:p0
     flags: &[6],
 };
 
+/// Transactions that read what others write.
 pub fn readers_and_writers() -> &'static BlockCase {
     &blocks()[0]
 }
 
+/// The block with flags from before the checks.
 pub fn flagged() -> &'static BlockCase {
     &blocks()[5]
 }

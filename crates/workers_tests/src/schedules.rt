@@ -4,10 +4,10 @@ use crate::asking::{Numbers, TXS, found, numbers};
 use crate::building::Ground;
 use crate::rows::{BlockCase, blocks};
 use dependency::NOT_VALIDATED;
-use failing::Failed;
 use key_chains::Job;
 use rules::Event;
 use std::alloc::Global;
+use test_support::Failed;
 
 const LISTS: u32 = 10_000;
 

@@ -3,13 +3,12 @@
 use crate::building::Ground;
 use crate::random_jobs::are_flags_found;
 use crate::rows::{BlockCase, updates};
-use failing::Failed;
 use key_chains::Job;
 use rules::Flag;
 use std::alloc::Global;
 use std::sync::Wait;
 use std::thread::Threads;
-use trials::Yielding;
+use test_support::{Failed, Yielding};
 
 fn is_flag(flags: &[Flag], wanted: &[u8]) -> bool {
     match (flags, wanted) {

@@ -45,6 +45,7 @@ impl ReadyDelta {
         Ok(ReadyDelta { delta, batch })
     }
 
+    /// The delta alone.
     pub fn delta(&self) -> &Delta
         ensures { result.now ≡ self.now }
     {

@@ -111,7 +111,7 @@ impl World {
         }
     }
 
-    /// The policies of chaincodes.
+    /// The policies of chaincodes. Constant time.
     pub fn definitions(&self) -> &Definitions
         ensures { result.now ≡ self.now.definitions }
     {
@@ -184,8 +184,9 @@ impl World {
         }
     }
 
-    /// Makes room. Where it is the `room_for` a delta, neither `apply_ready` nor `apply_given` of that delta asks for memory. Takes
-    /// memory for the room; lists and maps grow seldom, and then move.
+    /// Makes room, and takes memory for it; what the world holds stays as it is, also at an `Err`. Lists and maps grow seldom, and then
+    /// move. Meant for `room_for` a delta: `apply_ready` and `apply_given` of that delta are to find their memory here. Tests show this;
+    /// no clause says it.
     pub fn reserve(&mut self, room: Room) -> Result<(), AllocError>
         ensures { self.new ≡ self.old }
     {
@@ -206,9 +207,9 @@ impl World {
         definitions_with(self.alloc, self.definitions(), delta.definitions.as_slice())
     }
 
-    /// Applies what a block changes: all of it or, where memory is refused, nothing. Linear in the delta, each change
-    /// logarithmic in the number of rows, whatever the number of blocks; but for lists and maps that grow, which they do
-    /// seldom. Changes in the order of their keys go fastest.
+    /// Applies what a block changes: all of it or, where memory is refused, nothing. Linear in the delta, each change logarithmic in the
+    /// number of rows, whatever the number of blocks; but for lists and maps that grow, which they do seldom. Changes in the order of
+    /// their keys go fastest.
     pub fn apply(&mut self, delta: &Delta) -> Result<(), AllocError>
         ensures ok { OnOk result (self.new ≡ applied self.old delta.now) }
         ensures err { OnErr result (self.new ≡ self.old) }
@@ -218,7 +219,8 @@ impl World {
         self.apply_lent(delta, &batch, &definitions)
     }
 
-    /// The same of one that is given away, no part of which needs sharing. Where memory is refused it comes back.
+    /// Applies a delta that is given away: all of it or, where memory is refused, nothing, and the delta comes back. No part of it needs
+    /// sharing.
     pub fn apply_or_return(&mut self, ready: ReadyDelta) -> Result<(), ReadyDelta>
         ensures ok { OnOk result (self.new ≡ applied self.old ready) }
         ensures err { IfErr result (λ back. (back ≡ ready) × (self.new ≡ self.old)) }
@@ -229,8 +231,8 @@ impl World {
         self.apply_given(ready, &definitions)
     }
 
-    /// The same of one that is lent, whose batch is made, and what is to become of the policies of chaincodes. All is shared, and
-    /// nothing is sorted.
+    /// Applies a delta whose batch is made, with the policies of chaincodes behind it (`definitions_behind`): all of it or, where memory
+    /// is refused, nothing. What it keeps gets one more owner, and nothing is sorted.
     pub fn apply_ready(
         &mut self,
         ready: &ReadyDelta,
@@ -267,7 +269,8 @@ impl World {
         Ok(())
     }
 
-    /// The same of one that is given away. Where memory is refused it comes back.
+    /// Applies a delta that is given away, with the policies of chaincodes behind it (`definitions_behind`): all of it or, where memory is
+    /// refused, nothing, and the delta comes back.
     pub fn apply_given(
         &mut self,
         ready: ReadyDelta,

@@ -9,7 +9,7 @@ fn changes() -> &'static [Change] {
     &CHANGES
 }
 
-static CHANGES: [Change; 35] = [
+static CHANGES: [Change; 45] = [
     // A byte behind the end.
     (200, 200, Is(b"\0"), false),
     // The creator's role, a key's length, the flags of a version and a value, a value's length.
@@ -73,17 +73,48 @@ static CHANGES: [Change; 35] = [
         false,
     ),
     // The channel.
+    (0, 3, Is(b"\0"), false),
+    (0, 3, Is(b"\x01a"), true),
     (0, 3, Long(b"\x40", b"a", 64, b""), true),
     (0, 3, Long(b"\x41", b"a", 65, b""), false),
     (0, 3, Is(b"\x03a b"), false),
     // The chaincode.
+    (79, 82, Is(b"\0"), false),
+    (79, 82, Is(b"\x01a"), true),
     (79, 82, Long(b"\x40", b"a", 64, b""), true),
     (79, 82, Long(b"\x41", b"a", 65, b""), false),
     (79, 82, Is(b"\x03a b"), false),
     // The namespace.
+    (84, 87, Is(b"\0"), false),
+    (84, 87, Is(b"\x01a"), true),
     (84, 87, Long(b"\x40", b"a", 64, b""), true),
     (84, 87, Long(b"\x41", b"a", 65, b""), false),
     (84, 87, Is(b"\x03a b"), false),
+    // A policy write of the most bytes that a policy may have, and of more, which the decoder takes and intake flags.
+    (
+        120,
+        122,
+        Long(b"\0\x01\0\x01k\x01\x10\0", b" ", 4_096, b""),
+        true,
+    ),
+    (
+        120,
+        122,
+        Long(b"\0\x01\0\x01k\x01\x10\x01", b" ", 4_097, b""),
+        true,
+    ),
+    (
+        120,
+        122,
+        Long(b"\0\x01\0\x01k\x01\xff\xff", b" ", 65_535, b""),
+        true,
+    ),
+    (
+        120,
+        122,
+        Long(b"\0\x01\0\x01k\x01\xff\xff", b" ", 65_536, b""),
+        false,
+    ),
     // Endorsements without signatures, all of them there.
     (122, 166, Long(b"\x40", b"\x01O\x02\0\0\0", 64, b""), true),
     (122, 166, Long(b"\x41", b"\x01O\x02\0\0\0", 65, b""), false),

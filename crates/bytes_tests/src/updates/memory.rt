@@ -1,37 +1,87 @@
-use super::{EXAMPLE, decode_update, lens_of};
+//! An update that is read and written with memory that is refused.
+
+use super::{decode_update, example};
 use std::alloc::Global;
-use transaction::{Item, SpelledItem, TxFault};
+use test_support::{Failed, Outcome, begins};
+use transaction::{
+    EncodeFault, Item, TxFault, Update, encode_update, encode_update_body, encode_update_signed,
+};
+use values::Bytes;
 
-// To be run with memory that is refused at any one call: what is tested answers the error, and as wanted when it is asked again.
+// What is written of an update.
+#[derive(Clone, Copy)]
+enum Part {
+    Body,
+    Signed,
+    Whole,
+}
 
-fn decoded_at_last(alloc: Global, bytes: &[u8]) -> Result<SpelledItem<'_>, TxFault> {
-    match decode_update(alloc, bytes) {
-        Ok(spelled) => Ok(spelled),
-        Err(TxFault::Memory) => decode_update(alloc, bytes),
-        Err(TxFault::Form) => Err(TxFault::Form),
+// How many bytes each has in the example.
+fn parts() -> &'static [(Part, usize)] {
+    &PARTS
+}
+
+static PARTS: [(Part, usize); 3] = [(Part::Body, 100), (Part::Signed, 144), (Part::Whole, 178)];
+
+fn written(alloc: Global, update: &Update<'_>, part: Part) -> Result<Bytes, EncodeFault> {
+    match part {
+        Part::Body => encode_update_body(alloc, update),
+        Part::Signed => encode_update_signed(alloc, update),
+        Part::Whole => encode_update(alloc, update),
     }
 }
 
-fn are_all_there(lens: &[Option<usize>; 3]) -> bool {
-    matches!(lens, [Some(_), Some(_), Some(_)])
-}
-
-fn lens_at_last(item: &Item<'_>, alloc: Global, bytes: &[u8]) -> [Option<usize>; 3] {
-    let lens = lens_of(item, alloc, bytes);
-    if are_all_there(&lens) {
-        lens
-    } else {
-        lens_of(item, alloc, bytes)
+// Whether so many bytes of the example were written, or want of memory is answered.
+fn is_written(written: Result<Bytes, EncodeFault>, len: usize) -> Result<bool, EncodeFault> {
+    match written {
+        Ok(bytes) => Ok(example().get(..len) == Some(bytes.as_slice())),
+        Err(fault) => Err(fault),
     }
 }
 
-fn lens_of_example(alloc: Global) -> Result<[Option<usize>; 3], TxFault> {
-    let spelled = decoded_at_last(alloc, EXAMPLE)?;
-    Ok(lens_at_last(spelled.item(), alloc, EXAMPLE))
+// It is written again where memory was wanting.
+fn outcome_of_part(alloc: Global, update: &Update<'_>, part: Part, len: usize) -> Outcome {
+    match is_written(written(alloc, update, part), len) {
+        Ok(true) => Outcome::Done,
+        Err(EncodeFault::Memory) => match is_written(written(alloc, update, part), len) {
+            Ok(true) => Outcome::MadeGood,
+            _ => Outcome::Wrong,
+        },
+        _ => Outcome::Wrong,
+    }
 }
 
+fn outcome_of_writing(alloc: Global, update: &Update<'_>) -> Outcome {
+    let mut outcome = Outcome::Done;
+    for &(part, len) in parts() {
+        outcome = outcome.and(outcome_of_part(alloc, update, part, len));
+    }
+    outcome
+}
+
+// What comes of reading it, and then of writing what was read.
+fn outcome_of_reading(alloc: Global, read: Outcome) -> Result<Outcome, TxFault> {
+    let spelled = decode_update(alloc, example())?;
+    match spelled.item() {
+        Item::Update(update) => Ok(read.and(outcome_of_writing(alloc, update))),
+        Item::Tx(_) => Ok(Outcome::Wrong),
+    }
+}
+
+/// What comes of reading and writing the example.
+pub fn outcome(alloc: Global) -> Result<Outcome, Failed> {
+    begins(alloc)?;
+    match outcome_of_reading(alloc, Outcome::Done) {
+        Ok(outcome) => Ok(outcome),
+        Err(TxFault::Memory) => Ok(outcome_of_reading(alloc, Outcome::MadeGood)?),
+        Err(TxFault::Form) => Ok(Outcome::Wrong),
+    }
+}
+
+// To be tried with memory that is refused at any one allocation, by `bench/refused_memory.py`: then want of memory is
+// answered, and the same call does as it should when it is called again.
 #[test]
-fn updates_with_refused_memory(rt: HostRuntime) -> Result<(), TxFault> {
-    assert!(rt; lens_of_example(rt.alloc())? == [Some(100), Some(144), Some(178)]);
+fn updates_with_refused_memory(rt: HostRuntime) -> Result<(), Failed> {
+    assert!(rt; outcome(rt.alloc())? == Outcome::Done);
     Ok(())
 }

@@ -3,10 +3,10 @@
 use crate::explained::{drafted, is_block_explained, of_script};
 use crate::fixture::{CHANNEL, long_text};
 use crate::signatures::keys;
-use failing::Failed;
 use std::alloc::{AllocError, Global};
 use std::sync::Wait;
 use std::thread::Threads;
+use test_support::Failed;
 
 fn policies() -> &'static [(&'static str, &'static str, usize, &'static str)] {
     &POLICIES

@@ -2,6 +2,7 @@
 
 use super::DraftCase;
 
+/// Scripts of blocks of version 2.
 pub fn updates() -> &'static [DraftCase] {
     &UPDATES
 }

@@ -2,6 +2,7 @@
 
 use super::DraftCase;
 
+/// The key book of all who sign in the scripts.
 pub fn keys() -> &'static str {
     KEYS
 }
@@ -11,6 +12,7 @@ static KEYS: &str =
     \nOrg1:client:c0 00112233445566778899aabbccddeeff\nOrg1:peer:p0 22\nOrg2:peer:q0 33\nOrg1:ad\
     min:a%20b 44\nOrg.3:orderer:% 55\nA_-9:peer:x:y 66\n";
 
+/// Scripts of blocks of version 1.
 pub fn drafts() -> &'static [DraftCase] {
     &DRAFTS
 }

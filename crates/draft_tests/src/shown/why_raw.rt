@@ -3,10 +3,10 @@
 use crate::fixture::{book, drafted};
 use crate::shown::{shown, shows};
 use block::{Block, BlockVersion, Header, Previous, decode_block, encode_block};
-use failing::Failed;
 use header_hash::data_hash;
 use key_book::KeyBook;
 use std::alloc::Global;
+use test_support::Failed;
 use text_lines::text_of;
 use values::{Bytes, Items, Slice};
 

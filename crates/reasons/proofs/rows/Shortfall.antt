@@ -1,5 +1,5 @@
 -- What signers lack.
-use Rattle.std.proofs.Common.{◌≡◌, ℕ, true, false, List, [], ◌∷◌, map, Option, Some, None, refl}
+use Rattle.std.proofs.Common.{◌≡◌, inl, inr, ℕ, true, false, List, [], ◌∷◌, map, Option, Some, None, refl}
 use Rattle.std.specs.Prelude.{codes}
 use Rattle.transaction.specs.declared.identity.Identity.{Identity}
 use Rattle.transaction.specs.declared.identity.Role.{Role}
@@ -11,6 +11,8 @@ use Rattle.policy.specs.declared.tree.Principal.{Principal}
 use Rattle.policy.specs.Tree.{Tree, principal, gate, none, more}
 use Rattle.policy_eval.specs.Evaluation.{none_used}
 use Rattle.policy_eval.specs.Evaluating.{is_satisfied}
+use Rattle.reasons.specs.Missing.{Misses, FirstMisses}
+use Rattle.reasons.specs.Reordered.{IsReordered, AsksWideLast}
 use Rattle.reasons.specs.Shortfall.{refused_of, missing_from, wide_last, shortfall_of}
 use Rattle.rules.proofs.rows.Shared.{p0, p1, q0, both_of}
 
@@ -77,7 +79,21 @@ in_the_first_gate_that_fails = refl
 pub after_one_that_held : missing (both_of (one_of (asks org1 Peer) (asks org1 Peer)) (asks org1 Peer)) (p0 ∷ p1 ∷ []) ≡ says org1 Peer
 after_one_that_held = refl
 
+-- by the rule: the principal itself, and behind a member that took its signer
+pub itself_by_the_rule : Misses (asks org1 Peer) (c0 ∷ []) (none_used (c0 ∷ [])) (record { org = org1; role = Peer })
+itself_by_the_rule = (refl, refl)
+
+pub the_second_by_the_rule : FirstMisses (more (asks org1 Peer) (more (asks org2 Peer) none)) (p0 ∷ p1 ∷ []) (none_used (p0 ∷ p1 ∷ [])) (record { org = org2; role = Peer })
+the_second_by_the_rule = inr (true ∷ false ∷ [], (0, refl, refl), inl (refl, refl))
+
 -- ---- another order
+
+pub in_another_order : IsReordered (both_of (asks org1 Member) (asks org1 Peer)) (both_of (asks org1 Peer) (asks org1 Member))
+in_another_order =
+    (more (asks org1 Peer) (more (asks org1 Member) none), refl, (asks org1 Member, more (asks org1 Peer) none, refl, (asks org1 Peer, none, refl, refl, inl (refl, refl)), inr (none, refl, inl (refl, refl))))
+
+pub any_role_last : AsksWideLast (both_of (asks org1 Peer) (asks org1 Member))
+any_role_last = (tt, (λ e. absurd cc), (tt, (λ e. tt), tt))
 
 pub wide_ones_go_last : wide_last (gate 2 (more (asks org1 Member) (more (asks org1 Peer) (more (asks org2 Member) (more (one_of (asks org1 Member) (asks org2 Peer)) none)))))
     ≡ gate 2 (more (asks org1 Peer) (more (one_of (asks org2 Peer) (asks org1 Member)) (more (asks org1 Member) (more (asks org2 Member) none))))

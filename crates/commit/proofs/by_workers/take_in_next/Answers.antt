@@ -6,8 +6,8 @@ use Rattle.commit.proofs.by_workers.take_in_next.Goals as goal
 
 pub returns-in-Some : goal.returns-in-Some
 returns-in-Some g c =
-    let channel = c.args.means.now.channel.now in
-    let accepts = g.V.Verify.accepts c.args.means.now.verifier.now in
+    let channel = c.args.context.now.channel.now in
+    let accepts = g.V.Verify.accepts c.args.context.now.verifier.now in
     let w = c.args.world.now in
     let bytes = c.args.bytes.now in
     subst (λ (next : Option (Result Prepared Refused)). MayWait channel accepts w bytes next) c.in-Some.is

@@ -1,6 +1,6 @@
 use Rattle.std.proofs.Common.{◌≡◌, ◌+◌, ◌++◌, ◌∷◌, ◌∙◌, [], ℕ, List, ap, sym, subst, take, arith}
 use Rattle.std.proofs.lemmas.List.{take_more}
-use Rattle.block_steps.specs.OnItsWay.{IsDecoded}
+use Rattle.linking.specs.OnItsWay.{IsDecoded}
 use Rattle.intake_workers.specs.declared.handed.Handed.{Handed}
 use Rattle.commit.specs.Prepared.{AreHanded}
 use Rattle.commit.proofs.Waiting.{handed-push}

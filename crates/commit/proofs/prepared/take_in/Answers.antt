@@ -5,8 +5,8 @@ use Rattle.commit.proofs.prepared.take_in.Goals as goal
 
 pub returns-in-Ok-clause-ahead : goal.returns-in-Ok-clause-ahead
 returns-in-Ok-clause-ahead g c blocks are =
-    let channel = c.args.means.now.channel.now in
-    let accepts = g.V.Verify.accepts c.args.means.now.verifier.now in
+    let channel = c.args.context.now.channel.now in
+    let accepts = g.V.Verify.accepts c.args.context.now.verifier.now in
     let told = c.take_in_beside-taken_in.ensures in
     none_prepared channel accepts blocks c.of.result c.of.ensures.first
     (rw (c.of.ensures.blocks, c.of.ensures.lists)
@@ -14,4 +14,4 @@ returns-in-Ok-clause-ahead g c blocks are =
     (IfOk-at_ok _ c.in-Ok.is told.blocks) (IfOk-at_ok _ c.in-Ok.is told.taken)))
 
 pub returns-in-Err-clause-ahead : goal.returns-in-Err-clause-ahead
-returns-in-Err-clause-ahead g c blocks are = none_ahead c.args.means.now.channel.now (g.V.Verify.accepts c.args.means.now.verifier.now) blocks c.none.result c.none.ensures.first c.none.ensures.blocks
+returns-in-Err-clause-ahead g c blocks are = none_ahead c.args.context.now.channel.now (g.V.Verify.accepts c.args.context.now.verifier.now) blocks c.none.result c.none.ensures.first c.none.ensures.blocks

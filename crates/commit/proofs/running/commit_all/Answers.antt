@@ -15,8 +15,8 @@ first_of channel accepts blocks i item ahead lt at waits =
 
 pub commit_next-answer-requires-clause-waits : goal.commit_next-answer-requires-clause-waits
 commit_next-answer-requires-clause-waits g c κs within w =
-    let channel = c.args.means.now.channel.now in
-    let accepts = g.V.Verify.accepts c.args.means.now.verifier.now in
+    let channel = c.args.context.now.channel.now in
+    let accepts = g.V.Verify.accepts c.args.context.now.verifier.now in
     let waits = first_of channel accepts c.args.blocks.now c.loop-bytes.bytes-index c.bytes-item.result c.loop-bytes.ahead (omega (arith, c.loop-bytes-test.true)) c.bytes-item.is c.loop-bytes.invariant.ahead in
     subst (λ (b : List ℕ). MayWait channel accepts w b c.next-next.result) (sym c.as_slice.ensures)
     (c.next-next.ensures.next channel accepts c.bytes-item.result (drop (c.loop-bytes.bytes-index + 1) c.args.blocks.now) waits w)
@@ -24,8 +24,8 @@ commit_next-answer-requires-clause-waits g c κs within w =
 pub loop-bytes-preserved : goal.loop-bytes-preserved
 loop-bytes-preserved g c =
     let before = c.loop-bytes.invariant in
-    let channel = c.args.means.now.channel.now in
-    let accepts = g.V.Verify.accepts c.args.means.now.verifier.now in
+    let channel = c.args.context.now.channel.now in
+    let accepts = g.V.Verify.accepts c.args.context.now.verifier.now in
     let blocks = c.args.blocks.now in
     let i = c.loop-bytes.bytes-index in
     let item = c.bytes-item.result in

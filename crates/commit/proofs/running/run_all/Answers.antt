@@ -6,8 +6,8 @@ use Rattle.commit.proofs.running.run_all.Goals as goal
 pub loop-end-preserved : goal.loop-end-preserved
 loop-end-preserved g c =
     let before = c.loop-end.invariant in
-    let channel = c.args.means.now.channel.now in
-    let accepts = g.V.Verify.accepts c.args.means.now.verifier.now in
+    let channel = c.args.context.now.channel.now in
+    let accepts = g.V.Verify.accepts c.args.context.now.verifier.now in
     let blocks = c.args.blocks.now in
     let start = c.loop-end.start in
     let end = c.loop-end.end in

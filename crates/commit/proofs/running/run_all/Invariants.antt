@@ -8,11 +8,11 @@ abbrev pub invariant-loop-end : goal.invariant-loop-end
 invariant-loop-end g l = record {
   order : l.start ≤ l.end;
   within : l.end ≤ length l.blocks;
-  runs : RunsTo l.means.channel.now (g.V.Verify.accepts l.means.verifier.now) l.fn.published (take l.start l.blocks) l.answers.items l.published;
-  ahead : IsAhead l.means.channel.now (g.V.Verify.accepts l.means.verifier.now) (take (l.end - l.start) (drop l.start l.blocks)) l.ahead;
+  runs : RunsTo l.context.channel.now (g.V.Verify.accepts l.context.verifier.now) l.fn.published (take l.start l.blocks) l.answers.items l.published;
+  ahead : IsAhead l.context.channel.now (g.V.Verify.accepts l.context.verifier.now) (take (l.end - l.start) (drop l.start l.blocks)) l.ahead;
   count : vec_len l.answers ≡ l.start;
   room : length l.blocks ≤ vec_capacity l.answers;
-  belongs : BelongsTo l.means.channel.now l.published;
+  belongs : BelongsTo l.context.channel.now l.published;
 }
 
 abbrev pub decreases-loop-end : goal.decreases-loop-end

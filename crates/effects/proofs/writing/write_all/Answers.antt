@@ -17,7 +17,7 @@ loop-place-init c = record {
   real = λ h. h;
   keys = λ h. h;
   count = refl;
-  entries = sym (append-nil (entries_in c.args.entries.now.items));
+  entries = sym (append-nil (entries_in c.args.all.now.entries.items));
 }
 
 pub write_one-requires-clause-place : goal.write_one-requires-clause-place
@@ -32,16 +32,16 @@ loop-place-preserved c = record {
       let ws : List WrittenKey = c.args.open_tx.now.written.items in
       c.in_ok-write_one.ensures.rows (with_writes v s (take c.loop-place.place ws)) (c.loop-place.invariant.rows s shows) n k at
       ∙ ap (λ (t : State). get t k)
-      (next_written (record { block = c.number.result; tx = c.args.i }) v s ws c.as_slice-written-items.result.now c.loop-place.place c.written-item.result
-      (λ m. record { block = c.number.ensures m; tx = c.args.i }) c.as_slice-written-items.ensures.value c.loop-place-test.true c.written-item.is);
+      (next_written c.in_ok-writer.writer.version v s ws c.as_slice-written-items.result.now c.loop-place.place c.written-item.result
+      c.in_ok-writer.ensures.version c.as_slice-written-items.ensures.value c.loop-place-test.true c.written-item.is);
   real = λ h. c.in_ok-write_one.ensures.real (c.loop-place.invariant.real h);
   keys = λ h. c.in_ok-write_one.ensures.keys (c.loop-place.invariant.keys h);
   count = c.in_ok-write_one.ensures.count ∙ c.loop-place.invariant.count;
   entries =
-      c.in_ok-write_one.ensures.entries ∙ ap (λ (id : List ℕ). entries_in c.loop-place.entries.items ++ entry_written (record { block = c.number.result; tx = c.args.i }) id c.written-item.result) c.in_ok-id.ensures
-      ∙ ap (λ l. l ++ entry_written (record { block = c.number.result; tx = c.args.i }) c.args.open_tx.now.tx.id c.written-item.result) c.loop-place.invariant.entries
-      ∙ next_entries (record { block = c.number.result; tx = c.args.i }) (version_of c.args.job.now c.args.i) c.args.open_tx.now.tx.id (entries_in c.args.entries.now.items) c.args.open_tx.now.written.items c.as_slice-written-items.result.now c.loop-place.place
-      c.written-item.result (λ m. record { block = c.number.ensures m; tx = c.args.i }) c.as_slice-written-items.ensures.value c.loop-place-test.true c.written-item.is;
+      c.in_ok-write_one.ensures.entries ∙ ap (λ (id : List ℕ). entries_in c.loop-place.all.entries.items ++ entry_written c.in_ok-writer.writer.version id c.written-item.result) c.in_ok-writer.ensures.id
+      ∙ ap (λ l. l ++ entry_written c.in_ok-writer.writer.version c.args.open_tx.now.tx.id c.written-item.result) c.loop-place.invariant.entries
+      ∙ next_entries c.in_ok-writer.writer.version (version_of c.args.job.now c.args.i) c.args.open_tx.now.tx.id (entries_in c.args.all.now.entries.items) c.args.open_tx.now.written.items c.as_slice-written-items.result.now c.loop-place.place
+      c.written-item.result c.in_ok-writer.ensures.version c.as_slice-written-items.ensures.value c.loop-place-test.true c.written-item.is;
 }
 
 pub returns-clause-rows : goal.returns-clause-rows
@@ -55,5 +55,5 @@ pub returns-clause-entries : goal.returns-clause-entries
 returns-clause-entries c =
     let are = c.as_slice-written-items.ensures.value in
     c.loop-place.invariant.entries
-    ∙ ap (λ (l : List WrittenKey). entries_in c.args.entries.now.items ++ entries_written (version_of c.args.job.now c.args.i) c.args.open_tx.now.tx.id l)
+    ∙ ap (λ (l : List WrittenKey). entries_in c.args.all.now.entries.items ++ entries_written (version_of c.args.job.now c.args.i) c.args.open_tx.now.tx.id l)
     (ap (take c.loop-place.place) (sym are) ∙ take_all c.loop-place.place c.as_slice-written-items.result.now c.loop-place-test.false ∙ are)

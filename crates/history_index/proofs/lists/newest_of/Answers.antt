@@ -1,5 +1,5 @@
 use Rattle.std.proofs.Common.{◌≡◌, ◌-◌, false, get_or, take, sym, ap, ◌∙◌, arith}
-use Rattle.hash_index.specs.Places.{last_with}
+use Rattle.history_index.specs.Places.{last_with}
 use Rattle.rules.specs.declared.delta.NewEntry.{NewEntry}
 use Rattle.rules.specs.State.{is_same_key}
 use Rattle.rules.proofs.Keys.{same_key_is}

@@ -3,7 +3,7 @@ use Rattle.std.specs.Iterator.Adapters.{zip_first, zip_second}
 use Rattle.std.specs.Slice.Iter.{iter_rest}
 use Rattle.std.specs.Vec.Iter.{into_iter_items}
 use Rattle.candidates.specs.Seen.{seen}
-use Rattle.intake.specs.Foreseen.{marked}
+use Rattle.intake.specs.Tentative.{marked}
 use Rattle.intake.proofs.placing.marked.Given as goal
 
 abbrev pub invariant-loop-candidate : goal.invariant-loop-candidate

@@ -15,7 +15,7 @@ of_second (Err e) b P same holds = absurd same
 
 pub returns-clause-taken : goal.returns-clause-taken
 returns-clause-taken g c =
-    let as_taken = taken_of c.args.channel.now (g.V.Verify.accepts c.args.verifier.now) in
+    let as_taken = taken_of c.args.rules.now.channel.now (g.V.Verify.accepts c.args.rules.now.verifier.now) in
     let made = c.made_beside-made.result.0 in
     let AreTaken : List Handed → Vec (Vec Taken Global) Global → Type 0 = λ blocks lists. map shown (all_taken lists.items) ≡ map as_taken (items_of_all blocks) in
     let all : IfOk made (λ m. AreTaken c.args.blocks.items m.1) =

@@ -12,6 +12,6 @@ abbrev pub invariant-loop-i : goal.invariant-loop-i
 invariant-loop-i l = record {
   board : l.board ≡ l.initial.board;
   count : length l.reasons.items ≡ l.i;
-  each : (accepts : Accepts) → l.job ≡ job_of l.channel accepts l.world (map (item_of l.version) l.txs) → l.ids ≡ map (used_id l.channel accepts) (map (item_of l.version) l.txs)
-      → (n : ℕ) (r : Reason) → slice_get l.reasons.items n ≡ Some r → IsReason l.channel accepts l.world (map (item_of l.version) l.txs) n r;
+  each : (accepts : Accepts) → l.grounds.job.now ≡ job_of l.grounds.channel.now accepts l.grounds.world.now (map (item_of l.grounds.version) l.grounds.txs.now) → l.grounds.ids.now ≡ map (used_id l.grounds.channel.now accepts) (map (item_of l.grounds.version) l.grounds.txs.now)
+      → (n : ℕ) (r : Reason) → slice_get l.reasons.items n ≡ Some r → IsReason l.grounds.channel.now accepts l.grounds.world.now (map (item_of l.grounds.version) l.grounds.txs.now) n r;
 }

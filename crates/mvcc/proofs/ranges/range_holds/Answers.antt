@@ -10,5 +10,5 @@ range_over-requires-clause-stop g c = rows_stop c.args.namespace.now c.args.rang
 pub returns-clause-decision : goal.returns-clause-decision
 returns-clause-decision g c =
     let known = g.B.Board.known c.range_over.new.board in
-    decided_range c.args.job.now c.args.namespace.now c.args.range.now c.rows_between-rows.result c.keys_between-keys.result.now c.rows_between-rows.ensures c.keys_between-keys.ensures.operated
+    decided_range c.args.job.now c.args.namespace.now c.args.range.now c.rows_between-rows.result c.keys_between-written.result.now c.rows_between-rows.ensures c.keys_between-written.ensures.operated
     (valid_in known) c.args.i (WaitsFor c.args.job.now known c.args.i (range_at c.args.namespace.now c.args.range.now)) c.range_over.result c.requires.in_form c.range_over.ensures.decision

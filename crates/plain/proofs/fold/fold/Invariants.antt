@@ -4,4 +4,4 @@ use Rattle.plain.specs.Taking.{IsRunning}
 use Rattle.plain.proofs.fold.fold.Given as goal
 
 abbrev pub invariant-loop-tx : goal.invariant-loop-tx
-invariant-loop-tx l = IsRunning (job_over (option_copied l.admin) l.definitions l.block l.world.state l.candidates) l.tx l.running
+invariant-loop-tx l = IsRunning (job_over (option_copied l.admin) l.world.definitions l.block l.world.state l.candidates) l.tx l.running

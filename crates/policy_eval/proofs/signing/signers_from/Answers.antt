@@ -18,10 +18,10 @@ loop-endorsement-preserved g c =
           let answer = w.in_ok-has_signed.ensures in
           record {
             so_far = rw w.identities-is (
-                signed_newly accepts body es i e w.again.result signers w.push.new.self.items c.loop-endorsement-test.true c.endorsement-item.is before.so_far (found ∙ w.if-not-contains.true)
+                signed_newly accepts body es i e w.reborrow.result signers w.push.new.self.items c.loop-endorsement-test.true c.endorsement-item.is before.so_far (found ∙ w.if-not-contains.true)
                 (accepted_is accepts body e _ w.in_ok-has_signed.field-0 before.front answer.value ∙ w.if-branch.true)
-                w.again.ensures w.in_ok-push.ensures.items);
-            few = rw (w.identities-is, w.in_ok-push.ensures.items) (omega (arith, before.few, length-append signers (w.again.result ∷ [])));
+                w.reborrow.ensures w.in_ok-push.ensures.items);
+            few = rw (w.identities-is, w.in_ok-push.ensures.items) (omega (arith, before.few, length-append signers (w.reborrow.result ∷ [])));
             front = rw w.message-is (answer.kept ∙ before.front);
             long = rw w.message-is answer.long;
           }

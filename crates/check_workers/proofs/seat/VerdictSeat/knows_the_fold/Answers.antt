@@ -8,4 +8,4 @@ pub returns : goal.returns
 returns c =
     let sits = c.self.invariant.1 in
     subst (λ (v : View). Within v.known (verdict_word v.job)) c.self.view_is
-    (subst (λ (j : Job). Within c.self.inside.place.me.0.known (verdict_word j)) (sym sits.job) sits.fold)
+    (subst (λ (j : Job). Within c.self.inside.own.me.0.known (verdict_word j)) (sym sits.job) sits.fold)

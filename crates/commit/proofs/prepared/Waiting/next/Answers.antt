@@ -1,6 +1,6 @@
 use Rattle.std.proofs.Common.{sym, subst}
 use Rattle.std.specs.Vec.Iter.{into_iter_items}
-use Rattle.block_steps.specs.OnItsWay.{IsDecoded}
+use Rattle.linking.specs.OnItsWay.{IsDecoded}
 use Rattle.intake_workers.specs.Made.{block_in}
 use Rattle.intake_workers.specs.Pieces.{all_taken}
 use Rattle.commit.specs.Prepared.{Waits}

@@ -7,5 +7,5 @@ pub returns-in-Err-clause-next : goal.returns-in-Err-clause-next
 returns-in-Err-clause-next c channel accepts bytes blocks are w =
     subst (IsDrawnOr channel accepts bytes) c.in-Err.is (c.in_ok-drawn.ensures.next channel accepts bytes blocks are) w
 
-pub returns-in-Err-foreseen-clause-behind : goal.returns-in-Err-foreseen-clause-behind
-returns-in-Err-foreseen-clause-behind c channel accepts bytes blocks are = none_waiting channel accepts blocks c.none.result c.none.ensures
+pub returns-in-Err-tentative-clause-behind : goal.returns-in-Err-tentative-clause-behind
+returns-in-Err-tentative-clause-behind c channel accepts bytes blocks are = none_waiting channel accepts blocks c.none.result c.none.ensures

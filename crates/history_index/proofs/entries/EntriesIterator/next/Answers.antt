@@ -1,5 +1,5 @@
 use Rattle.std.proofs.Common.{◌≡◌, ℕ, ◌-◌, ◌≤◌, List, [], ◌∷◌, length, get_or, take, sym, ap, ◌∙◌, arith}
-use Rattle.hash_index.specs.Places.{last_with}
+use Rattle.history_index.specs.Places.{last_with}
 use Rattle.rules.specs.declared.delta.NewEntry.{NewEntry}
 use Rattle.rules.specs.State.{StateKey}
 use Rattle.history_index.specs.Lists.{all_entries, no_entry, hashes_of, entries_before, IsPlace}

@@ -1,4 +1,4 @@
-use Rattle.std.proofs.Common.{◌≡◌, [], ◌∷◌, ◌++◌, subst, ap, ◌∙◌, sym}
+use Rattle.std.proofs.Common.{◌≡◌, [], ◌∷◌, ◌++◌, refl, subst, ap, ◌∙◌, sym}
 use Rattle.left_right.specs.Sides.{view}
 use Rattle.rules.specs.World.{World}
 use Rattle.rules.specs.declared.delta.Delta.{Delta}
@@ -14,23 +14,21 @@ pub invariant_of-self-2 : goal.invariant_of-self-2
 invariant_of-self-2 g c =
     let was = c.self.inside in
     let delta = c.args.delta in
-    let made = c.in-Some.front in
-    let kept = c.again-2.result in
-    let given = c.again.result in
-    let shown = c.in-Ok-show.ensures in
+    let made = c.in-Ok-add.front in
+    let kept = c.again.result in
+    let added = c.in-Ok-add.ensures in
     let seat = view was.writer.desk.place in
-    let made_is : made ≡ record { book = was.front.book; list = was.front.list ++ delta ∷ [] } =
-    c.in-Some.ensures ∙ ap (λ d. record { book = was.front.book; list = was.front.list ++ d ∷ [] }) c.delta-4.ensures in
-    let kept_is = c.again-2.ensures in
+    let made_is : made ≡ record { book = was.front.book; list = was.front.list ++ delta ∷ [] } = added.front in
+    let kept_is = c.again.ensures in
     let linked : IsLinkedDelta (published_world (record { book = was.front.book; base = base_of seat; list = was.front.list; failed = was.failed })) delta =
     subst (λ (p : Publishing). IsLinkedDelta (published_world p) c.args.delta) (sym c.self.view_is) c.requires.linked in
-    let here : c.published-2.result.now ≡ was.writer.desk.shown.value.world = c.published-2.ensures ∙ (ap published_world (sym c.self.view_is) ∙ sym c.self.invariant.2.world) in
-    let are_behind : AreBehind was.writer.desk.shown.value.world delta c.in-Ok-definitions_behind.definitions =
-    subst (λ (w : World). AreBehind w delta c.in-Ok-definitions_behind.definitions) here
-    (subst (λ (d : Delta). AreBehind c.published-2.result.now d c.in-Ok-definitions_behind.definitions) c.delta-3.ensures c.in-Ok-definitions_behind.ensures) in
-    let on = shown_on was.front made kept delta made_is kept_is (base_of seat) given was.writer.desk.shown.value c.show.new.writer.desk.shown.value c.self.invariant.2 linked c.again.ensures c.in-Ok-definitions_behind.definitions are_behind shown.ok in (
+    let here : c.published.result.now ≡ was.writer.desk.shown.value.world = c.published.ensures ∙ (ap published_world (sym c.self.view_is) ∙ sym c.self.invariant.2.world) in
+    let are_behind : AreBehind was.writer.desk.shown.value.world delta c.in-Ok.made.definitions =
+    subst (λ (w : World). AreBehind w delta c.in-Ok.made.definitions) here
+    (subst (λ (d : Delta). AreBehind c.published.result.now d c.in-Ok.made.definitions) c.delta-2.ensures c.in-Ok.ensures.definitions) in
+    let on = shown_on was.front made kept delta made_is kept_is (base_of seat) made was.writer.desk.shown.value c.add.new.writer.desk.shown.value c.self.invariant.2 linked refl c.in-Ok.made.definitions are_behind added.ok in (
       c.self.invariant.0 ∙ ap (λ f. counter_of f.book) (sym (kept_is ∙ made_is)),
-      told_on was.front made kept delta made_is kept_is seat (view c.show.new.writer.desk.place) c.self.invariant.1 shown.place,
-      subst (λ (w : World). IsShown w kept c.show.new.writer.desk.shown.value) (ap base_of (sym shown.place)) on,
-      λ _. shown.none,
+      told_on was.front made kept delta made_is kept_is seat (view c.add.new.writer.desk.place) c.self.invariant.1 added.place,
+      subst (λ (w : World). IsShown w kept c.add.new.writer.desk.shown.value) (ap base_of (sym added.place)) on,
+      λ _. added.none,
     )

@@ -1,8 +1,0 @@
-use Rattle.std.proofs.Common.{take}
-use Rattle.std.specs.List.{flat_map}
-use Rattle.std.specs.Io.KnownBytes.{Appends}
-use Rattle.answer_lines.specs.BlockLines.{flag_word}
-use Rattle.answer_lines.proofs.block_lines.write_flags.Given as goal
-
-abbrev pub invariant-loop-flag : goal.invariant-loop-flag
-invariant-loop-flag g l = Appends (g.W.Write.contents l.fn.out) (g.W.Write.contents l.out) (flat_map flag_word (take l.flag-index l.flags))

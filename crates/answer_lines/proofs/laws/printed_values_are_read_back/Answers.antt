@@ -1,5 +1,0 @@
-use Rattle.answer_lines.proofs.ReadBack.{value_read_back}
-use Rattle.answer_lines.proofs.laws.printed_values_are_read_back.Goals as goal
-
-pub returns : goal.returns
-returns c = value_read_back c.printed_words_are_read_back.ensures

@@ -1,7 +1,0 @@
-use Rattle.std.proofs.Common.{◌≡◌, ◌++◌, ◌∷◌, [], take}
-use Rattle.std.specs.List.{flat_map}
-use Rattle.rules.specs.Flags.{number_of}
-use Rattle.block_steps.proofs.commit_hash.put_numbers.Given as goal
-
-abbrev pub invariant-loop-flag : goal.invariant-loop-flag
-invariant-loop-flag l = l.out.items ≡ l.fn.out.items ++ flat_map (λ f. number_of f ∷ []) (take l.flag-index l.flags)

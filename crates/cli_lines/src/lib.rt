@@ -1,0 +1,15 @@
+//! The lines in which the program `fabcommit` tells what a ledger holds and what came of a block: rows, entries of a
+//! history, accepted and refused blocks, and the reasons of flags.
+#![tactic(auto)]
+
+mod block_lines;
+mod line_fault;
+mod reason_lines;
+mod refusal;
+mod row_lines;
+
+pub use block_lines::{write_accepted, write_block, write_commit, write_hash, write_refused};
+pub use line_fault::LineFault;
+pub use reason_lines::{write_earlier, write_identity, write_reason};
+pub use refusal::Refusal;
+pub use row_lines::{write_definition, write_entry, write_height, write_row};

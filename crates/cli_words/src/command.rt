@@ -1,0 +1,154 @@
+use crate::definition::{DEFINITION, DefinitionQuery};
+use crate::draft::{DRAFT, Draft};
+use crate::explain::{EXPLAIN, Explain, asks_both_ways};
+use crate::get::GET;
+use crate::history::HISTORY;
+use crate::keyed::KeyedQuery;
+use crate::run::{RUN, Run};
+use crate::scan::{SCAN, Scan};
+use crate::show::{SHOW, Show};
+use clap::error::ErrorKind;
+use clap::{ArgMatches, Command, Error};
+use std::alloc::{AllocError, Global};
+use std::convert::AsStr;
+
+const NAME: &str = "fabcommit";
+
+// The program's own version, and the versions of blocks that it reads.
+const VERSION: &str = "0.2.0, for blocks of versions 1 and 2";
+
+const EXAMPLE: &str = "\
+Example, from a script to what its block leaves behind:
+  fabcommit draft --channel channel.txt --keys keys.txt script.txt block0.blk
+  fabcommit run --channel channel.txt --keys keys.txt block0.blk
+  fabcommit get --channel channel.txt --keys keys.txt --ns cc --key car1 \\
+    block0.blk
+
+The ledger lives in memory: each call hands its blocks in anew, from block 0
+on. `fabcommit help COMMAND` says what a command prints.
+
+Exit status:
+  0  all went well
+  1  a block was refused
+  2  the words are no command, one is a bad word, or the transaction to explain
+     isn't there
+  3  a file can't be read or written, or has a fault
+  4  memory ran out";
+
+/// What the words ask for.
+#[derive(Drop)]
+pub enum Asked<'a> {
+    Draft(Draft<'a>),
+    Run(Run<'a>),
+    Get(KeyedQuery<'a>),
+    Scan(Scan<'a>),
+    History(KeyedQuery<'a>),
+    Definition(DefinitionQuery<'a>),
+    Explain(Explain<'a>),
+    Show(Show<'a>),
+}
+
+// A function of its own, so that few exits own a command.
+fn with_subcommands<'a>(alloc: Global, command: Command<'a>) -> Result<Command<'a>, AllocError> {
+    let mut command = command;
+    for subcommand in [
+        &DRAFT,
+        &SHOW,
+        &RUN,
+        &GET,
+        &SCAN,
+        &HISTORY,
+        &DEFINITION,
+        &EXPLAIN,
+    ] {
+        command = command.subcommand(subcommand.command(alloc)?)?;
+    }
+    Ok(command)
+}
+
+fn command<'a>(alloc: Global) -> Result<Command<'a>, AllocError> {
+    let command = Command::new(alloc, NAME)
+        .bin_name(NAME)?
+        .version(VERSION)
+        .about("Commit blocks of a Hyperledger Fabric channel, and ask what they leave")
+        .after_help(EXAMPLE)
+        .subcommand_required(true);
+    with_subcommands(alloc, command)
+}
+
+/// The mistake of words that aren't UTF-8, with the program's usage. Needs memory for its text.
+pub fn not_text(alloc: Global) -> Result<Error, AllocError> {
+    let text = "invalid UTF-8 was detected in one or more arguments";
+    command(alloc)?.error(ErrorKind::ValueValidation, text)
+}
+
+// What is wrong with words that ask for nothing, though clap takes them.
+fn fault_of(matches: &ArgMatches<'_>) -> &'static str {
+    match matches.subcommand() {
+        Some(("explain", matches)) if asks_both_ways(matches) => "--tx and --id don't go together",
+        _ => "a number is written with digits alone",
+    }
+}
+
+impl<'a> Asked<'a> {
+    /// Whether nothing is to be shown while blocks are handed in.
+    pub fn is_quiet(&self) -> bool {
+        match self {
+            Asked::Draft(_) => true,
+            Asked::Show(words) => words.quiet,
+            Asked::Run(words) => words.paths.quiet,
+            Asked::Get(words) | Asked::History(words) => words.paths.quiet,
+            Asked::Scan(words) => words.paths.quiet,
+            Asked::Definition(words) => words.paths.quiet,
+            Asked::Explain(words) => words.paths.quiet,
+        }
+    }
+
+    /// What the words ask for, of which the first is the program's name. An `Err` says why they are no command, holds
+    /// the help that they ask for, or is want of memory. The memory is linear in the words.
+    pub fn from_words<S: AsStr>(alloc: Global, words: &'a [S]) -> Result<Asked<'a>, Error> {
+        let mut command = command(alloc)?;
+        Asked::of_command(alloc, &mut command, words)
+    }
+
+    fn of_command<S: AsStr>(
+        alloc: Global,
+        command: &mut Command<'a>,
+        words: &'a [S],
+    ) -> Result<Asked<'a>, Error> {
+        let matches = command.try_get_matches_from_mut(words)?;
+        Asked::of_matches(alloc, command, &matches)
+    }
+
+    fn of_matches(
+        alloc: Global,
+        command: &mut Command<'a>,
+        matches: &ArgMatches<'a>,
+    ) -> Result<Asked<'a>, Error> {
+        match Asked::from_matches(alloc, matches)? {
+            Some(asked) => Ok(asked),
+            // all else is required, or looked at by clap
+            None => Err(command.error(ErrorKind::ValueValidation, fault_of(matches))?),
+        }
+    }
+
+    fn from_matches(
+        alloc: Global,
+        matches: &ArgMatches<'a>,
+    ) -> Result<Option<Asked<'a>>, AllocError> {
+        let Some((name, matches)) = matches.subcommand() else {
+            return Ok(None);
+        };
+        Ok(match name {
+            "draft" => Draft::from_matches(matches).map(Asked::Draft),
+            "run" => Run::from_matches(alloc, matches)?.map(Asked::Run),
+            "get" => KeyedQuery::from_matches(alloc, matches)?.map(Asked::Get),
+            "scan" => Scan::from_matches(alloc, matches)?.map(Asked::Scan),
+            "history" => KeyedQuery::from_matches(alloc, matches)?.map(Asked::History),
+            "definition" => DefinitionQuery::from_matches(alloc, matches)?.map(Asked::Definition),
+            "explain" => Explain::from_matches(alloc, matches)?.map(Asked::Explain),
+            "show" => Some(Asked::Show(Show::from_matches(alloc, matches)?)),
+            _ => None,
+        })
+    }
+}

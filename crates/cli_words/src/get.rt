@@ -1,0 +1,20 @@
+//! The words of `get`, which are those of a `KeyedQuery`.
+use crate::arguments::{KEY, NAMESPACE};
+use crate::paths::{ANY_BLOCKS, CHANNEL, KEYS, QUIET};
+use crate::subcommand::Subcommand;
+
+pub(crate) static GET: Subcommand = Subcommand {
+    name: "get",
+    about: "Look up what a key holds",
+    example: "\
+Example:
+  fabcommit get --channel channel.txt --keys keys.txt --ns cc --key car1 \\
+    block0.blk block1.blk
+
+  height H               how many blocks were accepted
+  row KEY BLOCK TX VALUE POLICY
+                         the block and transaction that wrote it last; - is no
+                         own policy
+  absent                 in the row's place, where there is none",
+    arguments: &[CHANNEL, KEYS, NAMESPACE, KEY, QUIET, ANY_BLOCKS],
+};

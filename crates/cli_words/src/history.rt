@@ -1,0 +1,20 @@
+//! The words of `history`, which are those of a `KeyedQuery`.
+use crate::arguments::{KEY, NAMESPACE};
+use crate::paths::{ANY_BLOCKS, CHANNEL, KEYS, QUIET};
+use crate::subcommand::Subcommand;
+
+pub(crate) static HISTORY: Subcommand = Subcommand {
+    name: "history",
+    about: "See all that was written to a key, newest first",
+    example: "\
+Example:
+  fabcommit history --channel channel.txt --keys keys.txt --ns cc --key car1 \\
+    block0.blk block1.blk
+
+  height H               how many blocks were accepted
+  entry BLOCK TX ID VALUE
+                         a value that was written, with the transaction's place
+                         and id
+  entry BLOCK TX ID deleted",
+    arguments: &[CHANNEL, KEYS, NAMESPACE, KEY, QUIET, ANY_BLOCKS],
+};

@@ -1,0 +1,63 @@
+ghost use Rattle.std.specs.Prelude.{⊤, ℕ, List, IfOk};
+
+use std::alloc::Global;
+use std::fs::File;
+use std::io;
+use std::io::{Read, Write};
+use values::Bytes;
+
+/// Why a file wasn't read or written: the system refused it, or memory ran out.
+#[derive(Clone, Copy, Debug, PartialEq, Eq)]
+pub enum FileFault {
+    Inaccessible,
+    Memory,
+}
+
+impl From<io::Error> for FileFault {
+    fn from(error: io::Error) -> FileFault {
+        match error.kind() {
+            io::ErrorKind::OutOfMemory => FileFault::Memory,
+            _ => FileFault::Inaccessible,
+        }
+    }
+}
+
+/// Where the program's files lie.
+pub trait Files {
+    // That a file's whole content may be these bytes. Who says nothing of it can still be read by its paths alone.
+    ghost holds: { Self → List ℕ → List ℕ → Type 0 } = { λ _ _ _. ⊤ };
+
+    /// The whole content of the file of this path. The memory is linear in it.
+    fn read(&self, alloc: Global, path: &str) -> Result<Bytes, FileFault>
+        ensures { IfOk result (λ bytes. holds self.now path.now bytes) };
+
+    /// Makes these bytes the file's whole content, whether there was a file of this path or not.
+    /// After an error nothing is known of what it holds.
+    fn write(&self, path: &str, bytes: &[u8]) -> Result<(), FileFault>;
+}
+
+/// The files of the system that the process runs on.
+#[derive(Drop)]
+pub struct DiskFiles<'a, R> {
+    rt: &'a R,
+}
+
+impl<'a, R> DiskFiles<'a, R> {
+    /// The files that this handle reaches.
+    pub fn new(rt: &'a R) -> DiskFiles<'a, R> {
+        DiskFiles { rt }
+    }
+}
+
+impl<R: std::rt::Files> Files for DiskFiles<'_, R> {
+    fn read(&self, alloc: Global, path: &str) -> Result<Bytes, FileFault> {
+        let mut bytes = Vec::new(alloc);
+        File::open(self.rt, path)?.read_to_end(&mut bytes)?;
+        Ok(Bytes::from_vec(bytes))
+    }
+
+    fn write(&self, path: &str, bytes: &[u8]) -> Result<(), FileFault> {
+        File::create(self.rt, path)?.write_all(bytes)?;
+        Ok(())
+    }
+}

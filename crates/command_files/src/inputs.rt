@@ -1,0 +1,102 @@
+//! What the files hold, each read and checked before the next.
+ghost use Rattle.std.specs.Prelude.{IfOk};
+ghost use Rattle.command_files.specs.Reading.{AreHeld};
+
+use crate::fault::Fault;
+use crate::files::Files;
+use channel::Channel;
+use cli_words::{ConfigurationPaths, LedgerPaths};
+use key_book::KeyBook;
+use std::alloc::Global;
+use text_lines::text_of;
+use values::Bytes;
+
+/// What each subcommand begins with.
+#[derive(Drop)]
+pub struct Configuration {
+    pub channel: Channel,
+    pub keys: KeyBook,
+}
+
+/// What a ledger is made of.
+#[derive(Drop)]
+pub struct Inputs {
+    pub configuration: Configuration,
+    pub blocks: Vec<Bytes>,
+}
+
+/// What the file of this path holds. An `Err` names the path, or is want of memory, which is linear in the file.
+pub fn read_file<'a, F: Files>(alloc: Global, files: &F, path: &'a str) -> Result<Bytes, Fault<'a>>
+    ensures { IfOk result (λ bytes. F.holds files.now path.now bytes) }
+{
+    files
+        .read(alloc, path)
+        .map_err(|fault| Fault::of_file(path, fault))
+}
+
+/// The text in the bytes of the file of this path. An `Err` is the first line that isn't UTF-8, which so goes before
+/// every other fault of the file. Takes no memory.
+pub fn text_in<'a, 'b>(path: &'a str, bytes: &'b Bytes) -> Result<&'b str, Fault<'a>> {
+    text_of(bytes.as_slice()).map_err(|line| Fault::Line(path, line))
+}
+
+fn read_channel<'a, F: Files>(
+    alloc: Global,
+    files: &F,
+    path: &'a str,
+) -> Result<Channel, Fault<'a>> {
+    let bytes = read_file(alloc, files, path)?;
+    Channel::read(alloc, text_in(path, &bytes)?).map_err(|fault| Fault::of_channel(path, fault))
+}
+
+fn read_keys<'a, F: Files>(alloc: Global, files: &F, path: &'a str) -> Result<KeyBook, Fault<'a>> {
+    let bytes = read_file(alloc, files, path)?;
+    KeyBook::read(alloc, text_in(path, &bytes)?).map_err(|fault| Fault::of_key_book(path, fault))
+}
+
+impl Configuration {
+    /// Reads the channel and then the keys, and ends at the first fault. The memory is linear in the files' bytes.
+    pub fn read<'a, F: Files>(
+        alloc: Global,
+        files: &F,
+        paths: &ConfigurationPaths<'a>,
+    ) -> Result<Configuration, Fault<'a>> {
+        let channel = read_channel(alloc, files, paths.channel)?;
+        let keys = read_keys(alloc, files, paths.keys)?;
+        Ok(Configuration { channel, keys })
+    }
+}
+
+/// What the files of these paths hold, in their order. Ends at the first fault. The memory is linear in their bytes.
+pub fn read_files<'a, F: Files>(
+    alloc: Global,
+    files: &F,
+    paths: &Vec<&'a str>,
+) -> Result<Vec<Bytes>, Fault<'a>>
+    ensures { IfOk result (λ all. AreHeld (λ path. F.holds files.now path.now) paths.now.items all.items) }
+{
+    let mut all = Vec::new(alloc);
+    for path in paths {
+        all.push(read_file(alloc, files, path)?)?;
+    }
+    Ok(all)
+}
+
+impl Inputs {
+    /// Reads the channel, the keys, and the blocks in their order, and ends at the first fault. The memory is linear in
+    /// the files' bytes.
+    pub fn read<'a, F: Files>(
+        alloc: Global,
+        files: &F,
+        paths: &LedgerPaths<'a>,
+    ) -> Result<Inputs, Fault<'a>>
+        ensures { IfOk result (λ inputs. AreHeld (λ path. F.holds files.now path.now) paths.now.blocks.items inputs.blocks.items) }
+    {
+        let configuration = Configuration::read(alloc, files, &paths.configuration)?;
+        let blocks = read_files(alloc, files, &paths.blocks)?;
+        Ok(Inputs {
+            configuration,
+            blocks,
+        })
+    }
+}

@@ -1,0 +1,5 @@
+mod Counting
+mod Lines
+mod Ranked
+mod Sums
+mod Rows

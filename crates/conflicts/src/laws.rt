@@ -1,0 +1,28 @@
+ghost use Rattle.std.specs.Prelude.{◌≡◌, ◌+◌, List, ◌++◌, length};
+ghost use Rattle.std.specs.List.{sum_by, count_by};
+ghost use Rattle.reasons.specs.declared.reason.Reason.{Reason};
+ghost use Rattle.rules.specs.declared.flag.Flag.{Flag};
+ghost use Rattle.rules.specs.State.{StateKey, is_same_key};
+ghost use Rattle.conflicts.specs.declared.conflict.Conflict.{Conflict};
+ghost use Rattle.conflicts.specs.Conflict.{conflicts_of};
+ghost use Rattle.conflicts.specs.FlagCounts.{with_flag};
+ghost use Rattle.conflicts.specs.KeyCounts.{counts_of, total_of};
+ghost use Rattle.conflicts.specs.Laws.{all_flags, together};
+
+/// A law, and no work: each transaction is counted under one flag, so that the flags' counts add up to the
+/// transactions.
+pub fn flags_add_up()
+    ensures { (reasons : List Reason) → sum_by (λ flag. with_flag flag reasons) all_flags ≡ length reasons }
+{}
+
+/// A law, and no work: what is counted of one chain behind another is the sum of what is counted of each.
+pub fn chains_add_up()
+    ensures flags { (first second : List Reason) (flag : Flag) → with_flag flag (first ++ second) ≡ with_flag flag first + with_flag flag second }
+    ensures keys { (first second : List Reason) (k : StateKey)
+        → counts_of k (conflicts_of (first ++ second)) ≡ together (counts_of k (conflicts_of first)) (counts_of k (conflicts_of second)) }
+{}
+
+/// A law, and no work: each conflict counts once at its key, under one kind, and nowhere else.
+pub fn conflicts_count_once()
+    ensures { (k : StateKey) (conflicts : List Conflict) → total_of (counts_of k conflicts) ≡ count_by (λ c. is_same_key c.key k) conflicts }
+{}

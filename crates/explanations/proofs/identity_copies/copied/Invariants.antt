@@ -1,5 +1,0 @@
-use Rattle.std.proofs.Common.{◌≡◌, take}
-use Rattle.explanations.proofs.identity_copies.copied.Given as goal
-
-abbrev pub invariant-loop-identity : goal.invariant-loop-identity
-invariant-loop-identity l = l.copied.items ≡ take l.identity-index l.identities

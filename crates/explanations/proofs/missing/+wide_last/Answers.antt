@@ -1,9 +1,0 @@
-use Rattle.std.proofs.Common.{ap, arith}
-use Rattle.policy.specs.Tree.{size_of}
-use Rattle.policy_eval.proofs.Counting.{size_of-member}
-use Rattle.explanations.proofs.missing.+wide_last.Goals as goal
-
-pub count_others-holds_wide_last-requires : goal.count_others-holds_wide_last-requires
-count_others-holds_wide_last-requires t c =
-    let smaller = size_of-member c.args.members.now c.loop-member.member-index c.member-item.result c.loop-member-test.true in
-    (omega (arith, smaller, ap size_of c.member-item.is), omega arith)

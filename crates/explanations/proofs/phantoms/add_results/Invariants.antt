@@ -1,5 +1,0 @@
-use Rattle.std.proofs.Common.{◌≡◌, ◌++◌, map, take}
-use Rattle.explanations.proofs.phantoms.add_results.Given as goal
-
-abbrev pub invariant-loop-found : goal.invariant-loop-found
-invariant-loop-found l = l.keys.items ≡ l.initial.keys.items ++ map (λ x. x.key) (take l.found-index l.results)

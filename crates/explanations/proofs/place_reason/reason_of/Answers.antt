@@ -1,7 +1,0 @@
-use Rattle.std.proofs.Common.{List, length, sym, ap, ◌∙◌}
-use Rattle.rules.specs.declared.flag.Flag.{Flag}
-use Rattle.rules.proofs.BlockFlags.{length-flags}
-use Rattle.explanations.proofs.place_reason.reason_of.Goals as goal
-
-pub reason_in_bytes-requires-clause-flags : goal.reason_in_bytes-requires-clause-flags
-reason_in_bytes-requires-clause-flags c = ap (λ (l : List Flag). length l) c.requires.flags ∙ length-flags c.args.job.now ∙ sym c.requires.ids

@@ -1,4 +1,0 @@
-pub mod Places
-mod Chains
-mod Linking
-mod Worked

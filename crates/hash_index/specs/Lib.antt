@@ -1,3 +1,0 @@
-pub mod Hashed
-pub mod Places
-pub mod Buckets

@@ -1,6 +1,0 @@
-use Rattle.std.proofs.Common.{sym, ◌∙◌}
-use Rattle.next_block.proofs.Marking.{unmarked-stay}
-use Rattle.next_block.proofs.foreseen.with_marks.Goals as goal
-
-pub returns-then-not-is_any : goal.returns-then-not-is_any
-returns-then-not-is_any c = sym (unmarked-stay c.args.chained c.args.used.now c.requires.count (sym c.is_any.ensures ∙ c.if-not-is_any.true))

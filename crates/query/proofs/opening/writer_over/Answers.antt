@@ -1,0 +1,6 @@
+use Rattle.std.proofs.Common.{ap, ◌∙◌}
+use Rattle.query.proofs.Keeping.{starts}
+use Rattle.query.proofs.opening.writer_over.Goals as goal
+
+pub new-requires-clause-rule : goal.new-requires-clause-rule
+new-requires-clause-rule c = starts _ (ap (λ f. f.list) c.again.ensures ∙ c.requires.empty)
