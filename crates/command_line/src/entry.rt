@@ -40,16 +40,17 @@ fn status_of<E: Write>(ended: Result<u8, Fault<'_>>, err: &mut E) -> u8 {
 }
 
 /// The program `fabcommit` on these words, of which the first is its own name. Returns what the process is to end with:
-/// 0 where every block was accepted or one was drafted and for help; 1 where a block was refused; 2 where the words are
-/// no command, one is a bad word, or the transaction to explain isn't there; 3 where a file or `out` is at fault; 4
-/// where memory ran out.
+/// 0 where every block was accepted or shown, or one was drafted, and for help; 1 where a block was refused, or a file
+/// that is to be shown is no block; 2 where the words are no command, one is a bad word, or the transaction to explain
+/// isn't there; 3 where a file or `out` is at fault; 4 where memory ran out.
 ///
 /// The words are read first, then all files. Then the blocks are handed in, up to 16 at once by `run` and else one by
 /// one; or they are shown, or one is drafted. Lines and help go to `out`, and a fault's line to `err`, where a write
 /// that fails changes nothing. `progress` is told how many blocks are in, unless the words ask for silence.
 ///
-/// The memory is the files' bytes, what the ledger or the committer keeps, what one block takes (with `run` two), and a
-/// buffer of a fixed size. `run` alone has threads, which have ended when this returns.
+/// The memory is the files' bytes, what the ledger or the committer keeps, what one block takes (with `run` those that
+/// [`commit::Committer::run`] takes in ahead), and a buffer of a fixed size. `run` alone has threads, which have ended
+/// when this returns.
 pub fn program<R, S, F, O, E, P>(
     rt: &R,
     words: &[S],

@@ -58,7 +58,7 @@ fn commit_while_asked<'a, 's, E, R: Threads + Wait + Sync, W: Write, P: Progress
     Ok((readers, committed))
 }
 
-// The same, and waits until the readers' threads have ended.
+// Starts the readers, commits while they ask, and waits until their threads have ended.
 fn commit_beside_readers<'a, R: Threads + Wait + Sync, W: Write, P: Progress>(
     rt: &R,
     alloc: Global,
@@ -108,7 +108,7 @@ fn write_lines<'a, R: Threads + Wait + Sync, W: Write, P: Progress>(
     Ok(committed.status)
 }
 
-// The same through a buffer.
+// All lines, through a buffer, which is ended behind them.
 fn write_through_buffer<'a, R: Threads + Wait + Sync, W: Write, P: Progress>(
     rt: &R,
     alloc: Global,
@@ -130,7 +130,7 @@ fn write_through_buffer<'a, R: Threads + Wait + Sync, W: Write, P: Progress>(
 
 /// Reads the files, hands the blocks in to a new committer, and writes a line for each, and then one for
 /// each reader. The memory is the files' bytes, of which those of 16 blocks are let go when these are done, what the
-/// committer keeps, what two blocks take, a buffer of a fixed size, and what threads take.
+/// committer keeps, what the blocks take that it takes in ahead, a buffer of a fixed size, and what threads take.
 pub(crate) fn run_blocks<
     'a,
     R: AllocGlobal + Threads + Wait + Sync,

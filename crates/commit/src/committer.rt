@@ -8,9 +8,8 @@ ghost use Rattle.commit.specs.Committing.{Submits, Runs};
 use crate::context::Context;
 use crate::not_committed::NotCommitted;
 use crate::opening::OpenFault;
-use crate::prepared::Ahead;
 use crate::published::Published;
-use crate::running::run_all;
+use crate::running::{lent, run_all};
 use crate::workers::Workers;
 use channel::{Channel, Configuration};
 use gates::Gate;
@@ -82,7 +81,7 @@ impl Committer {
         Ok((committer, handles))
     }
 
-    /// How many verdicts of the last accepted block no worker had found. It is 0 before the first.
+    /// How many verdicts of the last accepted block no worker had found; 0 before the first. No clause says it.
     pub fn gathered(&self) -> u32 {
         self.published.gathered()
     }
@@ -93,8 +92,8 @@ impl Committer {
     ///
     /// Where memory is refused while the block is published, the committer has stopped: what was published before
     /// stays, and it takes no block from then on. Tests alone show that all memory is had before that, so that it
-    /// doesn't come to this. Linear in the block and in what it writes; waits for its workers, and for queries that
-    /// have begun.
+    /// doesn't come to this. Linear in the block and in what it writes, with logarithms of its keys and of the state's
+    /// rows, beside what the checks cost; waits for its workers, and for queries that have begun.
     pub fn submit<R: Threads + Wait + Sync, V: Verify + Sync, G: Gate + Sync>(
         &mut self,
         rt: &R,
@@ -116,20 +115,19 @@ impl Committer {
             gate,
         };
         let prepared = self.published.take_in_next(&context, bytes);
-        let mut ahead = Ahead::none(self.alloc);
-        self.published
-            .commit(&context, self.workers, bytes, prepared, &mut ahead)
+        self.published.commit(&context, bytes, prepared)
     }
 
     /// Takes the bytes of blocks one after the other, and answers to each as [`Committer::submit`] would. An `Err` is
-    /// want of memory for the list of answers; no block was handed in then.
+    /// want of memory for the lists of blocks and answers; no block was handed in then.
     ///
-    /// While the calling thread commits blocks, the other workers take in those behind them, so that many blocks are
-    /// done sooner than by as many calls of `submit`. What was taken in of a block that isn't the next one goes for
-    /// nothing.
+    /// While the calling thread commits a block, threads take in those behind it, one each and as many as there are
+    /// workers, so that many blocks are done sooner than by as many calls of `submit`. What was taken in of a block that
+    /// isn't the next one goes for nothing.
     ///
-    /// Beside the answers it takes memory for what is taken in ahead: up to 2 MiB of blocks at a time, or one longer
-    /// block, each with a copy of its bytes. Where that is refused, these blocks are taken in once more, one by one.
+    /// Beside the answers it takes memory for what is taken in ahead: as many blocks as there are workers, each with a
+    /// copy of its bytes. Where that is refused, the block is taken in once more when its turn comes. A thread that can't be
+    /// started is done without.
     pub fn run<R: Threads + Wait + Sync, V: Verify + Sync, G: Gate + Sync>(
         &mut self,
         rt: &R,
@@ -140,6 +138,7 @@ impl Committer {
         ensures runs { IfOk result (λ answers. Runs (V.accepts verifier.now) self.old blocks.now answers.items self.new) }
         ensures err { OnErr result (self.new ≡ self.old) }
     {
+        let blocks = lent(self.alloc, blocks)?;
         let answers = Vec::with_capacity(self.alloc, blocks.len())?;
         let context = Context {
             rt,
@@ -149,11 +148,11 @@ impl Committer {
             verifier,
             gate,
         };
-        Ok(run_all(&context, &mut self.published, blocks, answers))
+        Ok(run_all(&context, &mut self.published, blocks.as_slice(), answers))
     }
 
-    /// Ends the committer, waits for queries that have begun, and answers what was published last: all that it had
-    /// published, and nothing more. Its handles get no entry from then on.
+    /// Ends the committer, and answers what was published last: all that it had published, and nothing more. It waits for
+    /// queries that have begun, and its handles get no entry from then on; no clause says either.
     pub fn close<R: Wait>(self, rt: &R) -> Front
         ensures { result ≡ record { book = self.book; list = self.list } }
     {

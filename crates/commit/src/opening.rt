@@ -3,7 +3,7 @@ ghost use Rattle.commit.specs.OpenFaults.{open_fault_of};
 
 use thiserror::Error;
 
-/// Why a committer isn't opened: the first that holds. Want of memory may come in the place of the last two.
+/// Why a committer isn't opened: the first that holds. No want of memory hides the first two.
 #[derive(Clone, Copy, Debug, PartialEq, Eq, Error)]
 pub enum OpenFault {
     /// Not 1 to 64 workers.
@@ -12,7 +12,7 @@ pub enum OpenFault {
     /// More than 32 readers.
     #[error("more than 32 readers")]
     Readers,
-    /// There was no place for a reader, which doesn't happen.
+    /// There was no place for a reader. The code comes to this nowhere; no clause says it.
     #[error("no place for a reader")]
     NoPlace,
     /// A growth was refused.

@@ -5,15 +5,14 @@ ghost use Rattle.query.specs.Limits.{max_readers};
 ghost use Rattle.query.specs.Published.{published_world};
 ghost use Rattle.query.specs.declared.opening.OpenFault.TheVariants as open_fault;
 ghost use Rattle.rules.specs.World.{empty_world};
-ghost use Rattle.commit.specs.Prepared.{IsTakenIn, MayWait, StaysAhead};
+ghost use Rattle.commit.specs.Prepared.{IsTakenIn, MayWait};
 ghost use Rattle.commit.specs.Running.{BelongsTo, SubmitsTo};
 
 use crate::by_workers::{next_delta, take_in_next};
 use crate::context::Context;
 use crate::hashing::hashed;
 use crate::not_committed::NotCommitted;
-use crate::prepared::{Ahead, Prepared};
-use crate::workers::Workers;
+use crate::prepared::Prepared;
 use gates::Gate;
 use policy::Definitions;
 use policy_eval::Verify;
@@ -75,11 +74,6 @@ impl Published {
         self.gathered
     }
 
-    /// How many pages the rows take.
-    pub(crate) fn pages(&self) -> usize {
-        self.publisher.published().state().pages()
-    }
-
     pub(crate) fn has_stopped(&self) -> bool
         ensures { result ≡ self.now.failed }
     {
@@ -98,8 +92,7 @@ impl Published {
         take_in_next(context, self.publisher.published(), bytes)
     }
 
-    /// The next block, where it was taken in together with others. Where it wasn't, for want of memory, it is taken in
-    /// now, alone.
+    /// The next block, where it was taken in ahead. Where it wasn't, it is taken in now.
     pub(crate) fn prepared<'b, R: Threads + Sync, V: Verify + Sync, G: Gate + Sync>(
         &self,
         context: &Context<'_, R, V, G>,
@@ -116,22 +109,18 @@ impl Published {
         }
     }
 
-    /// Commits and publishes the block that was taken in, which so many workers check, or refuses it and publishes
-    /// nothing. Where memory is refused while it is published, nothing more is from then on. The next block of those
-    /// ahead may be prepared meanwhile.
+    /// Commits and publishes the block that was taken in, or refuses it and publishes nothing. Where memory is refused
+    /// while it is published, nothing more is from then on.
     pub(crate) fn commit<R: Threads + Wait + Sync, V: Verify, G: Gate + Sync>(
         &mut self,
         context: &Context<'_, R, V, G>,
-        checkers: Workers,
         bytes: &[u8],
         prepared: Result<Prepared<'_>, Refused>,
-        ahead: &mut Ahead<'_>,
     ) -> Result<Receipt, NotCommitted>
         requires taken { IsTakenIn context.now.channel.now (V.accepts context.now.verifier.now) (published_world self.old) bytes.now prepared }
         requires belongs { BelongsTo context.now.channel.now self.old }
         ensures submits { SubmitsTo context.now.channel.now (V.accepts context.now.verifier.now) self.old bytes.now result self.new }
         ensures belongs { BelongsTo context.now.channel.now self.new }
-        ensures ahead { StaysAhead ahead.old ahead.new }
     {
         if self.publisher.failed() {
             return Err(NotCommitted::Stopped);
@@ -140,12 +129,11 @@ impl Published {
         let (pending, gathered) = next_delta(
             context,
             self.publisher.published(),
-            checkers,
             bytes,
             prepared?,
             &mut spent,
         )?;
-        let Ok(delta) = hashed(context, &mut self.publisher, pending, spent, ahead) else {
+        let Ok(delta) = hashed(context, &mut self.publisher, pending, spent) else {
             return Err(NotCommitted::Refused(Refused::Memory));
         };
         match self.publisher.publish_ready(context.rt, delta) {
@@ -158,8 +146,7 @@ impl Published {
         }
     }
 
-    /// Ends it, waits for queries that have begun, and answers what was published last. Handles get no entry from then
-    /// on.
+    /// Ends it as [`Publisher::close`] does, and answers what was published last.
     pub(crate) fn close<R: Wait>(self, rt: &R) -> Front
         ensures { result ≡ record { book = self.book; list = self.list } }
     {

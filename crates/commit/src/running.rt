@@ -1,180 +1,201 @@
-//! Blocks one after the other, some of which are committed while workers take in those behind them.
-ghost use Rattle.std.specs.Prelude.{◌≡◌, ◌+◌, ◌≤◌, ◌<◌, [], length};
+//! Blocks one after the other, which threads take in ahead.
+ghost use Rattle.std.specs.Prelude.{◌≡◌, ◌+◌, ◌<◌, ◌≤◌, ◌++◌, ◌∷◌, [], length, IfOk};
 ghost use Rattle.std.specs.Thread.{IsSync};
 ghost use Rattle.std.specs.Vec.{vec_len, vec_capacity};
 ghost use Rattle.rules.specs.World.{World};
-ghost use Rattle.commit.specs.Prepared.{IsAhead, MayWait, StaysAhead};
-ghost use Rattle.commit.specs.Running.{BelongsTo, RunsOn, RunsTo, SubmitsTo};
+ghost use Rattle.commit.specs.Prepared.{MayWait};
+ghost use Rattle.commit.specs.Running.{Answer, BelongsTo, RunsOn, SubmitsTo};
 
 use crate::context::Context;
 use crate::not_committed::NotCommitted;
-use crate::prepared::{Ahead, Prepared, take_in_ahead};
+use crate::prepared::Prepared;
 use crate::published::Published;
-use crate::workers::Workers;
 use gates::Gate;
+use lookahead::Ahead;
 use policy_eval::Verify;
 use query::Receipt;
 use rules::Refused;
+use std::alloc::{AllocError, Global};
 use std::sync::Wait;
-use std::thread::Threads;
-use values::Bytes;
+use std::thread;
+use std::thread::{Scope, Threads};
+use values::{Bytes, Slice};
 
 /// What a committer answers to a block.
 pub(crate) type Answer = Result<Receipt, NotCommitted>;
 
-// What workers take in at once has at most so many bytes, but at least one block: enough for them to be done with it at
-// nearly the same time, and few enough for the last blocks, which are committed with nobody else at work.
-const MOST_BYTES: usize = 2 << 20;
+/// Blocks that threads take in ahead.
+type BlocksAhead<'s, 'e, R, V, G> = Ahead<
+    's,
+    'e,
+    Slice<'e>,
+    Result<Prepared<'e>, Refused>,
+    Context<'e, R, V, G>,
+>;
 
-// What they take in first, while nothing is there to commit. Each time behind it they take in up to twice as much.
-const FIRST_BYTES: usize = MOST_BYTES / 8;
-
-/// How many of the next blocks are taken in at once: up to so many bytes. They are at most half of what is left, so
-/// that little is committed at last while no other block is taken in.
-fn next_count(blocks: &[Bytes], most_bytes: usize, workers: Workers) -> usize
-    ensures some { 0 < length blocks.now → 0 < result }
-    ensures fits { result ≤ length blocks.now }
+/// The bytes of all blocks, lent.
+pub(crate) fn lent<'b>(alloc: Global, blocks: &'b [Bytes]) -> Result<Vec<Slice<'b>>, AllocError>
+    ensures { IfOk result (λ all. all.items ≡ blocks.now) }
 {
-    if workers.count == 1 {
-        return blocks.len().min(1);
+    let mut all = Vec::with_capacity(alloc, blocks.len())?;
+    for bytes in blocks {
+        all.push(Slice::new(bytes.as_slice()))?;
     }
-    let half = blocks.len().div_ceil(2);
-    let mut bytes = 0usize;
-    for (count, block) in blocks.iter().enumerate() {
-        bytes = bytes.saturating_add(block.as_slice().len());
-        if count > 0 && (count >= half || bytes > most_bytes) {
-            return count;
-        }
-    }
-    blocks.len()
+    Ok(all)
 }
 
-/// Commits the next block, where it was taken in together with others. Where it wasn't, for want of memory, it is now,
-/// alone, so that none is refused for what another one took. Few workers check it where the others take in those behind
-/// it.
-fn commit_next<'b, R: Threads + Wait + Sync, V: Verify + Sync, G: Gate + Sync>(
-    context: &Context<'_, R, V, G>,
-    is_beside: bool,
-    published: &mut Published,
-    bytes: &'b [u8],
-    next: Option<Result<Prepared<'b>, Refused>>,
-    ahead: &mut Ahead<'b>,
-) -> Answer
-    requires waits { (w : World) → MayWait context.now.channel.now (V.accepts context.now.verifier.now) w bytes.now next }
-    requires belongs { BelongsTo context.now.channel.now published.old }
-    ensures submits { SubmitsTo context.now.channel.now (V.accepts context.now.verifier.now) published.old bytes.now result published.new }
-    ensures belongs { BelongsTo context.now.channel.now published.new }
-    ensures ahead { StaysAhead ahead.old ahead.new }
-{
-    let prepared = published.prepared(context, bytes, next);
-    let checkers = match &prepared {
-        Ok(prepared) if is_beside => context
-            .workers
-            .beside_intake(prepared.tentative.ids.len(), published.pages()),
-        _ => context.workers,
-    };
-    published.commit(context, checkers, bytes, prepared, ahead)
+/// What is published, and what was answered. That is a type parameter so that a proof sees what is left behind the borrow.
+#[derive(Drop)]
+pub(crate) struct RunOf<'p, A> {
+    pub(crate) published: &'p mut Published,
+    pub(crate) answers: A,
 }
 
-/// Commits blocks that were taken in.
-fn commit_all<'b, R: Threads + Wait + Sync, V: Verify + Sync, G: Gate + Sync>(
+type Run<'p> = RunOf<'p, Vec<Answer>>;
+
+impl<'p> RunOf<'p, Vec<Answer>> {
+    /// Commits the next block, where it was taken in ahead. Where it wasn't, for want of memory too, it is taken in now, alone,
+    /// so that none is refused for what another one took.
+    fn commit_next<'b, R: Threads + Wait + Sync, V: Verify + Sync, G: Gate + Sync>(
+        &mut self,
+        context: &Context<'_, R, V, G>,
+        bytes: &'b [u8],
+        next: Option<Result<Prepared<'b>, Refused>>,
+    )
+        requires waits { (w : World) → MayWait context.now.channel.now (V.accepts context.now.verifier.now) w bytes.now next }
+        requires room { vec_len self.old.answers < vec_capacity self.old.answers }
+        requires belongs { BelongsTo context.now.channel.now self.old.published.now }
+        ensures submits { (answer : Answer) × SubmitsTo context.now.channel.now (V.accepts context.now.verifier.now) self.old.published.now bytes.now answer self.new.published.now
+            × (self.new.answers.items ≡ self.old.answers.items ++ answer ∷ []) }
+        ensures count { vec_len self.new.answers ≡ vec_len self.old.answers + 1 }
+        ensures room { vec_capacity self.old.answers ≤ vec_capacity self.new.answers }
+        ensures belongs { BelongsTo context.now.channel.now self.new.published.now }
+        ensures lent { self.new.published.ghost_name ≡ self.old.published.ghost_name }
+    {
+        let prepared = self.published.prepared(context, bytes, next);
+        let answer = self.published.commit(context, bytes, prepared);
+        self.answers.push_reserved(answer);
+    }
+}
+
+/// Commits blocks, each of which all workers take in and check when its turn comes.
+fn commit_in_turn<R: Threads + Wait + Sync, V: Verify + Sync, G: Gate + Sync>(
     context: &Context<'_, R, V, G>,
-    is_beside: bool,
-    published: &mut Published,
-    blocks: &'b [Bytes],
-    ahead: &mut Ahead<'b>,
-    answers: &mut Vec<Answer>,
+    run: &mut Run<'_>,
+    blocks: &[Slice<'_>],
 )
-    requires ahead { IsAhead context.now.channel.now (V.accepts context.now.verifier.now) blocks.now ahead.old }
-    requires room { vec_len answers.old + length blocks.now ≤ vec_capacity answers.old }
-    requires belongs { BelongsTo context.now.channel.now published.old }
+    requires room { vec_len run.old.answers + length blocks.now ≤ vec_capacity run.old.answers }
+    requires belongs { BelongsTo context.now.channel.now run.old.published.now }
     ensures runs { RunsOn context.now.channel.now (V.accepts context.now.verifier.now)
-        blocks.now published.old answers.old.items published.new answers.new.items }
-    ensures count { vec_len answers.new ≡ vec_len answers.old + length blocks.now }
-    ensures room { vec_capacity answers.old ≤ vec_capacity answers.new }
-    ensures belongs { BelongsTo context.now.channel.now published.new }
+        blocks.now run.old.published.now run.old.answers.items run.new.published.now run.new.answers.items }
+    ensures belongs { BelongsTo context.now.channel.now run.new.published.now }
+    ensures lent { run.new.published.ghost_name ≡ run.old.published.ghost_name }
 {
     for bytes in blocks {
-        let next = ahead.next(context.alloc);
-        let answer = commit_next(context, is_beside, published, bytes.as_slice(), next, ahead);
-        answers.push_reserved(answer);
+        run.commit_next(context, bytes.as_slice(), None);
     }
 }
 
-/// Commits blocks while workers take in those behind them.
-fn commit_beside_intake<'b, R: Threads + Wait + Sync, V: Verify + Sync, G: Gate + Sync>(
-    context: &Context<'_, R, V, G>,
-    published: &mut Published,
-    blocks: &'b [Bytes],
-    ahead: Ahead<'b>,
-    behind: &'b [Bytes],
-    answers: &mut Vec<Answer>,
-) -> Ahead<'b>
-    requires ahead { IsAhead context.now.channel.now (V.accepts context.now.verifier.now) blocks.now ahead }
-    requires room { vec_len answers.old + length blocks.now ≤ vec_capacity answers.old }
+/// Commits blocks that threads take in ahead. They have the processors, so each block is checked by this one alone.
+fn commit_taken_in<'e, R: Threads + Wait + Sync, V: Verify + Sync, G: Gate + Sync>(
+    context: &'e Context<'e, R, V, G>,
+    run: &mut Run<'_>,
+    blocks: &'e [Slice<'e>],
+    ahead: &mut BlocksAhead<'_, 'e, R, V, G>,
+)
+    requires blocks { ahead.old.pieces.now ≡ blocks.now }
+    requires context { ahead.old.work.now ≡ context.now }
+    requires none { ahead.old.taken ≡ 0 }
+    requires room { vec_len run.old.answers + length blocks.now ≤ vec_capacity run.old.answers }
+    requires belongs { BelongsTo context.now.channel.now run.old.published.now }
+    ensures runs { RunsOn context.now.channel.now (V.accepts context.now.verifier.now)
+        blocks.now run.old.published.now run.old.answers.items run.new.published.now run.new.answers.items }
+    ensures belongs { BelongsTo context.now.channel.now run.new.published.now }
+    ensures lent { run.new.published.ghost_name ≡ run.old.published.ghost_name }
+{
+    let alone = context.alone();
+    for bytes in blocks {
+        let next = ahead.next(context.rt).ok();
+        run.commit_next(&alone, bytes.as_slice(), next);
+    }
+}
+
+/// Commits blocks, each of which a thread of its own takes in, as many at once as there are workers.
+fn commit_ahead<'p, 's, 'e, R: Threads + Wait + Sync, V: Verify + Sync, G: Gate + Sync>(
+    scope: &'s Scope<'s, &'e ()>,
+    context: &'e Context<'e, R, V, G>,
+    run: Run<'p>,
+    blocks: &'e [Slice<'e>],
+) -> Run<'p>
+    requires room { vec_len run.answers + length blocks.now ≤ vec_capacity run.answers }
+    requires belongs { BelongsTo context.now.channel.now run.published.now }
+    ensures runs { RunsOn context.now.channel.now (V.accepts context.now.verifier.now)
+        blocks.now run.entry.published.now run.entry.answers.items result.published.now result.answers.items }
+    ensures belongs { BelongsTo context.now.channel.now result.published.now }
+    ensures lent { result.published.ghost_name ≡ run.entry.published.ghost_name }
+{
+    let mut run = run;
+    let mut ahead = Ahead::new(scope, context.alloc, blocks, context, context.workers.count);
+    commit_taken_in(context, &mut run, blocks, &mut ahead);
+    run
+}
+
+/// Commits blocks that threads of a scope take in ahead.
+fn commit_in_scope<'p, 'e, R: Threads + Wait + Sync, V: Verify + Sync, G: Gate + Sync>(
+    context: &'e Context<'e, R, V, G>,
+    published: &'p mut Published,
+    blocks: &'e [Slice<'e>],
+    answers: Vec<Answer>,
+) -> Run<'p>
+    requires room { vec_len answers + length blocks.now ≤ vec_capacity answers }
     requires belongs { BelongsTo context.now.channel.now published.old }
     ensures runs { RunsOn context.now.channel.now (V.accepts context.now.verifier.now)
-        blocks.now published.old answers.old.items published.new answers.new.items }
-    ensures count { vec_len answers.new ≡ vec_len answers.old + length blocks.now }
-    ensures room { vec_capacity answers.old ≤ vec_capacity answers.new }
-    ensures belongs { BelongsTo context.now.channel.now published.new }
-    ensures ahead { IsAhead context.now.channel.now (V.accepts context.now.verifier.now) behind.now result }
+        blocks.now published.old answers.items result.published.now result.answers.items }
+    ensures belongs { BelongsTo context.now.channel.now result.published.now }
+    ensures lent { result.published.ghost_name ≡ published.entry.ghost_name }
 {
-    let mut ahead = ahead;
-    let mut commit = ||
-        requires { IsSync R.row × IsSync G.row
-            × IsAhead context.now.channel.now (V.accepts context.now.verifier.now) blocks.now ahead
-            × (vec_len answers.now + length blocks.now ≤ vec_capacity answers.now)
-            × BelongsTo context.now.channel.now published.now }
-        ensures runs { RunsOn context.entry.now.channel.now (V.accepts context.entry.now.verifier.now)
-            blocks.entry.now published.entry.now answers.entry.now.items published.exit.now answers.exit.now.items }
-        ensures count { vec_len answers.exit.now ≡ vec_len answers.entry.now + length blocks.entry.now }
-        ensures room { vec_capacity answers.entry.now ≤ vec_capacity answers.exit.now }
-        ensures belongs { BelongsTo context.entry.now.channel.now published.exit.now }
-    { commit_all(context, true, published, blocks, &mut ahead, answers) };
-    let (next, ()) = take_in_ahead(context, behind, &mut commit);
-    next
+    let run = RunOf { published, answers };
+    thread::scope(
+        thread::scope_env(),
+        context.rt,
+        move |scope| -> Run
+            requires { IsSync R.row × IsSync V.row × IsSync G.row
+                × (vec_len run.answers + length blocks.now ≤ vec_capacity run.answers)
+                × BelongsTo context.now.channel.now run.published.now }
+            ensures runs { RunsOn context.entry.now.channel.now (V.accepts context.entry.now.verifier.now)
+                blocks.entry.now run.entry.published.now run.entry.answers.items result.published.now result.answers.items }
+            ensures belongs { BelongsTo context.entry.now.channel.now result.published.now }
+            ensures lent { result.published.ghost_name ≡ run.entry.published.ghost_name }
+        { commit_ahead(scope, context, run, blocks) },
+    )
 }
 
-/// Commits blocks one after the other, of which there are some.
-pub(crate) fn run_all<R: Threads + Wait + Sync, V: Verify + Sync, G: Gate + Sync>(
-    context: &Context<'_, R, V, G>,
+/// Commits blocks one after the other, for whose answers there is room.
+pub(crate) fn run_all<'e, R: Threads + Wait + Sync, V: Verify + Sync, G: Gate + Sync>(
+    context: &'e Context<'e, R, V, G>,
     published: &mut Published,
-    blocks: &[Bytes],
+    blocks: &'e [Slice<'e>],
     answers: Vec<Answer>,
 ) -> Vec<Answer>
-    requires empty { answers.items ≡ [] }
-    requires room { length blocks.now ≤ vec_capacity answers }
+    requires room { vec_len answers + length blocks.now ≤ vec_capacity answers }
     requires belongs { BelongsTo context.now.channel.now published.old }
-    ensures runs { RunsTo context.now.channel.now (V.accepts context.now.verifier.now) published.old blocks.now result.items published.new }
+    ensures runs { RunsOn context.now.channel.now (V.accepts context.now.verifier.now)
+        blocks.now published.old answers.items published.new result.items }
     ensures belongs { BelongsTo context.now.channel.now published.new }
 {
-    let mut answers = answers;
-    let mut most_bytes = FIRST_BYTES;
-    let mut start = 0;
-    let mut end = next_count(blocks, most_bytes, context.workers);
-    let (mut ahead, ()) = take_in_ahead(context, &blocks[..end], &mut || ());
-    while end < blocks.len() {
-        most_bytes = most_bytes.saturating_mul(2).min(MOST_BYTES);
-        let count = next_count(&blocks[end..], most_bytes, context.workers);
-        ahead = commit_beside_intake(
-            context,
-            published,
-            &blocks[start..end],
-            ahead,
-            &blocks[end..end + count],
-            &mut answers,
-        );
-        start = end;
-        end += count;
+    // one block alone is taken in and checked by all workers
+    if context.workers.count == 1 || blocks.len() == 1 {
+        let mut run = RunOf { published, answers };
+        commit_in_turn(context, &mut run, blocks);
+        let RunOf {
+            published: _published,
+            answers,
+        } = run;
+        return answers;
     }
-    commit_all(
-        context,
-        false,
-        published,
-        &blocks[start..end],
-        &mut ahead,
-        &mut answers,
-    );
+    let RunOf {
+        published: _published,
+        answers,
+    } = commit_in_scope(context, published, blocks, answers);
     answers
 }

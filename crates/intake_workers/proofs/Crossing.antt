@@ -39,7 +39,7 @@ pub ruleset crossing = (
 pub configuration_sync : IsSync configuration.the_row
 configuration_sync = search (crossing, policy_sync, definitions_sync) depth 40 fits 100000
 
-candidate_send : (ℓ : NamedLft) → IsSend (candidate.the_field ℓ).row
+pub candidate_send : (ℓ : NamedLft) → IsSend (candidate.the_field ℓ).row
 candidate_send ℓ = search (crossing, policy_send, policy_sync) depth 40 fits 100000
 
 pub taken_send : (ℓ : NamedLft) → IsSend (taken.the_row ℓ)

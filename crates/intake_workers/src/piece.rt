@@ -1,8 +1,7 @@
-ghost use Rattle.std.specs.Prelude.{◌≡◌, ◌<◌, ◌≤◌, ◌++◌, length, map, IfOk, OnOk};
+ghost use Rattle.std.specs.Prelude.{◌≡◌, ◌<◌, ◌≤◌, length, map, IfOk};
 ghost use Rattle.transaction.specs.Items.{item_of};
-ghost use Rattle.intake_workers.specs.Pieces.{items_of_pieces, items_of_all};
+ghost use Rattle.intake_workers.specs.Pieces.{items_of_pieces};
 
-use crate::handed::Handed;
 use std::alloc::{AllocError, Global};
 use transaction::BlockVersion;
 use values::Slice;
@@ -36,14 +35,15 @@ fn next_len(txs: &[Slice<'_>]) -> usize
     txs.len()
 }
 
-// Adds the pieces of one block.
-fn cut_one<'t, 'a>(
-    pieces: &mut Vec<Piece<'t, 'a>>,
+/// The pieces of a block: each has at most 32 transactions and, where it has more than one, at most 1 MiB of them.
+pub(crate) fn cut<'t, 'a>(
+    alloc: Global,
     version: BlockVersion,
     txs: &'t [Slice<'a>],
-) -> Result<(), AllocError>
-    ensures { OnOk result (items_of_pieces pieces.new.items ≡ items_of_pieces pieces.old.items ++ map (item_of version) txs.now) }
+) -> Result<Vec<Piece<'t, 'a>>, AllocError>
+    ensures { IfOk result (λ pieces. items_of_pieces pieces.items ≡ map (item_of version) txs.now) }
 {
+    let mut pieces = Vec::new(alloc);
     let mut start = 0;
     while start < txs.len() {
         let rest = &txs[start..];
@@ -54,20 +54,6 @@ fn cut_one<'t, 'a>(
             txs: &rest[..count],
         })?;
         start += count;
-    }
-    Ok(())
-}
-
-/// The pieces of blocks: each has at most 32 transactions of one block and, where it has more than one, at most 1 MiB of them.
-pub(crate) fn cut<'t, 'a>(
-    alloc: Global,
-    blocks: &'t [Handed<'a>],
-) -> Result<Vec<Piece<'t, 'a>>, AllocError>
-    ensures { IfOk result (λ pieces. items_of_pieces pieces.items ≡ items_of_all blocks.now) }
-{
-    let mut pieces = Vec::new(alloc);
-    for handed in blocks {
-        cut_one(&mut pieces, handed.version(), handed.txs())?;
     }
     Ok(pieces)
 }

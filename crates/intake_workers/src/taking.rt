@@ -1,22 +1,22 @@
-//! Workers hash and copy blocks, and take pieces of them in.
-ghost use Rattle.std.specs.Prelude.{◌≡◌, map, IfOk, IsOkAnd};
+//! Workers take pieces of a block in, while one hashes and copies it.
+ghost use Rattle.std.specs.Prelude.{◌≡◌, map, IfOk};
+ghost use Rattle.block.specs.Grammar.{bytes_of};
+ghost use Rattle.header_hash.specs.Hashes.{data_hash_of};
 ghost use Rattle.intake.specs.Place.{taken_of, shown};
-ghost use Rattle.pieces.specs.Pieces.{AreMade};
-ghost use Rattle.intake_workers.specs.Made.{IsMadeOf, block_in};
-ghost use Rattle.intake_workers.specs.Pieces.{all_taken, items_of_all, items_of_piece};
+ghost use Rattle.rules.specs.Commit.{items_of};
+ghost use Rattle.intake_workers.specs.Pieces.{all_taken, items_of_piece};
 
-use crate::handed::Handed;
-use crate::hash_and_bytes::{HashAndBytes, HashAndCopy, hashed_all};
+use crate::hashing::{HashAndBytes, hash_and_copy};
 use crate::piece::{Piece, cut};
-use crate::with_data_hash::WithDataHash;
 use channel::Configuration;
 use gates::{Gate, Phase};
 use intake::{Taken, take_in_one};
-use pieces::{Crew, Pile, Work, in_pieces_beside};
+use linking::{DecodedBlock, HashedBlock};
+use pieces::{Crew, Work, in_pieces_beside};
 use policy_eval::Verify;
-use rules::Refused;
 use std::alloc::{AllocError, Global};
 use std::thread::Threads;
+use values::{Bytes, Shared};
 
 /// By what transactions are taken in: whose rules hold, who verifies signatures, and the gate that each transaction passes first.
 #[derive(Clone, Copy)]
@@ -59,91 +59,113 @@ fn take_piece<'a, V: Verify, G: Gate>(
     Ok(all)
 }
 
-/// What was taken in of blocks, which follow one another.
+/// A block, hashed, with a copy of its bytes, to be kept, and what was taken in of its items, in order.
 #[derive(Drop)]
 pub struct TakenIn<'a> {
-    /// Each block, or why there is none.
-    pub blocks: Vec<Result<WithDataHash<'a>, Refused>>,
-    /// All items of all blocks, in lists that follow one another.
-    pub taken: Vec<Vec<Taken<'a>>>,
+    pub block: HashedBlock<'a>,
+    pub bytes: Shared<Bytes>,
+    pub items: Vec<Taken<'a>>,
 }
 
 // A thread of its own costs as much as a few transactions.
 const WORTH_A_THREAD: usize = 16;
 
-// No more than there are pieces, and one for the calling thread's own work.
-fn useful(workers: usize, pieces: &[Piece<'_, '_>]) -> usize {
-    let mut txs = 0usize;
-    for piece in pieces {
-        txs = txs.saturating_add(piece.txs.len());
+/// What was taken in of pieces, one list behind the other, of so many items in all.
+fn joined<'a>(
+    alloc: Global,
+    items: usize,
+    lists: Vec<Vec<Taken<'a>>>,
+) -> Result<Vec<Taken<'a>>, AllocError>
+    ensures { IfOk result (λ all. all.items ≡ all_taken lists.entry.items) }
+{
+    let mut all = Vec::with_capacity(alloc, items)?;
+    for mut list in lists {
+        all.append(&mut list)?;
     }
-    if txs < WORTH_A_THREAD {
-        return 1;
-    }
-    workers.min(pieces.len().saturating_add(1))
+    Ok(all)
 }
 
-/// The data hash and the bytes of each block, and what is taken in of each piece, or that memory was refused.
-type MadeOfBlocks<'a> = Result<(Vec<HashAndBytes>, Vec<Vec<Taken<'a>>>), AllocError>;
+// The block, whose hash and bytes these are, and what was taken in of it.
+fn taken_in<'a>(block: DecodedBlock<'a>, made: HashAndBytes, items: Vec<Taken<'a>>) -> TakenIn<'a>
+    requires { made.data_hash ≡ data_hash_of block.txs }
+    ensures block { result.block ≡ block.entry }
+    ensures bytes { result.bytes ≡ made.bytes }
+    ensures items { result.items.items ≡ items.entry.items }
+{
+    let HashAndBytes { data_hash, bytes } = made;
+    TakenIn {
+        block: block.with_data_hash(data_hash),
+        bytes,
+        items,
+    }
+}
 
-/// What is made of blocks, each by itself, and of their pieces; and what the calling thread made before.
-fn made_beside<'a, R: Threads + Sync, V: Verify + Sync, G: Gate + Sync, Z, F: FnMut() -> Z>(
+/// Takes in all items of a block, and makes its data hash and a copy of its bytes, by the calling thread alone. Linear in its
+/// bytes and its signatures. An `Err` is want of memory alone.
+pub fn take_in_alone<'a, V: Verify, G: Gate>(
+    alloc: Global,
+    rules: &IntakeRules<'_, V, G>,
+    block: DecodedBlock<'a>,
+) -> Result<TakenIn<'a>, AllocError>
+    ensures block { IfOk result (λ t. t.block ≡ block.entry) }
+    ensures bytes { IfOk result (λ t. t.bytes ≡ bytes_of block.entry) }
+    ensures items { IfOk result (λ t. map shown t.items.items ≡ map (taken_of rules.now.channel.now (V.accepts rules.now.verifier.now)) (items_of block.entry)) }
+{
+    let made = hash_and_copy(alloc, &block)?;
+    let whole = Piece {
+        version: block.version(),
+        start: 0,
+        txs: block.txs(),
+    };
+    let items = take_piece(alloc, rules, &whole)?;
+    Ok(taken_in(block, made, items))
+}
+
+/// What the pieces of a block come to by a crew, whose calling thread first hashes and copies the whole block.
+fn made_by<'a, R: Threads + Sync, V: Verify + Sync, G: Gate + Sync>(
     crew: &Crew<'_, R>,
     rules: &IntakeRules<'_, V, G>,
-    blocks: &[Handed<'a>],
-    own: &mut F,
-) -> (MadeOfBlocks<'a>, Z)
-    requires { F.pre own.old }
-    ensures made { IfOk result.0 (λ r. AreMade IsMadeOf blocks.now r.0.items) }
-    ensures taken { IfOk result.0 (λ r. map shown (all_taken r.1.items) ≡ map (taken_of rules.now.channel.now (V.accepts rules.now.verifier.now)) (items_of_all blocks.now)) }
-    ensures own { F.step own.old result.1 own.new }
+    block: &DecodedBlock<'a>,
+) -> Result<(HashAndBytes, Vec<Taken<'a>>), AllocError>
+    ensures hash { IfOk result (λ r. r.0.data_hash ≡ data_hash_of block.now.txs) }
+    ensures bytes { IfOk result (λ r. r.0.bytes ≡ bytes_of block.now) }
+    ensures items { IfOk result (λ r. map shown r.1.items ≡ map (taken_of rules.now.channel.now (V.accepts rules.now.verifier.now)) (items_of block.now)) }
 {
-    let pieces = match cut(crew.alloc, blocks) {
-        Ok(pieces) => pieces,
-        Err(e) => return (Err(e), own()),
-    };
-    let pieces = pieces.as_slice();
-    let crew = Crew {
+    let pieces = cut(crew.alloc, block.version(), block.txs())?;
+    // one more than there are pieces, for the whole block
+    let useful = Crew {
         rt: crew.rt,
         alloc: crew.alloc,
-        workers: useful(crew.workers, pieces),
+        workers: crew.workers.min(pieces.len().saturating_add(1)),
     };
-    let whole = Pile::new(blocks, &HashAndCopy);
-    in_pieces_beside(&crew, &whole, &Pile::new(pieces, rules), own)
+    let (lists, made) = in_pieces_beside(
+        &useful,
+        pieces.as_slice(),
+        rules,
+        &mut || { hash_and_copy(crew.alloc, block) },
+    );
+    let made = made?;
+    let items = joined(crew.alloc, block.txs().len(), lists?)?;
+    Ok((made, items))
 }
 
-fn taken_in<'a>(
-    alloc: Global,
-    blocks: Vec<Handed<'a>>,
-    made: MadeOfBlocks<'a>,
-) -> Result<TakenIn<'a>, AllocError>
-    requires { IfOk made (λ m. AreMade IsMadeOf blocks.items m.0.items) }
-    ensures blocks { IfOk result (λ r. map block_in r.blocks.items ≡ map (λ h. h.block) blocks.entry.items) }
-    ensures taken { IfOk result (λ r. IsOkAnd made.entry (λ m. m.1 ≡ r.taken)) }
-{
-    let (made, taken) = made?;
-    let blocks = hashed_all(alloc, blocks, made)?;
-    Ok(TakenIn { blocks, taken })
-}
-
-/// Takes in all items of blocks, in order, by a crew, and makes the data hash of each block and a copy of its bytes. What comes
-/// out is what [`intake::take_in`] takes in of one block after the other.
+/// Takes a block in as [`take_in_alone`] does, by a crew.
 ///
-/// The calling thread calls `own` first, whose result is the second one here, and then does what is left. The other workers are
-/// threads. Whole blocks are hashed and copied before pieces are taken in; a piece has at most 32 transactions and, where it has
-/// more than one, at most 1 MiB of them. A thread that can't be started is done without. No more are started than there are
-/// pieces, and none for fewer than 16 transactions. An `Err` is want of memory alone.
-pub fn take_in_beside<'a, R: Threads + Sync, V: Verify + Sync, G: Gate + Sync, Z, F: FnMut() -> Z>(
+/// The calling thread hashes and copies the whole block, and then takes pieces in as the others do, who are threads; a piece has
+/// at most 32 transactions and, where it has more than one, at most 1 MiB of them. A thread that can't be started is done
+/// without. No more are started than there are pieces, and none for fewer than 16 transactions.
+pub fn take_in<'a, R: Threads + Sync, V: Verify + Sync, G: Gate + Sync>(
     crew: &Crew<'_, R>,
     rules: &IntakeRules<'_, V, G>,
-    blocks: Vec<Handed<'a>>,
-    own: &mut F,
-) -> (Result<TakenIn<'a>, AllocError>, Z)
-    requires { F.pre own.old }
-    ensures blocks { IfOk result.0 (λ r. map block_in r.blocks.items ≡ map (λ h. h.block) blocks.entry.items) }
-    ensures taken { IfOk result.0 (λ r. map shown (all_taken r.taken.items) ≡ map (taken_of rules.now.channel.now (V.accepts rules.now.verifier.now)) (items_of_all blocks.entry.items)) }
-    ensures own { F.step own.old result.1 own.new }
+    block: DecodedBlock<'a>,
+) -> Result<TakenIn<'a>, AllocError>
+    ensures block { IfOk result (λ t. t.block ≡ block.entry) }
+    ensures bytes { IfOk result (λ t. t.bytes ≡ bytes_of block.entry) }
+    ensures items { IfOk result (λ t. map shown t.items.items ≡ map (taken_of rules.now.channel.now (V.accepts rules.now.verifier.now)) (items_of block.entry)) }
 {
-    let (made, done) = made_beside(crew, rules, blocks.as_slice(), own);
-    (taken_in(crew.alloc, blocks, made), done)
+    if crew.workers == 1 || block.txs().len() < WORTH_A_THREAD {
+        return take_in_alone(crew.alloc, rules, block);
+    }
+    let (made, items) = made_by(crew, rules, &block)?;
+    Ok(taken_in(block, made, items))
 }

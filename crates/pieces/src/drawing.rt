@@ -11,15 +11,15 @@ use std::thread::Threads;
 
 /// Pieces from which workers draw, what is made of each, and the first place that nobody has drawn.
 #[derive(Drop)]
-pub struct Pile<'a, P, W> {
-    pub pieces: &'a [P],
-    pub work: &'a W,
+pub(crate) struct Pile<'a, P, W> {
+    pub(crate) pieces: &'a [P],
+    pub(crate) work: &'a W,
     next: AtomicUsize,
 }
 
 impl<'a, P, W> Pile<'a, P, W> {
     /// Nobody has drawn a piece of it.
-    pub fn new(pieces: &'a [P], work: &'a W) -> Pile<'a, P, W>
+    pub(crate) fn new(pieces: &'a [P], work: &'a W) -> Pile<'a, P, W>
         ensures pieces { result.pieces.now ≡ pieces.entry.now }
         ensures work { result.work.now ≡ work.entry.now }
     {
@@ -38,7 +38,7 @@ pub(crate) struct Placed<X> {
     pub(crate) item: X,
 }
 
-/// What one worker made of the pieces that it drew from a pile, or that it was refused memory.
+/// What one worker made of the pieces that it drew, or that it was refused memory.
 pub(crate) type Drawn<X> = Result<Vec<Placed<X>>, AllocError>;
 
 fn make_one<P, X: Drop, W: Work<P, X>>(
@@ -71,54 +71,21 @@ pub(crate) fn draw<P, X: Drop, W: Work<P, X>>(alloc: Global, pile: &Pile<'_, P, 
     Ok(all)
 }
 
-/// What one worker made of the pieces of two piles.
-#[derive(Drop)]
-pub(crate) struct DrawnBoth<X, Y> {
-    pub(crate) first: Drawn<X>,
-    pub(crate) second: Drawn<Y>,
-}
-
-/// Makes what is to be made of the first pile for as long as there are places to draw, and then of the second.
-pub(crate) fn draw_both<P, X: Drop, W: Work<P, X>, Q, Y: Drop, V: Work<Q, Y>>(
-    alloc: Global,
-    first: &Pile<'_, P, W>,
-    second: &Pile<'_, Q, V>,
-) -> DrawnBoth<X, Y>
-    ensures first { IfOk result.first (λ all. All (λ made. IsMade (W.gives first.now.work.now) first.now.pieces.now made.place made.item) all.items) }
-    ensures second { IfOk result.second (λ all. All (λ made. IsMade (V.gives second.now.work.now) second.now.pieces.now made.place made.item) all.items) }
-{
-    DrawnBoth {
-        first: draw(alloc, first),
-        second: draw(alloc, second),
-    }
-}
-
 /// What each of so many workers draws.
-pub(crate) fn draw_all<
-    R: Threads + Sync,
-    P: Sync,
-    X: Send + Drop,
-    W: Work<P, X> + Sync,
-    Q: Sync,
-    Y: Send + Drop,
-    V: Work<Q, Y> + Sync,
->(
+pub(crate) fn draw_all<R: Threads + Sync, P: Sync, X: Send + Drop, W: Work<P, X> + Sync>(
     rt: &R,
     alloc: Global,
-    first: &Pile<'_, P, W>,
-    second: &Pile<'_, Q, V>,
+    pile: &Pile<'_, P, W>,
     workers: usize,
-) -> Result<Vec<DrawnBoth<X, Y>>, AllocError>
-    ensures first { IfOk result (λ drawn. All (λ both. IfOk both.first (λ all. All (λ made. IsMade (W.gives first.now.work.now) first.now.pieces.now made.place made.item) all.items)) drawn.items) }
-    ensures second { IfOk result (λ drawn. All (λ both. IfOk both.second (λ all. All (λ made. IsMade (V.gives second.now.work.now) second.now.pieces.now made.place made.item) all.items)) drawn.items) }
+) -> Result<Vec<Drawn<X>>, AllocError>
+    ensures { IfOk result (λ drawn. All (λ one. IfOk one (λ all. All (λ made. IsMade (W.gives pile.now.work.now) pile.now.pieces.now made.place made.item) all.items)) drawn.items) }
 {
     thread::map_indices(
         rt,
         alloc,
         workers,
-        &|_| -> DrawnBoth<X, Y>
-            ensures first { IfOk result.first (λ all. All (λ made. IsMade (W.gives first.entry.now.work.now) first.entry.now.pieces.now made.place made.item) all.items) }
-            ensures second { IfOk result.second (λ all. All (λ made. IsMade (V.gives second.entry.now.work.now) second.entry.now.pieces.now made.place made.item) all.items) }
-        { draw_both(alloc, first, second) },
+        &|_| -> Drawn<X>
+            ensures { IfOk result (λ all. All (λ made. IsMade (W.gives pile.entry.now.work.now) pile.entry.now.pieces.now made.place made.item) all.items) }
+        { draw(alloc, pile) },
     )
 }

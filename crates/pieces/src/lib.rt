@@ -6,6 +6,5 @@ mod drawing;
 mod joining;
 mod work;
 
-pub use beside::{Crew, MadeOfBoth, in_pieces_beside};
-pub use drawing::Pile;
+pub use beside::{Crew, in_pieces_beside};
 pub use work::Work;

@@ -1,6 +1,13 @@
-use Rattle.std.proofs.Common.{◌≡◌, take}
-use Rattle.intake_workers.specs.Pieces.{items_of_all, items_of_pieces}
+use Rattle.std.proofs.Common.{◌≡◌, ◌≤◌, ◌-◌, length, map, take}
+use Rattle.transaction.specs.Items.{item_of}
+use Rattle.intake_workers.specs.Pieces.{items_of_pieces}
 use Rattle.intake_workers.proofs.piece.cut.Given as goal
 
-abbrev pub invariant-loop-handed : goal.invariant-loop-handed
-invariant-loop-handed l = items_of_pieces l.pieces.items ≡ items_of_all (take l.handed-index l.blocks)
+abbrev pub invariant-loop-start : goal.invariant-loop-start
+invariant-loop-start l = record {
+  place : l.start ≤ length l.txs;
+  so_far : items_of_pieces l.pieces.items ≡ map (item_of l.version) (take l.start l.txs);
+}
+
+abbrev pub decreases-loop-start : goal.decreases-loop-start
+decreases-loop-start l = length l.txs - l.start

@@ -1,0 +1,48 @@
+use Rattle.std.proofs.Common.{List, ℕ, ◌+◌, ◌∙◌, ap, sym, subst, arith, slice_index_or}
+use Rattle.std.proofs.lemmas.Result.{IfOk-weaker}
+use Rattle.channel.specs.Configuration.{Configuration}
+use Rattle.commit.specs.Prepared.{MayBeTakenIn}
+use Rattle.commit.specs.Running.{BelongsTo, committing, SubmitsTo}
+use Rattle.commit.proofs.Crossing.{crossing, prepared_send}
+use Rattle.commit.proofs.Runs.{Runs-more}
+use Rattle.commit.proofs.TakenAhead.{waits}
+use Rattle.commit.proofs.running.commit_taken_in.Goals as goal
+
+pub next-requires-send-X : goal.next-requires-send-X
+next-requires-send-X g c κs within = search (crossing, prepared_send) depth 40 fits 100000
+
+pub commit_next-requires-clause-waits : goal.commit_next-requires-clause-waits
+commit_next-requires-clause-waits g c κs within w =
+    let before = c.loop-bytes.invariant in
+    let accepts = g.V.Verify.accepts in
+    let alone = c.alone-alone in
+    let item = c.bytes-item.result in
+    let at = c.bytes-item.is ∙ (λ i. slice_index_or (sym before.blocks i) (sym before.taken i) item) in
+    waits alone.result.channel.now (accepts alone.result.verifier.now) c.as_slice.result.now c.next.result c.ok-next.result w c.ok-next.ensures.value
+    (IfOk-weaker c.next.result _ _
+    (λ taken made. subst (λ (b : List ℕ). MayBeTakenIn alone.result.channel.now (accepts alone.result.verifier.now) b taken) (sym c.as_slice.ensures)
+    (subst (λ x. x) (λ i. MayBeTakenIn (sym alone.ensures.channel i) (accepts (sym alone.ensures.verifier i)) item taken)
+    (subst (λ context. MayBeTakenIn context.channel.now (accepts context.verifier.now) item taken) before.context (made.1 item at))))
+    c.next.ensures.made)
+
+pub loop-bytes-preserved : goal.loop-bytes-preserved
+loop-bytes-preserved g c =
+    let before = c.loop-bytes.invariant in
+    let accepts = g.V.Verify.accepts in
+    let alone = c.alone-alone in
+    let item = c.bytes-item.result in
+    let step = c.commit_next.ensures.submits in
+    let old_run = c.loop-bytes.run in
+    let new_run = c.commit_next.new.self in
+    let submits = subst (λ x. x) (λ i. SubmitsTo (alone.ensures.channel i) (accepts (alone.ensures.verifier i)) old_run.published.now (c.as_slice.ensures i) step.0 new_run.published.now) step.1 in
+    record {
+      runs = λ old earlier so_far. Runs-more (accepts c.args.context.now.verifier.now) old (committing c.args.context.now.channel.now old_run.published.now) (committing c.args.context.now.channel.now new_run.published.now) earlier c.args.blocks.now c.loop-bytes.bytes-index item old_run.answers.items new_run.answers.items step.0
+          (omega (arith, c.loop-bytes-test.true)) c.bytes-item.is (before.runs old earlier so_far) submits step.2;
+      count = omega (arith, before.count, c.commit_next.ensures.count);
+      room = omega (arith, before.room, c.commit_next.ensures.room);
+      blocks = c.next.ensures.pieces ∙ before.blocks;
+      context = c.next.ensures.work ∙ before.context;
+      taken = c.next.ensures.taken ∙ ap (λ n. n + 1) before.taken;
+      belongs = subst (λ (channel : Configuration). BelongsTo channel new_run.published.now) alone.ensures.channel c.commit_next.ensures.belongs;
+      lent = c.commit_next.ensures.lent ∙ before.lent;
+    }

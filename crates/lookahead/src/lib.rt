@@ -1,0 +1,7 @@
+//! What threads make of the next pieces of a list, ahead of the caller, who takes it in the pieces' order.
+#![tactic(auto)]
+
+mod ahead;
+mod making;
+
+pub use ahead::Ahead;
