@@ -1,0 +1,9 @@
+mod Lists
+mod Taken
+mod Items
+mod Candidates
+mod Rows
+mod Counts
+mod Blocks
+mod Commits
+mod Worked

@@ -1,0 +1,4 @@
+pub mod Room
+pub mod AcceptedBlock
+pub mod ToldAlike
+pub mod Commits
