@@ -1,5 +1,5 @@
 -- Worlds keep their room, and a block that is linked to one with room has room in what is hashed of it.
-use Rattle.std.proofs.Common.{◌≡◌, ℕ, ◌+◌, ◌-◌, ◌*◌, ◌^◌, ◌<◌, ◌≤◌, ◌==◌, List, [], ◌∷◌, ◌++◌, length, Option, Some, None, Result, Ok, Err, refl, sym, ap, subst, ◌∙◌, arith, length-append}
+use Rattle.std.proofs.Common.{◌≡◌, ℕ, ◌-◌, ◌*◌, ◌^◌, ◌<◌, ◌≤◌, ◌==◌, List, [], ◌∷◌, ◌++◌, length, Option, Some, None, Result, Ok, Err, refl, sym, ap, subst, ◌∙◌, arith, length-append}
 use Rattle.std.specs.Prelude.{option_map, slice_get}
 use Rattle.std.specs.FinMap.{get-empty}
 use Rattle.std.proofs.lemmas.List.{length-map}
@@ -21,7 +21,7 @@ use Rattle.rules.specs.Differing.{differing}
 use Rattle.rules.specs.CommitBytes.{BlockCommit, HasRoom, commit_bytes, commit_hash_before}
 use Rattle.rules.specs.Job.{Job, candidate_at}
 use Rattle.rules.specs.Fold.{final_state, changes_to}
-use Rattle.rules.specs.World.{World, empty_world, height_of, last_commit_hash}
+use Rattle.rules.specs.World.{World, empty_world, last_commit_hash}
 use Rattle.rules.specs.Linked.{IsLinked}
 use Rattle.rules.specs.Commit.{items_of, channel_in, job_of, commit_by, committed_of, world_after}
 use Rattle.rules.specs.Step.{Step}

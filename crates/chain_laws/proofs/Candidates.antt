@@ -1,5 +1,5 @@
 -- The candidates of a block fit: what they write and give is within its limits.
-use Rattle.std.proofs.Common.{◌≡◌, ℕ, zero, suc, ◌+◌, ◌*◌, ◌^◌, ◌<◌, ◌≤◌, Bool, true, false, cond, get_or, List, [], ◌∷◌, ◌++◌, length, map, Option, Some, None, refl, sym, ap, ◌∙◌, arith, length-append}
+use Rattle.std.proofs.Common.{◌≡◌, ℕ, zero, suc, ◌*◌, ◌^◌, ◌<◌, ◌≤◌, Bool, true, false, get_or, List, [], ◌∷◌, ◌++◌, length, map, Option, Some, None, refl, arith, length-append}
 use Rattle.std.specs.Prelude.{IfSome, if◌then◌else◌, option_map, option_to_list, slice_get}
 use Rattle.std.specs.List.{AllByRecursion}
 use Rattle.std.proofs.lemmas.List.{length-map}
@@ -9,7 +9,6 @@ use Rattle.transaction.specs.declared.item.Item.TheVariants as item
 use Rattle.transaction.specs.declared.transaction.Version.{Version}
 use Rattle.transaction.specs.Limits.{max_tx_bytes}
 use Rattle.transaction.specs.Items.{item_of}
-use Rattle.policy.specs.Limits.{max_text_bytes}
 use Rattle.policy.specs.Tree.{Tree}
 use Rattle.policy.specs.Text.{text_of}
 use Rattle.policy.specs.Meaning.{policy_of}
@@ -21,7 +20,7 @@ use Rattle.rules.specs.declared.early_flag.EarlyFlag.{EarlyFlag}
 use Rattle.rules.specs.declared.early_flag.EarlyFlag.TheVariants.{BadPayload}
 use Rattle.rules.specs.declared.row.Row.{Row}
 use Rattle.rules.specs.Flags.{is_valid}
-use Rattle.rules.specs.State.{StateKey, State, ChangeOf}
+use Rattle.rules.specs.State.{State, ChangeOf}
 use Rattle.rules.specs.Effect.{written_keys, effect_at, changes_of}
 use Rattle.rules.specs.FirstUses.{FirstUses}
 use Rattle.rules.specs.Candidate.{Candidate, flagged, opened, updates, origin_fault, content_fault, flagged_or, open_of, candidate_of, used_id, is_used, candidates_from}

@@ -1,32 +1,29 @@
 -- Chains of blocks with the same commit hash at the same height do the same at each height, and their states have the same rows.
-use Rattle.std.proofs.Common.{◌≡◌, ℕ, suc, ◌+◌, eqb, Bool, true, false, cond, ◌&&◌, List, [], ◌∷◌, ◌++◌, length, map, Option, Some, None, Result, Ok, Err, refl, sym, ap, subst, ◌∙◌, arith, length-append}
+use Rattle.std.proofs.Common.{◌≡◌, ℕ, eqb, Bool, true, false, cond, ◌&&◌, List, [], ◌∷◌, ◌++◌, length, map, Option, Some, None, Result, Ok, Err, refl, sym, ap, subst, ◌∙◌, arith, length-append}
 use Rattle.std.specs.Prelude.{if◌then◌else◌, option_map, unwrap_or}
 use Rattle.std.specs.Str.{bytes_eq}
 use Rattle.std.specs.Cmp.Lexicographic.{bytes_decides}
 use Rattle.std.specs.Ordering.{eq_by_cmp}
-use Rattle.std.specs.FinMap.{get, find, get-empty}
+use Rattle.std.specs.FinMap.{get, find}
 use Rattle.std.proofs.lemmas.Bool.{eqb-true}
 use Rattle.sha2.specs.Sha256.{sha256}
 use Rattle.values.specs.Hash.{IsHash}
 use Rattle.transaction.specs.declared.transaction.Version.{Version}
 use Rattle.transaction.specs.Same.{is_same_version}
-use Rattle.policy_eval.specs.Accepts.{Accepts}
 use Rattle.channel.specs.Configuration.{Configuration}
 use Rattle.rules.specs.declared.answer.Accepted.{Accepted}
 use Rattle.rules.specs.declared.answer.Refused.{Refused}
 use Rattle.rules.specs.declared.row.Row.{Row}
 use Rattle.rules.specs.State.{StateKey, State, ChangeOf, key_cmp}
-use Rattle.rules.specs.Differing.{policy_text, is_same_row, is_unchanged, differing}
+use Rattle.rules.specs.Differing.{policy_text, is_unchanged, differing}
 use Rattle.rules.specs.CommitBytes.{BlockCommit, commit_bytes, commit_hash_before, ToldRow, ToldChange, told_row, told_change, HasRoom}
 use Rattle.rules.specs.Fold.{final_state}
 use Rattle.rules.specs.World.{World, empty_world, height_of, last_commit_hash}
 use Rattle.rules.specs.Commit.{items_of, job_of, commit_by, committed_of, world_after}
-use Rattle.rules.specs.Step.{Step}
 use Rattle.rules.specs.Chain.{Submission, Chain}
 use Rattle.rules.proofs.Booleans.{both_true}
 use Rattle.rules.proofs.Differing.{difference, find-differing}
 use Rattle.chain_laws.specs.Room.{WorldHasRoom}
-use Rattle.chain_laws.specs.ToldAlike.{AreToldAlike}
 use Rattle.chain_laws.specs.Commits.{Leads, AreCommits, hash_behind, NoneCollide, AreAllToldAlike}
 use Rattle.chain_laws.proofs.Blocks.{empty_room, block_room, hash_after, room_after, told_alike}
 

@@ -2,14 +2,14 @@
 use Rattle.std.proofs.Common.{◌≡◌, ℕ, suc, ◌-◌, ◌≤◌, Bool, true, false, cond, ◌||◌, List, [], ◌∷◌, length, map, Option, Some, None, T, refl, sym, ap, subst, ◌∙◌, arith}
 use Rattle.std.specs.Prelude.{if◌then◌else◌}
 use Rattle.std.specs.Ordering.{eq_by_cmp}
-use Rattle.std.specs.FinMap.{get, len, empty, remove, contains_key, entries, from_sorted, same_map, get-empty, get-remove, get-from_sorted, len-empty, len-remove, len-entries, entries-from_sorted, is_sorted}
+use Rattle.std.specs.FinMap.{get, len, empty, remove, contains_key, from_sorted, same_map, get-empty, get-remove, get-from_sorted, len-empty, len-remove, len-entries, entries-from_sorted, is_sorted}
 use Rattle.std.proofs.lemmas.List.{length-map}
 use Rattle.rules.specs.declared.row.Row.{Row}
 use Rattle.rules.specs.State.{StateKey, State, KeyMap, ChangeOf, key_cmp, is_same_key, is_among, set_at, with_changes}
 use Rattle.rules.specs.Differing.{differing}
 use Rattle.rules.proofs.Booleans.{neither}
 use Rattle.rules.proofs.Keys.{key_cmp_total, key_cmp-IsAntisymmetric, key_ties}
-use Rattle.rules.proofs.Changes.{get-set_at, with_changes-none}
+use Rattle.rules.proofs.Changes.{get-set_at}
 use Rattle.rules.proofs.Differing.{difference, same_itself, sorted-differing, find-differing}
 
 -- ---- a map has no more entries than keys that have them all

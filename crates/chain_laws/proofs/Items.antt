@@ -1,5 +1,5 @@
 -- What the reader of transactions and updates takes: names, keys and values within their limits, and few writes.
-use Rattle.std.proofs.Common.{◌≡◌, ℕ, zero, suc, ◌+◌, ◌*◌, ◌^◌, ◌<◌, ◌≤◌, ◌==◌, nat_le, cond, true, List, [], ◌∷◌, ◌++◌, length, Option, Some, None, refl, sym, ap, subst, ◌∙◌, arith, leb-true, length-append}
+use Rattle.std.proofs.Common.{◌≡◌, ℕ, zero, suc, ◌+◌, ◌*◌, ◌^◌, ◌<◌, ◌≤◌, ◌==◌, nat_le, cond, true, List, [], ◌∷◌, ◌++◌, length, Option, Some, None, ap, subst, ◌∙◌, arith, leb-true, length-append}
 use Rattle.std.specs.Prelude.{IfSome, ◌&&◌}
 use Rattle.std.specs.List.{AllByRecursion, flat_map, list_all}
 use Rattle.std.proofs.lemmas.List.{length-map}
@@ -7,10 +7,8 @@ use Rattle.values.specs.Name.{is_name, is_name_byte}
 use Rattle.values.specs.Key.{is_key, is_bound}
 use Rattle.transaction.specs.declared.block_version.BlockVersion.{BlockVersion}
 use Rattle.transaction.specs.declared.block_version.BlockVersion.TheVariants.{V1, V2}
-use Rattle.transaction.specs.declared.identity.Identity.{Identity}
 use Rattle.transaction.specs.declared.transaction.Endorsement.{Endorsement}
 use Rattle.transaction.specs.declared.transaction.Write.{Write}
-use Rattle.transaction.specs.declared.transaction.PolicyWrite.{PolicyWrite}
 use Rattle.transaction.specs.declared.transaction.NsSet.{NsSet}
 use Rattle.transaction.specs.declared.transaction.Tx.{Tx}
 use Rattle.transaction.specs.declared.update.Update.{Update}

@@ -1,7 +1,7 @@
 -- Lists of which each element is so.
-use Rattle.std.proofs.Common.{Bool, true, false, cond, List, [], ◌∷◌, ◌++◌, map, Option, Some, None}
+use Rattle.std.proofs.Common.{Bool, true, false, cond, List, [], ◌∷◌, ◌++◌, map, Some}
 use Rattle.std.specs.Prelude.{IfSome, find}
-use Rattle.std.specs.List.{filter, AllByRecursion}
+use Rattle.std.specs.List.{AllByRecursion}
 
 pub all-append : {A : Type 0} (P : A → Type 0) (xs ys : List A) → AllByRecursion P xs → AllByRecursion P ys → AllByRecursion P (xs ++ ys)
 all-append P [] ys h k = k

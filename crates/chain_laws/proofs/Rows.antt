@@ -1,12 +1,12 @@
 -- The rows of a state have room, and so have those that a block leaves.
-use Rattle.std.proofs.Common.{◌≡◌, ℕ, zero, suc, ◌^◌, ◌<◌, ◌≤◌, Bool, true, false, cond, ◌&&◌, List, [], ◌∷◌, length, map, Option, Some, None, T, refl, sym, ap, subst, ◌∙◌, arith}
+use Rattle.std.proofs.Common.{◌≡◌, ℕ, zero, suc, ◌^◌, ◌<◌, ◌≤◌, Bool, true, false, cond, List, [], ◌∷◌, length, map, Option, Some, None, refl, sym, ap, subst, ◌∙◌, arith}
 use Rattle.std.specs.Prelude.{IfSome, find, if◌then◌else◌, option_map, option_and_then}
 use Rattle.std.specs.Str.{bytes_eq}
 use Rattle.std.specs.List.{AllByRecursion}
 use Rattle.std.specs.Ordering.{is_lt, eq_by_cmp}
 use Rattle.std.specs.declared.cmp.Ordering.{Ordering}
 use Rattle.std.specs.declared.cmp.Ordering.TheVariants.{Less, Equal, Greater}
-use Rattle.std.specs.FinMap.{get, find as found, is_sorted, get-empty}
+use Rattle.std.specs.FinMap.{get, find as found, is_sorted}
 use Rattle.std.specs.FinMap.Entries.{below_all}
 use Rattle.transaction.specs.declared.transaction.Version.{Version}
 use Rattle.transaction.specs.declared.transaction.Write.{Write}
@@ -20,7 +20,7 @@ use Rattle.rules.specs.declared.row.Row.{Row}
 use Rattle.rules.specs.Flags.{is_valid}
 use Rattle.rules.specs.State.{StateKey, State, ChangeOf, key_cmp, is_same_key, set_at, with_changes}
 use Rattle.rules.specs.Differing.{policy_text, is_unchanged, differing}
-use Rattle.rules.specs.Effect.{set_of, write_of, policy_write_of, written_keys, policy_left, policy_after, row_after, effect_at, changes_of}
+use Rattle.rules.specs.Effect.{set_of, write_of, policy_write_of, written_keys, policy_left, policy_after, row_after, effect_at}
 use Rattle.rules.specs.CommitBytes.{told_row, told_change, HasRoomForRow, HasRoomForChange}
 use Rattle.rules.specs.Candidate.{Candidate, flagged, opened, updates}
 use Rattle.rules.specs.Job.{Job, candidate_at, version_of, changes_by, state_after}

@@ -1,5 +1,5 @@
 -- Worked out: a first block of no transactions is accepted, and what is hashed of it; rows that have no room; blocks that aren't told alike.
-use Rattle.std.proofs.Common.{◌≡◌, ℕ, ◌^◌, ◌<◌, ◌≤◌, Bool, cond, List, [], ◌∷◌, ◌++◌, length, map, Option, Some, None, refl, sym, ap, ◌∙◌, arith}
+use Rattle.std.proofs.Common.{◌≡◌, ℕ, ◌^◌, ◌≤◌, Bool, cond, List, [], ◌∷◌, ◌++◌, length, map, Some, None, refl, sym, ap, ◌∙◌, arith}
 use Rattle.std.specs.Prelude.{replicate}
 use Rattle.std.specs.FinMap.{get, empty, insert, entries, put as in_place, get-empty, get-insert, entries-insert, len-entries, len-empty}
 use Rattle.std.proofs.lemmas.List.{nil_from_length}

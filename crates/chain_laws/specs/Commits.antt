@@ -5,7 +5,7 @@ use Rattle.block.specs.declared.block.Block.{Block}
 use Rattle.block.specs.Grammar.{Spells}
 use Rattle.policy_eval.specs.Accepts.{Accepts}
 use Rattle.channel.specs.Configuration.{Configuration}
-use Rattle.rules.specs.CommitBytes.{BlockCommit, commit_bytes, commit_hash_before}
+use Rattle.rules.specs.CommitBytes.{BlockCommit, commit_bytes}
 use Rattle.rules.specs.World.{World, empty_world}
 use Rattle.rules.specs.Linked.{IsLinked}
 use Rattle.rules.specs.Commit.{items_of, job_of, commit_by, world_after}
