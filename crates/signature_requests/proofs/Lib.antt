@@ -1,0 +1,5 @@
+mod Agreeing
+mod SameStep
+mod SameReasons
+mod OneList
+mod Worked
