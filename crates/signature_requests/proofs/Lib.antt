@@ -2,4 +2,5 @@ mod Agreeing
 mod SameStep
 mod SameReasons
 mod OneList
+mod Telling
 mod Worked

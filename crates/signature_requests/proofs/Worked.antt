@@ -1,5 +1,5 @@
 -- Worked rows of the list of requests: each computes, and a wrong expectation is refused.
-use Rattle.std.proofs.Common.{◌≡◌, ℕ, List, [], ◌∷◌, ◌++◌, replicate, Some, None, refl}
+use Rattle.std.proofs.Common.{◌≡◌, ℕ, true, false, map, List, [], ◌∷◌, ◌++◌, replicate, Some, None, refl}
 use Rattle.std.specs.Prelude.{codes}
 use Rattle.block.specs.declared.block.Block.{Block}
 use Rattle.block.specs.declared.block.Previous.TheVariants.{Empty}
@@ -18,6 +18,8 @@ use Rattle.transaction.specs.Openings.{opening_at}
 use Rattle.transaction.specs.UpdateReading.{update_at, whole_update_at}
 use Rattle.signature_requests.specs.declared.request.Request.{Request}
 use Rattle.signature_requests.specs.Requests.{requests_of, requests_in, block_requests}
+use Rattle.signature_requests.specs.Agreement.{answer_to}
+use Rattle.signature_requests.specs.Told.{told, told_to}
 
 abbrev asks : Identity → List ℕ → List ℕ → Request
 asks identity message signature = record { identity = identity; message = message; signature = signature }
@@ -117,3 +119,19 @@ update_of_a_block = refl
 pub no_update_in_version_1 : block_requests (block_of V1) ≡ []
 unfolding name_at body_at tx_at whole_tx_at
 no_update_in_version_1 = refl
+
+-- ---- a verifier that was told the answers
+
+pub answers_as_told : map (answer_to (told tx_requests (true ∷ false ∷ true ∷ []))) tx_requests ≡ true ∷ false ∷ true ∷ []
+answers_as_told = refl
+
+-- another signature of the peer, another message, and another identity
+pub nothing_else_is_accepted : map (told_to tx_requests (true ∷ true ∷ true ∷ [])) (asks peer (tx_body ++ peer_spelled) (6 ∷ []) ∷ asks peer tx_body (5 ∷ []) ∷ asks admin (tx_body ++ peer_spelled) (5 ∷ []) ∷ []) ≡ false ∷ false ∷ false ∷ []
+nothing_else_is_accepted = refl
+
+-- of one that is asked twice
+pub first_answer_counts : told_to (asks peer tx_body (5 ∷ []) ∷ asks peer tx_body (5 ∷ []) ∷ []) (false ∷ true ∷ []) (asks peer tx_body (5 ∷ [])) ≡ false
+first_answer_counts = refl
+
+pub without_an_answer_refused : told_to (asks peer tx_body (5 ∷ []) ∷ []) [] (asks peer tx_body (5 ∷ [])) ≡ false
+without_an_answer_refused = refl

@@ -1,3 +1,4 @@
 pub mod Requests
 pub mod Agreement
+pub mod Told
 pub mod Spelling

@@ -9,8 +9,8 @@ mod message;
 mod request;
 
 pub use laws::{
-    bytes_have_one_list_of_requests, verifiers_that_agree_give_one_reason,
-    verifiers_that_agree_make_one_step,
+    answers_to_the_list_suffice, bytes_have_one_list_of_requests,
+    verifiers_that_agree_give_one_reason, verifiers_that_agree_make_one_step,
 };
 pub use listing::{requests, requests_of_txs};
 pub use message::Message;
