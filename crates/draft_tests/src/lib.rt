@@ -11,6 +11,8 @@ mod fixture;
 #[cfg(test)]
 mod lengths;
 #[cfg(test)]
+mod listed_signatures;
+#[cfg(test)]
 mod memory;
 #[cfg(test)]
 mod reading;
