@@ -44,9 +44,10 @@ fn lines_of(
 ///
 /// A transaction or an update is said by lines where drafting these gives its bytes. Else a `raw` line has its bytes,
 /// and comments above it tell what can be read of it, and what keeps lines from saying it: another channel, an id that
-/// isn't its own, signatures that the book doesn't give, a policy's text that isn't of printable ASCII alone. Above
-/// each stands its place and id, and above all the block's number, version and hashes, and whether these are right. All
-/// is printable ASCII.
+/// isn't its own, signatures that the book doesn't give, a policy's text that is empty, begins or ends with a space, or
+/// isn't of printable ASCII alone. Above each stands its place and id, and above all the block's number, version and
+/// hashes, and whether these are right. All is printable ASCII. Tests alone show this: no clause speaks of comments, nor
+/// of when a line is `raw`.
 ///
 /// That the text says the block is looked at before it is answered, by drafting it; if it didn't, `raw` lines without
 /// comments would take its place, so that there is always an answer.

@@ -6,8 +6,8 @@ use Rattle.rules.specs.Job.{Job}
 use Rattle.rules.specs.Fold.{endorsed, flag}
 use Rattle.key_chains.specs.Known.{Known}
 
--- 0 is an unknown verdict; 1 is no, 2 is yes, and a flag is one more than its number; what is one more than no flag's number isn't
--- met, and shows none
+-- 0 is an unknown verdict. Of an endorsement 1 is no and 2 is yes; the word of a flag is its number and 1. Other words aren't met:
+-- they show yes, and no flag.
 
 abbrev pub endorsed_word : Bool → ℕ
 endorsed_word false = 1

@@ -22,7 +22,7 @@ use std::thread::Threads;
 pub struct Checked {
     /// The flag of each candidate.
     pub flags: Vec<Flag>,
-    /// How many verdicts no worker had found, out of two for each candidate.
+    /// How many verdicts no worker had found, out of two for each candidate. No clause says it.
     pub gathered: u32,
 }
 

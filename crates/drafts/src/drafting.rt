@@ -81,8 +81,8 @@ fn items_bytes(
 /// or in a part, is a fault of its `tx` line, and known once it has ended: a faulty line further on comes after it, one
 /// within it before it; an update likewise. A block of version 1 has no updates: their lines are faulty there.
 ///
-/// Linear in the text and the block, and for each endorser in the body that it signs; the memory is linear in the text
-/// and the block.
+/// Linear in the text and the block, and for each endorser in the body that it signs, with two look-ups in the book for
+/// each signer; the memory is linear in the text and the block.
 pub fn draft_txs(
     alloc: Global,
     channel: &Name,

@@ -7,9 +7,8 @@ use Rattle.rules.specs.State.{StateKey, State, ChangeOf}
 use Rattle.rules.specs.Job.{Job}
 use Rattle.key_chains.specs.Job.{keys_of}
 
--- With the state before the block they are the rows that a state has at the keys that the block writes: each stands at its
--- key's place, and is none where no valid transaction wrote the key,
--- or where the key has no row then and had none before.
+-- With the state before the block they are the rows that a state has at the keys that the block writes, each at its key's
+-- place: where there is none, the row is the one before the block.
 abbrev pub ShowRows : Job → List (Option (Option Row)) → State → Type 0
 ShowRows j rows s = (n : ℕ) (k : StateKey) → slice_get (keys_of j) n ≡ Some k → unwrap_or (slice_index_or rows n None) (get j.state k) ≡ get s k
 

@@ -24,7 +24,7 @@ pub struct Effects {
     /// for a key that has no row then and had none before the block.
     pub changes: Vec<Change>,
     /// One for each value write or delete of a valid transaction: transaction by transaction, and in each in the keys'
-    /// order.
+    /// order. The clause says which history they make, and not how those of several keys are mixed.
     pub entries: Vec<KeptEntry>,
     /// One for each valid update, in their order.
     pub definitions: Vec<NewDefinition>,
@@ -33,7 +33,8 @@ pub struct Effects {
 /// The effects of a block whose flags these are.
 ///
 /// Rows and entries keep keys and values as parts of these bytes, where the transactions begin at these places: what is found
-/// there isn't copied. Definitions are copied from their updates.
+/// there isn't copied. No clause speaks of bytes and places, and wrong ones cost copies alone. Definitions are copied from
+/// their updates. Linear in the candidates and in what the block writes; an `Err` is want of memory alone.
 pub fn effects_of(
     alloc: Global,
     job: &Job<'_, '_>,

@@ -9,8 +9,8 @@ pub enum Phase {
     Reads,
 }
 
-/// What workers pass before each check, also before one that is tried again: no verdict has been looked at for it then,
-/// and no lock is held. It can hold a worker back, and changes no verdict.
+/// What workers pass before they take a transaction in, and before each check, also before one that is tried again. No
+/// lock is held then, and this try has looked at nothing yet. It can hold a worker back, and changes no verdict.
 pub trait Gate {
     /// Called by a worker that is about to do this with the transaction at `index` of the block. May hold it back; promises
     /// nothing.

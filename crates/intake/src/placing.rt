@@ -101,7 +101,8 @@ fn mark<'a>(candidate: Candidate<'a>, used: bool) -> Candidate<'a>
     }
 }
 
-/// Of candidates that were tentative those of the block, whose marks say whose ids are used. One pass, and a list of them.
+/// The candidates of a block, made of tentative ones: one whose mark says that its id is used is flagged for that. One
+/// pass, and a list of them.
 pub fn marked<'a>(
     alloc: Global,
     candidates: Vec<Candidate<'a>>,
@@ -117,8 +118,8 @@ pub fn marked<'a>(
     Ok(all)
 }
 
-/// Candidates that were tentative, with the marks of a ledger's first uses, are those of the definitions; and the ids are those that its
-/// items use.
+/// Laws, and no work: tentative candidates, marked by a ledger's first uses, are the block's by the definitions; and the ids are those
+/// that the block's items use.
 pub fn tentative_candidates_are_the_definitions()
     ensures candidates { (channel : Configuration) (accepts : Accepts) (uses : FirstUses) (items : List (Option Item)) (taken : List as_taken.Taken) (ids : List (Option (List ℕ))) (cs : List by_rules.Candidate)
         → AreTentative taken ids cs → map shown taken ≡ map (taken_of channel accepts) items

@@ -22,7 +22,7 @@ use std::alloc::{AllocError, Global};
 use transaction::{BlockVersion, Item, Tx, TxId, Update};
 use values::Slice;
 
-/// What is known of a place of a block before the ids that are used, and as if its block had no other item.
+/// What is known of a place of a block before it is known which ids are used, and as if its block had no other item.
 #[derive(Drop)]
 pub struct Taken<'a> {
     /// The id that its item uses: none where there is a fault in where it comes from.

@@ -115,7 +115,7 @@ fn write_other<'a, W: Write>(
     selection: &Selection<'a>,
 ) -> Result<(), Fault<'a>> {
     let first = match &selection.id {
-        Some(id) => world.first_use(id),
+        Some(id) => world.flag_of(id),
         None => None,
     };
     match (selection.explained, first) {

@@ -388,7 +388,7 @@ impl Pair {
 
     /// Whether both have the same first use of the id, or none.
     pub fn is_alike_of(&self, id: &TxId) -> bool {
-        self.world().first_use(id) == self.plain.world.first_use(id)
+        self.world().flag_of(id) == self.plain.world.flag_of(id)
     }
 
     fn last_hash(&self) -> Option<Hash> {

@@ -53,7 +53,7 @@ fn are_kept(world: &World) -> bool {
 }
 
 fn is_nothing_else(world: &World) -> bool {
-    world.height() == 32 && world.block(32).is_none() && world.first_use(&[b'0'; 64]).is_none()
+    world.height() == 32 && world.block(32).is_none() && world.flag_of(&[b'0'; 64]).is_none()
 }
 
 fn check_left(alloc: Global, world: &World) -> Result<(), Failed> {

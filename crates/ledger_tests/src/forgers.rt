@@ -103,8 +103,8 @@ static FORGED: Taken = Taken {
 };
 
 fn are_used(world: &World, taken: &Taken) -> bool {
-    world.first_use(&tx_id(b"n0", FORGER)) == taken.forger
-        && world.first_use(&tx_id(b"n1", CREATOR)) == taken.other
+    world.flag_of(&tx_id(b"n0", FORGER)) == taken.forger
+        && world.flag_of(&tx_id(b"n1", CREATOR)) == taken.other
 }
 
 // Wants the script's block, drafted by the one book, taken so by the other.

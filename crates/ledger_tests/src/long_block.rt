@@ -44,7 +44,7 @@ const LAST_USE: FirstUse = FirstUse {
 
 fn check_left(alloc: Global, world: &World) -> Result<(), Failed> {
     check(is_row(alloc, world, b"cc", b"k999", &LAST_ROW)?)?;
-    check(world.first_use(&tx_id(b"n999", CREATOR)) == Some(LAST_USE))
+    check(world.flag_of(&tx_id(b"n999", CREATOR)) == Some(LAST_USE))
 }
 
 fn check_by(alloc: Global, peer: &mut ScriptedPeer) -> Result<(), Failed> {

@@ -151,7 +151,7 @@ pub fn check_rows(alloc: Global, world: &World, rows: &[Left]) -> Result<(), Fai
 pub fn are_used(world: &World, uses: &[[u8; 67]]) -> bool {
     for bytes in uses {
         let used = read_use(bytes);
-        if !is_wanted_use(world.first_use(&used.id), used) {
+        if !is_wanted_use(world.flag_of(&used.id), used) {
             return false;
         }
     }
@@ -159,7 +159,7 @@ pub fn are_used(world: &World, uses: &[[u8; 67]]) -> bool {
 }
 
 fn show_use(shown: &mut Vec<u8>, world: &World, id: &TxId) -> Result<(), AllocError> {
-    if let Some(used) = world.first_use(id) {
+    if let Some(used) = world.flag_of(id) {
         show_place(shown, used.block, used.place)?;
         shown.push(used.flag.number())?;
     }

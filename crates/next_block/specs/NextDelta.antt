@@ -42,8 +42,8 @@ AreIdsOfTaken channel taken ids =
     (accepts : Accepts) (items : List (Option Item)) → map shown taken ≡ map (taken_of channel accepts) items
     → ids ≡ map (used_id channel accepts) items
 
--- Of whatever world and verifier the job is that of this block, and the ids are its, this is the block's delta, which keeps these
--- bytes, where that world's last commit hash is this one. A step to the former.
+-- Where the job and the ids are this block's over some world, by some channel and verifier, and this is the world's last commit
+-- hash, this is the block's delta there, and keeps these bytes. A step to `IsNextDelta`.
 abbrev pub IsDeltaOfJob : Job → List (Option (List ℕ)) → Option (List ℕ) → List ℕ → Block → Delta → Type 0
 IsDeltaOfJob j ids last bytes b d =
     (channel : Configuration) (accepts : Accepts) (w : World) → j ≡ job_of channel accepts w (items_of b)

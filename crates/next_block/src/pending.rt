@@ -108,18 +108,18 @@ impl PendingDelta {
         }
     }
 
-    /// How many bytes spell the rows that differ: most of what is hashed.
+    /// How many bytes spell the rows that differ. No clause says it: it serves to guess whether hashing is worth a thread.
     pub fn update_len(&self) -> usize {
         self.update.len()
     }
 
-    /// The room that the delta takes in a world.
+    /// The room that the delta takes in a world, for `World::reserve`. No clause says it.
     pub fn room_in(&self, world: &World) -> Room {
         world.room_for(self.effects.entries.len(), self.uses.len(), &self.batch)
     }
 
-    /// The delta's commit hash: SHA-256 (FIPS 180-4) of the commit hash before it and of what the block changes,
-    /// spelled. Linear in that, and takes memory for it.
+    /// The delta's commit hash: SHA-256 (FIPS 180-4) of the commit hash before it, or of 32 zeros, and of the block's
+    /// version, number, flags and changes, spelled. Linear in that, and takes memory for it.
     pub fn commit_hash(&self, alloc: Global) -> Result<Hash, AllocError>
         ensures { IfOk result (λ hash. hash ≡ self.now.block.commit_hash) }
     {

@@ -170,7 +170,7 @@ fn contains(ids: &[TxId], id: &TxId) -> bool
 fn is_used(world: &World, earlier: &[TxId], id: &TxId) -> bool
     ensures { result ≡ candidate.is_used world.now.first_uses earlier.now (Some id.now) }
 {
-    world.first_use(id).is_some() || contains(earlier, id)
+    world.flag_of(id).is_some() || contains(earlier, id)
 }
 
 /// A candidate, with the id that its item uses.

@@ -50,7 +50,7 @@ fn taken<'a, V: Verify>(
 
 /// Takes the items of the next block of a channel, and answers their flags. An `Err` is want of memory alone, and changes nothing.
 ///
-/// Whether the block is linked isn't asked: it is the next one of any world that holds this, and whose height is its number.
+/// Whether the block is linked isn't asked. The clauses speak of every world that holds this, with the block's number as its height.
 ///
 /// Slow, with no cleverness at all. Each look-up of a row goes through all changes that the world ever made, so that a
 /// block takes time in the product of its reads and writes and these, a range in their square. Each id is compared

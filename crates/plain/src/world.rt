@@ -19,7 +19,7 @@ use transaction::TxId;
 use values::{Key, Name, Shared};
 
 /// All changes, entries and uses of ids that blocks ever made, and the policies of chaincodes. A contract sees the state, the
-/// history and the first uses that they make.
+/// history and the first uses that they make, and these policies.
 #[derive(Drop)]
 pub struct World {
     changes: Vec<Change>,
@@ -144,7 +144,7 @@ impl World {
     }
 
     /// Where an id was used first. Linear in all ids.
-    pub fn first_use(&self, id: &TxId) -> Option<FirstUse>
+    pub fn flag_of(&self, id: &TxId) -> Option<FirstUse>
         ensures { result ≡ get self.now.first_uses id.now }
     {
         use_in(self.uses.as_slice(), id)

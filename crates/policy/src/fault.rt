@@ -5,7 +5,7 @@ use std::alloc::{AllocError, AllocFailed};
 use thiserror::Error;
 
 /// Why a text is no policy: its first fault from the left, or want of memory. A place counts bytes from the
-/// text's start.
+/// text's start; no clause speaks of places, tests do.
 #[derive(Clone, Copy, Debug, PartialEq, Eq, Error)]
 pub enum PolicyFault {
     /// More than 4,096 bytes, which is tested first, or a 257th principal.

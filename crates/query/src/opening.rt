@@ -22,7 +22,7 @@ pub enum OpenFault {
     /// More handles than there may be.
     #[error("more than 32 handles")]
     Readers,
-    /// There was no place for a handle, which doesn't happen.
+    /// There was no place for a handle. The code comes to this nowhere; no clause says it.
     #[error("no place for a handle")]
     NoPlace,
     /// A growth was refused.

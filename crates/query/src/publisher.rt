@@ -245,8 +245,8 @@ impl Publisher {
     /// Has both worlds make room for the next delta: its [`ReadyDelta::room_in`] the published world. Both absorb the
     /// last block too, which spares the next publish that.
     ///
-    /// Readers see no change. Memory for the room alone. Waits twice for queries that began before. Does nothing where
-    /// a publish has failed.
+    /// Readers see no change. Memory for the room alone. Waits twice for queries that began before, and once more where
+    /// room was refused before. Does nothing where a publish has failed.
     pub fn make_room<R: Wait>(&mut self, rt: &R, room: Room) -> Result<(), AllocError>
         ensures { self.new ≡ self.old }
     {
@@ -259,7 +259,7 @@ impl Publisher {
     /// Makes room for the next block and publishes it, whole: from then on queries answer from the world after it.
     ///
     /// An `Err` publishes nothing. Costs the delta twice, once for each world, and its batch once. Waits for queries
-    /// that began before the last publish, and before each of the two steps that make room.
+    /// that began before the last publish, and before each of the steps that make room.
     pub fn publish<R: Wait>(&mut self, rt: &R, delta: Delta) -> Result<Receipt, PublishFault>
         requires linked { IsLinkedDelta (published_world self.old) delta }
         requires open { self.old.failed ≡ false }
@@ -332,8 +332,8 @@ impl Publisher {
         })
     }
 
-    /// Ends the publisher, waits for queries that have begun, and answers what was published last: all that it had
-    /// published, and nothing more. Handles get no entry from then on.
+    /// Ends the publisher, and answers what was published last: all that it had published, and nothing more. It waits for
+    /// queries that have begun, and handles get no entry from then on; no clause says either.
     pub fn close<R: Wait>(self, rt: &R) -> Front
         ensures { result ≡ record { book = self.book; list = self.list } }
     {

@@ -118,7 +118,7 @@ impl Question for FirstUseOf {
     ghost answer_in = { λ q w. first_use_answer w q.id };
 
     fn ask(&self, world: &World) -> Result<Option<FirstUse>, AllocError> {
-        Ok(world.first_use(&self.id))
+        Ok(world.flag_of(&self.id))
     }
 }
 

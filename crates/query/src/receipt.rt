@@ -11,7 +11,7 @@ pub struct Receipt {
     pub height: u64,
     /// SHA-256 of the header's DER bytes.
     pub header_hash: Hash,
-    /// SHA-256 of the commit hash before it, followed by what the block changes.
+    /// SHA-256 of the commit hash before it, or of 32 zeros, followed by the block's version, number, flags and changes.
     pub commit_hash: Hash,
     /// One for each transaction, in order.
     pub flags: Items<Flag>,

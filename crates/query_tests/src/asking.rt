@@ -178,7 +178,7 @@ pub fn check_block(
 /// Wants the first use of an id answered alike.
 pub fn check_use(handle: &mut QueryHandle, world: &World, id: &TxId) -> Result<(), Failed> {
     let reply = handle.flag_of(id)?;
-    check(is_of(&reply, world) && reply.answer == world.first_use(id))
+    check(is_of(&reply, world) && reply.answer == world.flag_of(id))
 }
 
 fn has_text(

@@ -64,8 +64,8 @@ pub fn named_policies_are_not_satisfied()
         → IsReason channel accepts w items i (NotEndorsed (ChaincodeUnsatisfied chaincode lack)) → is_satisfied lack.policy lack.signers ≡ false }
 {}
 
-/// Laws of what signers lack, and no work: of a policy that some text spells a principal is missing where they don't satisfy it, and
-/// of none where they do.
+/// Laws of what signers lack, and no work: where they don't satisfy a policy that some text spells, a principal is missing; where
+/// they satisfy a policy, none is.
 pub fn unsatisfied_policies_miss_a_principal()
     ensures missing { (policy : Tree) (endorsements : List Endorsement) (signers : List Identity) → IsSpelled policy → is_satisfied policy signers ≡ false
         → IsSome (shortfall_of endorsements signers policy).missing }
@@ -98,8 +98,8 @@ pub fn refused_endorsers_have_not_signed()
     policy_eval::each_update_signer_once();
 }
 
-/// A law of another order, and no work: it would do exactly where the signers satisfy a policy of the same gates, each of which asks its
-/// members in another order, those that each role of an organization fills last.
+/// A law of `another_order`, and no work: there is a policy of the same gates, each with its members in some order that has principals
+/// of any role last, and `another_order` says whether the signers satisfy that one.
 pub fn another_order_asks_any_role_last()
     ensures { (policy : Tree) (endorsements : List Endorsement) (signers : List Identity)
         → (other : Tree) × IsReordered policy other × AsksWideLast other × ((shortfall_of endorsements signers policy).another_order ≡ is_satisfied other signers) }

@@ -14,6 +14,6 @@ pub struct PhantomKey {
     pub read: Option<Version>,
     /// What is there once the valid transactions before are applied, or none where the key is absent.
     pub there: Option<Version>,
-    /// The place of the transaction of the same block that wrote or deleted the key last, if one did.
+    /// The place of the last valid transaction before, in the same block, that wrote or deleted the key's row, if one did.
     pub writer: Option<u32>,
 }

@@ -16,7 +16,7 @@ use values::Name;
 pub enum Reason {
     /// 0: nothing is wrong with it.
     NoFault,
-    /// 2: its bytes are neither a transaction nor an update.
+    /// 2: its bytes are neither a transaction nor, in a block of version 2, an update.
     NoTransaction,
     /// 4: the verifier refuses the signature of its creator.
     BadSignature { creator: OwnedIdentity },
@@ -32,7 +32,7 @@ pub enum Reason {
     ReadConflict(StaleRead),
     /// 12: a range doesn't hold.
     PhantomConflict(PhantomKey),
-    /// 14: it is for this channel.
+    /// 14: it is for another channel, the one named here.
     OtherChannel { channel: Name },
     /// 22: its read and write sets aren't in form.
     NotInForm(FormFault),

@@ -10,7 +10,7 @@ pub struct Shortfall {
     /// The endorsers none of whose signatures the verifier accepts, each once.
     pub refused: Items<OwnedIdentity>,
     /// The first principal that was left without a signer: of a gate that isn't satisfied, that of its first
-    /// member that isn't. There is one, as each policy has it that some text spells.
+    /// member that isn't. There is one wherever the signers don't satisfy a policy that some text spells.
     pub missing: Option<Principal>,
     /// Whether the same signers would satisfy the policy if each of its gates asked for members of any role last.
     pub another_order: bool,

@@ -55,7 +55,7 @@ pub(crate) fn first_use(
         → flags.now ≡ fold.flags (job_of channel accepts world.now items)
         → (first : use_of.IdUse) → IsFirstUse channel accepts world.now items i id.now first → result ≡ Some first }
 {
-    if let Some(first) = world.first_use(id) {
+    if let Some(first) = world.flag_of(id) {
         return Some(IdUse::Earlier {
             block: first.block,
             place: first.place,

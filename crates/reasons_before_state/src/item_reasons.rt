@@ -72,7 +72,7 @@ fn form_reason(alloc: Global, item: &Item<'_>) -> Result<Option<Reason>, AllocEr
     }
 }
 
-/// What has no definition of that which a transaction names.
+/// The first name in a transaction that has no definition: of its chaincode, or of a namespace that it writes.
 fn undefined_reason(
     alloc: Global,
     world: &World,
@@ -145,6 +145,7 @@ fn reason_told(
 }
 
 /// Why the item that these bytes spell has this flag, which was given before the rules on the state, at place i of a block.
+/// Where these don't belong together nothing is promised, and there may be no reason.
 ///
 /// The bytes are decoded again unless the flag says that they spell nothing, and what the flag is about is looked at again up to
 /// the first fault. Fails only where memory is refused: it takes memory for that, and for what the reason names.

@@ -25,8 +25,8 @@ use std::alloc::{AllocError, Global};
 ///
 /// What was flagged before the rules on the state is decoded again. Signers are asked again for each key that their
 /// transaction writes, up to the first that they may not write. A read or a range is looked up as the read check does it, and a walk
-/// over the operations on its key finds who wrote it. Of an update nothing is asked again. Fails only where memory is refused: it
-/// takes memory for what the reason names, and for lists of keys.
+/// over the operations on its key finds who wrote it. A policy that isn't satisfied, also the admin policy of an update, is evaluated
+/// twice more. Fails only where memory is refused: it takes memory for what the reason names, and for lists of keys.
 pub fn reason_of(
     alloc: Global,
     block: &FlaggedBlock<'_>,

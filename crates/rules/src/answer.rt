@@ -21,8 +21,8 @@ pub struct Accepted {
 }
 
 /// Why a string of bytes isn't accepted as the next block. Of the first five the first that holds is
-/// answered. Want of memory may come in the place of any of them, or of an acceptance, where a growth
-/// was refused.
+/// answered. Want of memory may come in the place of any of them, or of an acceptance; that it comes
+/// only where a growth was refused is tested, no clause says it.
 #[derive(Clone, Copy, Debug, PartialEq, Eq, Error)]
 pub enum Refused {
     /// The bytes are no block.

@@ -19,7 +19,7 @@ fn is_below(key: &KeyRef<'_>, end: &BoundRef<'_>) -> bool
     end.is_empty() || key.as_slice().cmp(&end).is_lt()
 }
 
-/// From the start to before the end, which is no bound where it is empty.
+/// Whether the key is at or behind the start, and before the end, which is no bound where it is empty.
 pub fn is_within(start: &BoundRef<'_>, end: &BoundRef<'_>, key: &KeyRef<'_>) -> bool
     ensures { result ≡ is_within start.now end.now key.now }
 {

@@ -5,7 +5,7 @@ use values::{Bytes, Hash, Items, Shared};
 /// An accepted block as a ledger keeps it.
 #[derive(Debug, Drop)]
 pub struct CommittedBlock {
-    /// The bytes that were handed in. The keys and values that the block writes are parts of them.
+    /// The bytes that were handed in. The keys and values that the block writes are mostly parts of them.
     pub bytes: Shared<Bytes>,
     /// SHA-256 of the header's DER bytes.
     pub header_hash: Hash,

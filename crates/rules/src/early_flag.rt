@@ -6,7 +6,7 @@ use crate::flag::Flag;
 /// A flag that is given before the rules on the state are asked.
 #[derive(Clone, Copy, Debug, PartialEq, Eq)]
 pub enum EarlyFlag {
-    /// The bytes are neither a transaction nor an update.
+    /// The bytes are neither a transaction nor, in a block of version 2, an update.
     BadPayload,
     /// It is for another channel.
     TargetChainNotFound,

@@ -16,8 +16,8 @@ pub enum Flag {
     InvalidConfigTransaction,
     /// The id isn't that of the nonce and the creator.
     BadProposalTxId,
-    /// The id was used before: by an earlier transaction for this channel, with a good creator's signature
-    /// and its own id, whatever its flag.
+    /// The id was used before: by an earlier transaction or update for this channel, with a good creator's
+    /// signature and its own id, whatever its flag.
     DuplicateTxId,
     /// A policy isn't satisfied, or the policy of a key that it writes was written earlier in the block by a
     /// transaction that passed this check.

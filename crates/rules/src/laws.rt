@@ -214,8 +214,8 @@ pub fn update_bytes_are_of_what_is_left()
         → update_bytes before (with_changes before cs) ≡ update_bytes before (with_changes before ds) }
 {}
 
-/// A law, and no work: blocks of which the same bytes are hashed have the same version, number, flags, rows that differ and replaced
-/// definition, where each policy is told by its canonical text.
+/// A law, and no work: blocks of which the same bytes are hashed, and whose numbers and lengths have room in these bytes, have the
+/// same version, number, flags, rows that differ and replaced definition, where each policy is told by its canonical text.
 pub fn commit_bytes_tell_the_block()
     ensures { (a b : BlockCommit) → HasRoom a → HasRoom b → commit_bytes a ≡ commit_bytes b
         → (a.version ≡ b.version) × (a.number ≡ b.number) × (a.flags ≡ b.flags)
@@ -223,8 +223,8 @@ pub fn commit_bytes_tell_the_block()
         × (option_map told_definition a.definition ≡ option_map told_definition b.definition) }
 {}
 
-/// A law, and no work: where the same bytes are hashed of two blocks, behind the commit hash before each, these hashes are the same, and
-/// so is all that `commit_bytes_tell_the_block` names. Whether equal commit hashes say as much rests on SHA-256.
+/// A law, and no work: where the same bytes are hashed of two such blocks, behind the commit hash before each, these hashes are the
+/// same, and so is all that `commit_bytes_tell_the_block` names. Whether equal commit hashes say as much rests on SHA-256.
 pub fn hashed_bytes_tell_the_commit_hash_before()
     ensures { (p q : List ℕ) (a b : BlockCommit) → IsHash p → IsHash q → HasRoom a → HasRoom b → p ++ commit_bytes a ≡ q ++ commit_bytes b
         → (p ≡ q) × (a.version ≡ b.version) × (a.number ≡ b.number) × (a.flags ≡ b.flags)

@@ -10,7 +10,8 @@ use crate::flag::Flag;
 use std::alloc::{AllocError, Global};
 use transaction::TxId;
 
-/// Where the ids of a block's places are used, each with the place's flag: of any job whose flags these are.
+/// The uses of the ids that a block's places use, in order, each with its place's flag, as every job has them that has
+/// this number and these flags. Linear in the places, in time and memory.
 pub fn uses_of(
     alloc: Global,
     block: u64,

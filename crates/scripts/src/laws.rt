@@ -24,8 +24,9 @@ pub fn limits_are_the_definitions()
     ensures digits { MAX_DIGITS ≡ max_digits }
 {}
 
-/// A law, and no work: a line `raw HEX` for each, in lower case, says these bytes, in a block of any version and
-/// whoever can sign; as many as a block may have, each as long as it may be.
+/// A law, and no work: a script with one line `raw HEX`, in lower case, for each of some strings of bytes says these, in
+/// a block of any version and whoever can sign; they are as many at most as a block may have, each as long at most as it
+/// may be.
 pub fn raw_lines_are_read()
     ensures { (version : BlockVersion) (keys : List book.Entry) (txs : List (List ℕ)) → AllByRecursion IsBytes txs → length txs ≤ max_txs → AllByRecursion (λ tx. length tx ≤ max_tx_bytes) txs → script_of version keys (raw_lines txs) ≡ record { items = map Raw txs; fault = None } }
 {}

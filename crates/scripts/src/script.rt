@@ -91,8 +91,7 @@ fn read_lines(
 /// and a `u32`; there are up to 65,535 of each list, 64 endorsers and 4,096 transactions and updates. Repeated keys
 /// and bad policy texts are no faults.
 ///
-/// Linear in the text, with a look-up in the book and an HMAC of no bytes for each signer; the memory is
-/// linear in the text.
+/// Linear in the text, with a look-up in the book for each signer; the memory is linear in the text.
 pub fn read(
     alloc: Global,
     version: BlockVersion,

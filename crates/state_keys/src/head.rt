@@ -10,9 +10,10 @@ use std::cmp::Ordering;
 /// How many bytes of a key stand in its head.
 const KEY_BYTES: usize = 23;
 
-/// One byte more tells how many the key has, up to this number.
+/// The bytes of a head: the first 23 of a key, and one that tells how many the key has, 24 being that many or more.
 pub const HEAD_BYTES: usize = KEY_BYTES + 1;
 
+/// The first bytes of a key and how many it has, as [`head_of`] makes them.
 pub type Head = [u8; HEAD_BYTES];
 
 /// The head with these bytes from a place on, as far as they fit before the count.

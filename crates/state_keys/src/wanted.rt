@@ -59,7 +59,7 @@ impl<'a> Wanted<'a> {
         order_by_heads(head, &self.head)
     }
 
-    /// How a key stands to this one.
+    /// How a key stands to this one. Linear in their bytes.
     pub fn order_of(&self, namespace: &[u8], key: &[u8]) -> Ordering
         ensures { result ≡ key_cmp (namespace.now, key.now) self.now }
     {

@@ -61,6 +61,6 @@ fields_at read (suc n) bytes = do
 abbrev pub listed_at : {A : Type 0} → ℕ → Reader A → Reader (List A)
 listed_at k read bytes = number_at k bytes >>= λ n. fields_at read n.0 n.1
 
--- the same, with at most so many
+-- a count in one byte, which is at most so many, and that many fields
 abbrev pub few_at : {A : Type 0} → ℕ → Reader A → Reader (List A)
 few_at most read bytes = number_at 1 bytes >>= λ n. if nat_le n.0 most then fields_at read n.0 n.1 else None

@@ -96,7 +96,7 @@ fn read_whole_item(
 /// update of a definition, which version 2 alone has. One pass; nothing is copied but the id, and no count or length is
 /// believed before the bytes are there.
 ///
-/// Memory is for its lists alone: at most 12 bytes for each byte of an item, and at most 22 for each byte of what is
+/// Memory is for its lists alone: at most 12 bytes for each byte of an item, and at most 23 for each byte of what is
 /// refused, beside what the heap adds to each. A list gets its room once, for no more items than the bytes behind its
 /// count can spell.
 pub fn decode_item(

@@ -6,6 +6,7 @@ use crate::transaction::{KeyVersion, NsSet, PolicyWrite, Read, Write};
 pub trait Labelled {
     ghost label: { Self → List ℕ };
 
+    /// The bytes of its name or its key.
     fn label(&self) -> &[u8]
         ensures { result.now ≡ label self.now };
 }

@@ -307,7 +307,7 @@ pub fn decode_identity(bytes: &[u8]) -> Result<Identity<'_>, TxFault>
 /// The transaction that the bytes spell, all of the bytes, which it lends. One pass; nothing is copied but the id, and
 /// no count or length is believed before the bytes are there.
 ///
-/// Memory is for its lists alone: at most 12 bytes for each byte of a transaction, and at most 22 for each byte of what
+/// Memory is for its lists alone: at most 12 bytes for each byte of a transaction, and at most 23 for each byte of what
 /// is refused, beside what the heap adds to each. A list gets its room once, for no more items than the bytes behind
 /// its count can spell.
 pub fn decode_tx(alloc: Global, bytes: &[u8]) -> Result<SpelledTx<'_>, TxFault>

@@ -36,8 +36,8 @@ impl Model for ReadyDelta {
 }
 
 impl ReadyDelta {
-    /// Linear in the changes where they stand in the order of their keys. Takes memory for the batch, whose rows and keys are the
-    /// delta's with one owner more.
+    /// The delta with the batch of its changes. Linear in these where they stand in the order of their keys. Takes memory for the batch,
+    /// whose rows and keys are the delta's with one owner more.
     pub fn new(alloc: Global, delta: Delta) -> Result<ReadyDelta, AllocError>
         ensures { IfOk result (λ ready. ready ≡ delta) }
     {
@@ -61,7 +61,7 @@ impl ReadyDelta {
         )
     }
 
-    /// Makes of each state what the delta's changes make of it.
+    /// The batch, which makes of each state what the delta's changes make of it.
     pub fn batch(&self) -> &Batch
         ensures { (s : State) → changed s result.now ≡ with_changes s (changes_in self.now.changes) }
     {

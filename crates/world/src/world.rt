@@ -152,7 +152,7 @@ impl World {
     }
 
     /// Where an id was used first. Constant time.
-    pub fn first_use(&self, id: &TxId) -> Option<FirstUse>
+    pub fn flag_of(&self, id: &TxId) -> Option<FirstUse>
         ensures { result ≡ first_use_answer self.now id.now }
     {
         self.ids.first_use(id)
@@ -208,8 +208,8 @@ impl World {
     }
 
     /// Applies what a block changes: all of it or, where memory is refused, nothing. Linear in the delta, each change logarithmic in the
-    /// number of rows, whatever the number of blocks; but for lists and maps that grow, which they do seldom. Changes in the order of
-    /// their keys go fastest.
+    /// number of rows, whatever the number of blocks; but for lists and maps that grow, which they do seldom, and for the policies of
+    /// chaincodes, which are all copied where the delta changes one. Changes in the order of their keys go fastest.
     pub fn apply(&mut self, delta: &Delta) -> Result<(), AllocError>
         ensures ok { OnOk result (self.new ≡ applied self.old delta.now) }
         ensures err { OnErr result (self.new ≡ self.old) }

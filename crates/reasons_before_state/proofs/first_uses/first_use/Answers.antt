@@ -11,13 +11,13 @@ use Rattle.reasons_before_state.proofs.first_uses.first_use.Goals as goal
 
 pub returns-in_err-place : goal.returns-in_err-place
 returns-in_err-place c channel accepts items same flags first used =
-    let it = use_here channel accepts c.args.world.now c.args.ids.now items same c.args.id.now c.args.i (sym c.first_use.ensures ∙ c.in_default.is) c.place_of.result c.place_of.ensures.place first used in
+    let it = use_here channel accepts c.args.world.now c.args.ids.now items same c.args.id.now c.args.i (sym c.flag_of.ensures ∙ c.in_default.is) c.place_of.result c.place_of.ensures.place first used in
     absurd (cc (c.in_err-place.was, it.1))
 
 pub returns : goal.returns
 returns c channel accepts items same flags first used =
     let j = job_of channel accepts c.args.world.now items in
-    let it = use_here channel accepts c.args.world.now c.args.ids.now items same c.args.id.now c.args.i (sym c.first_use.ensures ∙ c.in_default.is) c.place_of.result c.place_of.ensures.place first used in
+    let it = use_here channel accepts c.args.world.now c.args.ids.now items same c.args.id.now c.args.i (sym c.flag_of.ensures ∙ c.in_default.is) c.place_of.result c.place_of.ensures.place first used in
     let place : c.in_ok-place.place ≡ it.0 = cc (c.in_ok-place.was, it.1) in
     let count : length c.args.flags.now ≡ length j.candidates = ap (λ (l : List Flag). length l) flags ∙ length-flags j in
     let before = length-take c.args.i c.args.ids.now in

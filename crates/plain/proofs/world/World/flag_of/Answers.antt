@@ -4,7 +4,7 @@ use Rattle.values.specs.Order.{bytes_cmp}
 use Rattle.rules.specs.Delta.{uses_in}
 use Rattle.plain.specs.Held.{Held}
 use Rattle.plain.proofs.Worlds.{first_use_of}
-use Rattle.plain.proofs.world.World.first_use.Goals as goal
+use Rattle.plain.proofs.world.World.flag_of.Goals as goal
 
 pub returns : goal.returns
 returns c =
