@@ -17,6 +17,7 @@ use values::Bytes;
 
 mod each_word;
 mod policy_texts;
+mod updates;
 pub(crate) mod vectors;
 
 // Files in memory, and what was written last, whatever its path.
