@@ -48,7 +48,8 @@ def path_of(crate, name):
 
 @functools.cache
 def of_commit(path):
-    return File(subprocess.run(["git", "show", f"{COMMIT}:{path}"], cwd=TOP, capture_output=True, text=True, check=True).stdout)
+    # a file that the commit hasn't is empty there
+    return File(subprocess.run(["git", "show", f"{COMMIT}:{path}"], cwd=TOP, capture_output=True, text=True).stdout)
 
 
 @functools.cache
@@ -189,6 +190,7 @@ def differences(crate, name, definition):
 
 
 def main():
+    subprocess.run(["git", "cat-file", "-e", COMMIT], cwd=TOP, check=True)
     walk = Walk()
     for file in sorted((TOP / "crates" / OWN / "specs").glob("*.antt")):
         if file.stem not in OF_BOTH:
