@@ -120,7 +120,7 @@ pub fn ids_are_noted(world: &World, noted: &Noted) -> bool {
             None => None,
             Some(place) => Some(use_at(*place)),
         };
-        if world.first_use(&id_of(number)) != expected {
+        if world.flag_of(&id_of(number)) != expected {
             return false;
         }
     }
