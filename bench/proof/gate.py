@@ -1,9 +1,12 @@
 #!/usr/bin/env python3
 """What each call of the prover costs in a whole merge gate, from nothing: processor time, time by the clock, largest process.
 
-gate.py [--commit REV] [--processors N] [--keep FILE] [WORD ..]: clones the repository's commit into a temporary folder and runs
-the words there, `rt ci` if none is given, by a copy of the kit's `rt` before whose prover a recorder stands. Prints what it said,
-and then a table. `gate.py --read FILE [--by-call]` prints the table of a run that was kept, and `gate.py --read FILE --costs` what
+gate.py [--commit REV] [--processors N] [--keep FILE] [--sampled] [WORD ..]: clones the repository's commit into a
+temporary folder and runs the words there, `rt ci` if none is given, by a copy of the kit's `rt` before whose prover a
+recorder stands. Prints what it said, and then a table. With `--sampled` the machine's own kit runs, so that `rt ci`
+keeps what passes; its processes are looked at once a second, and shorter ones are missed.
+
+`gate.py --read FILE [--by-call]` prints the table of a run that was kept, and `gate.py --read FILE --costs` what
 `launch/costs.txt` has: the seconds and MB of each crate's first proof, by which `./prove` plans.
 """
 
@@ -12,10 +15,12 @@ import collections
 import json
 import os
 import pathlib
+import re
 import shutil
 import subprocess
 import sys
 import tempfile
+import threading
 import time
 
 sys.dont_write_bytecode = True
@@ -38,6 +43,7 @@ with open({record!r}, "a") as file:
     file.write(json.dumps(line) + "\\n")
 sys.exit(status if status >= 0 else 128 - status)
 """
+PROGRAMS = ("rattle", "rattle-link", "rattle-test")
 KINDS = ["proof", "tests", "edits: first", "edits: others", "builds", "runs"]
 
 
@@ -50,7 +56,7 @@ def recording_kit(at, record):
             (at / file.name).symlink_to(file)
     for file in (kit / "bin").iterdir():
         to = at / "bin" / file.name
-        if file.name in ("rattle", "rattle-link", "rattle-test"):
+        if file.name in PROGRAMS:
             to.write_text(RECORDER.format(python=sys.executable, real=str(file), name=file.name, record=str(record)))
             to.chmod(0o755)
         elif file.suffix == ".py" or file.name == "rt":
@@ -58,6 +64,53 @@ def recording_kit(at, record):
         else:
             to.symlink_to(file)
     return at / "bin" / "rt"
+
+
+class Samples(threading.Thread):
+    """Looks once a second at the kit's programs that run with a mark in their environment, and writes a line of each that ended."""
+
+    def __init__(self, mark, record):
+        super().__init__(daemon=True)
+        self.mark, self.record, self.lines, self.others, self.ended = mark.encode(), record, {}, set(), threading.Event()
+
+    def run(self):
+        while not self.ended.wait(1):
+            self.look()
+        self.write(list(self.lines))
+
+    def look(self):
+        alive = set()
+        for folder in pathlib.Path("/proc").glob("[0-9]*"):
+            try:
+                alive.add(self.look_at(folder))
+            except OSError:
+                # it ended meanwhile
+                continue
+        self.write([it for it in self.lines if it not in alive])
+
+    def look_at(self, folder):
+        fields = (folder / "stat").read_text().rsplit(")", 1)[1].split()
+        it = (folder.name, fields[19])
+        if it in self.others:
+            return it
+        words = (folder / "cmdline").read_bytes().decode(errors="replace").split("\0")[:-1]
+        name = pathlib.Path(words[0]).name if words else ""
+        if it not in self.lines and self.mark not in (folder / "environ").read_bytes():
+            self.others.add(it)
+            return it
+        if name not in PROGRAMS:
+            # it may become one
+            return it
+        used = sum(int(ticks) for ticks in fields[11:15]) / os.sysconf("SC_CLK_TCK")
+        most = re.search(r"VmHWM:\s+(\d+)", (folder / "status").read_text())
+        line = self.lines.setdefault(it, dict(words=words[1:], folder=os.readlink(folder / "cwd"), program=name, began=time.time(), status=None))
+        line.update(ended=time.time(), processor=used, megabytes=int(most[1]) // 1024 if most else line.get("megabytes", 0))
+        return it
+
+    def write(self, ended):
+        with open(self.record, "a") as file:
+            for it in ended:
+                file.write(json.dumps(self.lines.pop(it)) + "\n")
 
 
 def crate_of(call):
@@ -143,6 +196,7 @@ def main():
     words.add_argument("--processors", type=int)
     words.add_argument("--keep", type=pathlib.Path)
     words.add_argument("--read", type=pathlib.Path)
+    words.add_argument("--sampled", action="store_true")
     words.add_argument("--by-call", action="store_true")
     words.add_argument("--costs", action="store_true")
     words.add_argument("command", nargs="*", default=["rt", "ci"])
@@ -153,17 +207,25 @@ def main():
         room = pathlib.Path(folder)
         record = (given.keep or room / "record").absolute()
         record.write_text("")
-        rt = recording_kit(room / "kit", record)
+        environment, samples = dict(os.environ), None
+        if given.sampled:
+            environment["SAMPLED"] = folder
+            samples = Samples(f"SAMPLED={folder}", record)
+            samples.start()
+        else:
+            environment["PATH"] = f"{recording_kit(room / 'kit', record).parent}:{os.environ['PATH']}"
         clone = room / "mittcoomb"
         subprocess.run(["git", "clone", "-q", scratch.TOP, clone], check=True)
         subprocess.run(["git", "checkout", "-q", given.commit], cwd=clone, check=True)
         if given.processors:
             os.sched_setaffinity(0, list(os.sched_getaffinity(0))[: given.processors])
-        environment = dict(os.environ, PATH=f"{rt.parent}:{os.environ['PATH']}")
         machine, memory, began = scratch.Machine(), peak_of_all(str(room / "peak")), time.time()
         status = subprocess.run(given.command, cwd=clone, env=environment).returncode
         minutes = (time.time() - began) / 60
         memory.terminate()
+        if samples:
+            samples.ended.set()
+            samples.join()
         read(record, given.by_call)
         print(f"{' '.join(given.command)}: status {status}, {minutes:.1f} minutes; most memory in use {(room / 'peak').read_text()} MB; {machine}")
     return status
