@@ -172,6 +172,9 @@ def read(file, by_call):
         print(f"| {crate} | {' | '.join(cells)} | {whole(crate):.0f} | {most} |")
     sums = [sum(seconds(crate, kind) for crate in took) for kind in KINDS]
     print(f"| all | {' | '.join(f'{it:.0f}' for it in sums)} | {sum(sums):.0f} | |")
+    if not calls:
+        print("\nno calls: all was kept")
+        return
     began, ended = min(call["began"] for call in calls), max(call["ended"] for call in calls)
     print(f"\n{len(calls)} calls, {sum(sums) / 60:.1f} processor minutes in {(ended - began) / 60:.1f} minutes")
 
