@@ -1,8 +1,10 @@
 //! The words of each fault of an update that no other reason has: one block each, of one update.
 
 use crate::explained::{drafted, is_explained, of_script};
+use crate::files::File;
 use crate::fixture::CHANNEL;
 use crate::signatures::keys;
+use std::alloc::AllocError;
 use std::sync::Wait;
 use std::thread::Threads;
 use test_support::Failed;
@@ -32,6 +34,20 @@ static UPDATES: [Update; 3] = [
     ),
 ];
 
+fn of_block<'a>(channel: &'a [u8], keys: &'a [u8], block: &'a [u8]) -> [File<'a>; 3] {
+    [("c", channel), ("k", keys), ("b0", block)]
+}
+
+fn is_block_said<'a>(
+    rt: &(impl AllocGlobal + Threads + Wait + Sync),
+    channel: &'a [u8],
+    block: &'a [u8],
+    line: &str,
+) -> Result<bool, AllocError> {
+    let files = of_block(channel, keys(), block);
+    is_explained(rt, &files, "explain b0", "block 0 ", line)
+}
+
 fn is_said<'a>(
     rt: &(impl AllocGlobal + Threads + Wait + Sync),
     channel: &'a [u8],
@@ -43,8 +59,7 @@ fn is_said<'a>(
         &of_script(channel, keys(), script),
         "draft --format 2 s out",
     )?;
-    let files = [("c", channel), ("k", keys()), ("b0", block.as_slice())];
-    Ok(is_explained(rt, &files, "explain b0", "block 0 ", line)?)
+    Ok(is_block_said(rt, channel, block.as_slice(), line)?)
 }
 
 #[test]
