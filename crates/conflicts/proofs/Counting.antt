@@ -1,9 +1,8 @@
 -- What one conflict more makes of counts.
 use Rattle.std.proofs.Common.{◌≡◌, ◌≤◌, ◌<◌, ℕ, zero, suc, ◌+◌, Bool, true, false, cond, ◌&&◌, List, [], ◌∷◌, ◌++◌, length, get_or, take, replicate, Option, Some, None, refl, sym, ap, ◌∙◌, arith, append_assoc}
-use Rattle.std.specs.List.{count_by, cons_option}
+use Rattle.std.specs.List.{count_by, cons_option, filter_map}
 use Rattle.std.proofs.lemmas.List.{take_more}
 use Rattle.reasons.specs.declared.reason.Reason.{Reason}
-use Rattle.conflicts.specs.Conflict.{conflict_of, conflicts_of}
 use Rattle.std.proofs.lemmas.List.Sums.{sum_by_push}
 use Rattle.rules.specs.State.{StateKey, is_same_key}
 use Rattle.conflicts.specs.declared.conflict.Conflict.{Conflict}
@@ -62,10 +61,10 @@ few_with : (o : Option Conflict) (cs : List Conflict) (n : ℕ) → length cs �
 few_with None cs n h = omega arith
 few_with (Some c) cs n h = omega arith
 
--- no more conflicts than transactions
-pub few : (reasons : List Reason) → length (conflicts_of reasons) ≤ length reasons
-few [] = omega arith
-few (r ∷ rs) = let h = few_with (conflict_of r) (conflicts_of rs) (length rs) (few rs) in omega (arith, h)
+-- no more conflicts than transactions, and no more lacks
+pub few : (found : Reason → Option Conflict) (reasons : List Reason) → length (filter_map found reasons) ≤ length reasons
+few found [] = omega arith
+few found (r ∷ rs) = let h = few_with (found r) (filter_map found rs) (length rs) (few found rs) in omega (arith, h)
 
 pub at_zero : (n i : ℕ) → ◌≡◌ {A = ℕ} (get_or (replicate n 0) i 0) 0
 at_zero zero zero = refl

@@ -2,4 +2,8 @@ mod Counting
 mod Lines
 mod Ranked
 mod Sums
+mod Names
+mod Unique
+mod Spread
+mod Chaincodes
 mod Rows

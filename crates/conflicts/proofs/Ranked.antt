@@ -68,7 +68,7 @@ has : (o p : Option KeyCounts) → o ≡ p → 0 < total_of (unwrap_or o no_coun
 has o None e h = let bad : 1 ≤ 0 = subst (λ (q : Option KeyCounts). 0 < total_of (unwrap_or q no_counts)) e h in absurd (omega arith)
 has o (Some v) e h = (v, e, subst (λ (q : Option KeyCounts). 0 < total_of (unwrap_or q no_counts)) e h)
 
-then_equal : (a b : Ordering) → ordering_then a b ≡ Equal → b ≡ Equal
+pub then_equal : (a b : Ordering) → ordering_then a b ≡ Equal → b ≡ Equal
 then_equal Less b e = absurd cc
 then_equal Equal b e = e
 then_equal Greater b e = absurd cc

@@ -1,10 +1,12 @@
 -- Worked rows of what conflicts cost: each computes, and a wrong expectation is refused.
-use Rattle.std.proofs.Common.{◌≡◌, ◌<◌, ℕ, List, [], ◌∷◌, Option, Some, None, false, refl, arith}
+use Rattle.std.proofs.Common.{◌≡◌, ◌<◌, ℕ, zero, suc, List, [], ◌∷◌, Option, Some, None, false, refl, arith}
 use Rattle.std.specs.Prelude.{codes}
-use Rattle.std.specs.List.Sorted.{IsStrictlySortedBy}
+use Rattle.std.specs.List.Sorted.{IsStrictlySortedBy, IsSorted}
 use Rattle.std.proofs.lemmas.List.Elements.{All-from_recursion}
 use Rattle.policy.specs.Tree.{principal}
-use Rattle.policy.specs.declared.tree.PolicyRole.TheVariants.{Peer}
+use Rattle.std.specs.Str.{bytes_eq}
+use Rattle.policy.specs.declared.tree.PolicyRole.{PolicyRole}
+use Rattle.policy.specs.declared.tree.PolicyRole.TheVariants.{Admin, Peer}
 use Rattle.rules.specs.declared.flag.Flag.TheVariants.{Valid, EndorsementPolicyFailure, MvccReadConflict, PhantomReadConflict}
 use Rattle.reasons.specs.declared.endorsement_fault.EndorsementFault.TheVariants.{Touched, Unsatisfied, ChaincodeUnsatisfied}
 use Rattle.reasons.specs.declared.policy_owner.PolicyOwner.TheVariants.{OfKey, OfChaincode}
@@ -13,7 +15,12 @@ use Rattle.reasons.specs.declared.reason.Reason.TheVariants.{NoFault, NoTransact
 use Rattle.reasons.specs.declared.shortfall.Shortfall.{Shortfall}
 use Rattle.conflicts.specs.Conflict.{conflicts_of}
 use Rattle.conflicts.specs.FlagCounts.{with_flag}
+use Rattle.conflicts.specs.Lack.{lacks_of}
+use Rattle.conflicts.specs.declared.key_counts.KeyCounts.{KeyCounts}
 use Rattle.conflicts.specs.KeyCounts.{counts_of, total_of}
+use Rattle.conflicts.specs.declared.chaincode_line.ChaincodeLine.{ChaincodeLine}
+use Rattle.conflicts.specs.Chaincodes.{chaincode_cmp, AreChaincodes}
+use Rattle.conflicts.specs.Laws.{total_where}
 use Rattle.conflicts.specs.Ranking.{Line, IsRanking}
 
 abbrev bank : List ℕ
@@ -89,3 +96,64 @@ most_first = record {
   all = refl;
   order = ((refl, (refl, tt)), ((refl, tt), (tt, tt)));
 }
+
+-- ---- whose endorsements were missing
+
+abbrev missing : List ℕ → PolicyRole → Shortfall
+missing org role = record { policy = principal org role; signers = []; refused = []; missing = Some (record { org = org; role = role }); another_order = false }
+
+abbrev deal : List ℕ
+deal = codes "deal"
+
+abbrev of_peer : List ℕ → List ℕ → Reason
+of_peer chaincode org = NotEndorsed (ChaincodeUnsatisfied chaincode (missing org Peer))
+
+abbrev unendorsed : List Reason
+unendorsed =
+    of_peer cars (codes "Org1") ∷ of_peer cars (codes "Org2") ∷ NotEndorsed (Unsatisfied cars b OfChaincode (missing (codes "Org2") Peer)) ∷ NoFault
+    ∷ NotEndorsed (ChaincodeUnsatisfied bank (missing (codes "Org1") Admin)) ∷ NotEndorsed (Unsatisfied bank a OfKey (missing (codes "Org1") Admin))
+    ∷ NotEndorsed (Touched bank a 0) ∷ stale bank b None ∷ NotEndorsed (Unsatisfied bank a OfChaincode (missing (codes "Org1") Admin))
+    ∷ of_peer deal (codes "Org3") ∷ of_peer deal (codes "Org2") ∷ []
+
+abbrev by_own_policy : ℕ → KeyCounts
+by_own_policy n = record { stale_reads = 0; phantoms = 0; own_policy = n; policy_touched = 0; in_block = 0 }
+
+abbrev missing_lines : List Line
+missing_lines =
+    ((bank, codes "Org1.admin"), by_own_policy 2) ∷ ((cars, codes "Org2.peer"), by_own_policy 2) ∷ ((cars, codes "Org1.peer"), by_own_policy 1)
+    ∷ ((deal, codes "Org2.peer"), by_own_policy 1) ∷ ((deal, codes "Org3.peer"), by_own_policy 1) ∷ []
+
+-- most first, and of two with as many the chaincode that is first in order; neither a key's own policy nor one that was
+-- touched bars a chaincode's transaction
+pub missing_most : IsRanking (lacks_of unendorsed) missing_lines
+unfolding IsStrictlySortedBy
+missing_most = record {
+  counts = All-from_recursion (λ (l : Line). (l.1 ≡ counts_of l.0 (lacks_of unendorsed)) × (0 < total_of l.1)) missing_lines ((refl, omega arith), ((refl, omega arith), ((refl, omega arith), ((refl, omega arith), ((refl, omega arith), tt)))));
+  all = refl;
+  order = ((refl, (refl, (refl, (refl, tt)))), ((refl, (refl, (refl, tt))), ((refl, (refl, tt)), ((refl, tt), (tt, tt)))));
+}
+
+abbrev chaincodes : List ChaincodeLine
+chaincodes =
+    record { transactions = 3; most_missing = ((cars, codes "Org2.peer"), by_own_policy 2) } ∷ record { transactions = 2; most_missing = ((bank, codes "Org1.admin"), by_own_policy 2) }
+    ∷ record { transactions = 2; most_missing = ((deal, codes "Org2.peer"), by_own_policy 1) } ∷ []
+
+in_order : IsSorted chaincode_cmp chaincodes
+in_order zero d l h = refl
+in_order (suc zero) d l h = refl
+in_order (suc (suc k)) d l h = absurd (omega (arith, h))
+
+-- Most first: cars before bank, which lacks one principal as often. Of two with as many the first in order: bank before deal.
+-- Of cars most lack Org2's peer, though Org1's comes before it; of deal as many lack each, and the first stands there. Each
+-- chaincode stands once.
+pub worst_chaincodes : AreChaincodes (lacks_of unendorsed) chaincodes
+worst_chaincodes = record {
+  ranking = missing_lines;
+  ranked = missing_most;
+  each = record { moves = (0, 1) ∷ []; below = (omega arith, omega arith, tt); is = refl };
+  order = in_order;
+}
+
+-- the lines have together what the reasons say
+pub three_in_lines : total_where (λ k. bytes_eq k.0 cars) missing_lines ≡ 3
+three_in_lines = refl

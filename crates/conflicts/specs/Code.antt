@@ -11,5 +11,6 @@ line_code = coded× key_code (counts.the_row).coded
 
 abbrev pub tally_code : Coded Tally
 tally_code =
-    code_by (ℕ × (List ℕ × List Line)) (coded× coded_ℕ (coded× (coded_list coded_ℕ) (coded_list line_code)))
-    (λ t. (t.total, (t.flags, t.keys))) (λ p. record { total = p.0; flags = p.1.0; keys = p.1.1 }) (λ _. refl)
+    code_by (ℕ × (List ℕ × (List Line × List Line)))
+    (coded× coded_ℕ (coded× (coded_list coded_ℕ) (coded× (coded_list line_code) (coded_list line_code))))
+    (λ t. (t.total, (t.flags, (t.keys, t.lacks)))) (λ p. record { total = p.0; flags = p.1.0; keys = p.1.1.0; lacks = p.1.1.1 }) (λ _. refl)

@@ -1,8 +1,10 @@
 pub mod Conflict
+pub mod Lack
 pub mod KeyCounts
 pub mod FlagCounts
 pub mod Ranking
 pub mod Tally
 pub mod LineOrder
 pub mod Laws
+pub mod Chaincodes
 pub mod Code

@@ -11,7 +11,9 @@ use Rattle.conflicts.specs.declared.conflict.Found.{Found}
 use Rattle.conflicts.specs.declared.key_counts.KeyCounts.{KeyCounts}
 use Rattle.conflicts.specs.declared.kind.Kind.{Kind}
 use Rattle.conflicts.specs.declared.kind.Kind.TheVariants.{StaleRead, Phantom, OwnPolicy, PolicyTouched}
+use Rattle.conflicts.specs.declared.lack.FoundLack.{FoundLack}
 use Rattle.conflicts.specs.Conflict.{conflicts_of}
+use Rattle.conflicts.specs.Lack.{lack, lacks_of}
 use Rattle.conflicts.specs.KeyCounts.{counts_of, total_of, is_same_kind}
 use Rattle.conflicts.specs.FlagCounts.{with_flag}
 use Rattle.conflicts.specs.Ranking.{Line}
@@ -23,6 +25,8 @@ pub record Tally : Type 0 where
   pub flags : List ℕ
   -- what each key has, by the keys' order; one without conflicts may have a line of none
   pub keys : List Line
+  -- and each principal that is missing, in the place of a key of the chaincode
+  pub lacks : List Line
 
 abbrev pub no_counts : KeyCounts
 no_counts = record { stale_reads = 0; phantoms = 0; own_policy = 0; policy_touched = 0; in_block = 0 }
@@ -44,6 +48,7 @@ pub record Counts (reasons : List Reason) (t : Tally) : Type 0 where
   pub total : t.total ≡ length reasons
   pub flags : CountsFlags reasons t.flags
   pub keys : CountsKeys (conflicts_of reasons) t.keys
+  pub lacks : CountsKeys (lacks_of reasons) t.lacks
 
 -- ---- steps between the definitions and the code
 
@@ -60,6 +65,10 @@ with_conflict kind in_block n = record {
 -- a conflict whose key is lent
 abbrev pub found_conflict : Found → Conflict
 found_conflict f = record { key = (f.namespace, f.key); kind = f.kind; in_block = f.in_block }
+
+-- a lack that is lent
+abbrev pub found_lack : FoundLack → Conflict
+found_lack f = lack f.chaincode f.missing.now
 
 -- whether a key has a line
 abbrev pub has_line : List Line → StateKey → Bool

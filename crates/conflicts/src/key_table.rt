@@ -30,7 +30,7 @@ fn give_line(
 }
 
 /// Gives each key of these conflicts a line. An `Err` leaves what keys have.
-fn give_lines(
+pub(crate) fn give_lines(
     lines: &mut BTreeMap<ConflictKey, KeyCounts>,
     conflicts: &[Conflict],
 ) -> Result<(), AllocError>
@@ -58,7 +58,11 @@ fn count(lines: &mut BTreeMap<ConflictKey, KeyCounts>, conflict: &Conflict, tota
 }
 
 /// Counts conflicts, whose keys have lines, where so many were counted before at most. Takes no memory.
-fn count_all(lines: &mut BTreeMap<ConflictKey, KeyCounts>, conflicts: &[Conflict], total: u64)
+pub(crate) fn count_all(
+    lines: &mut BTreeMap<ConflictKey, KeyCounts>,
+    conflicts: &[Conflict],
+    total: u64,
+)
     requires lines { All (λ c. IsTrue (has_line lines.old.entries c.key)) conflicts.now }
     requires within { IsWithin total lines.old.entries }
     requires small { total + length conflicts.now < 2 ^ 64 }

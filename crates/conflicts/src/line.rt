@@ -1,5 +1,5 @@
 //! A key with its counts, in the order of a report.
-ghost use Rattle.std.specs.Prelude.{◌≡◌};
+ghost use Rattle.std.specs.Prelude.{◌≡◌, IfOk};
 ghost use Rattle.std.proofs.Common.{refl, rules};
 ghost use Rattle.std.specs.Cmp.{partial_order_from_agreeing_total, partial_equiv_from_equiv, eq_by_cmp_equiv};
 ghost use Rattle.std.specs.Cmp.Rules.{comparing};
@@ -9,6 +9,7 @@ ghost use Rattle.conflicts.specs.LineOrder.{line_cmp_total};
 
 use crate::conflict_key::ConflictKey;
 use crate::key_counts::KeyCounts;
+use std::alloc::AllocError;
 use std::cmp::Ordering;
 use std::marker::Model;
 
@@ -50,6 +51,16 @@ impl Line {
         ensures { result.now ≡ self.now.1 }
     {
         &self.counts
+    }
+
+    /// The line once more. Takes no memory, and is refused only to the 2^63rd owner of its key.
+    pub(crate) fn share(&self) -> Result<Line, AllocError>
+        ensures { IfOk result (λ l. l ≡ self.now) }
+    {
+        Ok(Line {
+            key: self.key.share()?,
+            counts: self.counts,
+        })
     }
 
     fn order(&self, other: &Line) -> Ordering

@@ -4,7 +4,7 @@ ghost use Rattle.std.specs.List.Sorted.{IsStrictlySortedBy};
 ghost use Rattle.std.specs.Map.{keys_of};
 ghost use Rattle.rules.specs.State.{key_cmp};
 ghost use Rattle.conflicts.specs.declared.conflict.Conflict.{Conflict};
-ghost use Rattle.conflicts.specs.Ranking.{AreFirst};
+ghost use Rattle.conflicts.specs.Ranking.{IsRanking, AreFirst};
 ghost use Rattle.conflicts.specs.Tally.{CountsKeys, is_line, line_to_list};
 
 use crate::conflict_key::ConflictKey;
@@ -38,6 +38,18 @@ fn lines_of(
     Ok(lines)
 }
 
+/// The ranking of these keys.
+pub(crate) fn ranked_lines(
+    alloc: Global,
+    table: &BTreeMap<ConflictKey, KeyCounts>,
+) -> Result<Vec<Line>, AllocError>
+    ensures { IfOk result (λ lines. (conflicts : List Conflict) → CountsKeys conflicts table.now.entries → IsRanking conflicts lines.items) }
+{
+    let mut lines = lines_of(alloc, table)?;
+    lines.sort_unstable();
+    Ok(lines)
+}
+
 /// The first n lines of the ranking of these keys.
 pub(crate) fn first_lines(
     alloc: Global,
@@ -46,8 +58,7 @@ pub(crate) fn first_lines(
 ) -> Result<Vec<Line>, AllocError>
     ensures { IfOk result (λ lines. (conflicts : List Conflict) → CountsKeys conflicts table.now.entries → AreFirst conflicts n lines.items) }
 {
-    let mut lines = lines_of(alloc, table)?;
-    lines.sort_unstable();
+    let mut lines = ranked_lines(alloc, table)?;
     lines.truncate(n);
     Ok(lines)
 }

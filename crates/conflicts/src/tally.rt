@@ -1,16 +1,19 @@
 ghost use Rattle.std.specs.Prelude.{◌≡◌, ◌<◌, ◌+◌, ◌++◌, ◌^◌, [], List, OnOk, OnErr, IfOk};
 ghost use Rattle.reasons.specs.declared.reason.Reason.{Reason};
+ghost use Rattle.conflicts.specs.Chaincodes.{AreChaincodes};
 ghost use Rattle.conflicts.specs.Conflict.{conflicts_of};
+ghost use Rattle.conflicts.specs.Lack.{lacks_of};
 ghost use Rattle.conflicts.specs.FlagCounts.{with_flag};
 ghost use Rattle.conflicts.specs.Ranking.{AreFirst};
 ghost use Rattle.conflicts.specs.Tally.{Counts};
 
+use crate::chaincode_line::{ChaincodeLine, chaincode_lines};
 use crate::conflict_key::ConflictKey;
 use crate::flag_counts::{NUMBERS, count_flags, with_flag};
 use crate::key_counts::KeyCounts;
-use crate::key_table::count_keys;
 use crate::line::Line;
-use crate::ranking::first_lines;
+use crate::ranking::{first_lines, ranked_lines};
+use crate::tables::count_tables;
 use reasons::Reason;
 use rules::Flag;
 use std::alloc::{AllocError, Global};
@@ -18,14 +21,16 @@ use std::collections::BTreeMap;
 use std::marker::Model;
 use values::Items;
 
-/// What conflicts cost over a chain: how many transactions have each flag, and how many each key made invalid.
-/// Keeps a line for each key that is to blame, and nothing else of a block.
+/// What conflicts cost over a chain: how many transactions have each flag, and how many were made invalid by each key,
+/// and for want of whose endorsement. Keeps a line for each key that is to blame, and for each chaincode with a
+/// principal that is missing, and nothing else of a block.
 #[derive(Drop)]
 pub struct Tally {
     alloc: Global,
     total: u64,
     flags: [u64; NUMBERS],
     keys: BTreeMap<ConflictKey, KeyCounts>,
+    lacks: BTreeMap<ConflictKey, KeyCounts>,
 }
 
 impl Model for Tally {
@@ -38,9 +43,9 @@ impl Model for Tally {
 
     ghost use Rattle.conflicts.specs.Tally.{IsWithin, AreWithin};
 
-    ghost view = { λ t. record { total = t.total; flags = t.flags; keys = t.keys.entries } };
+    ghost view = { λ t. record { total = t.total; flags = t.flags; keys = t.keys.entries; lacks = t.lacks.entries } };
 
-    ghost invariant = { λ t. IsWithin t.total t.keys.entries × AreWithin t.total t.flags };
+    ghost invariant = { λ t. IsWithin t.total t.keys.entries × IsWithin t.total t.lacks.entries × AreWithin t.total t.flags };
 }
 
 // The sum, where it fits.
@@ -64,18 +69,25 @@ impl Tally {
             total: 0,
             flags: [0; NUMBERS],
             keys: BTreeMap::new(alloc),
+            lacks: BTreeMap::new(alloc),
         }
     }
 
     /// Counts the transactions that have these reasons, as of one block. An `Err` counts none of them; it comes where
-    /// memory is refused, and beyond 2^64 - 1 transactions. A look-up for each key that made one invalid, logarithmic
-    /// in the keys so far. Takes memory for the new ones, and for a copy of each until it returns.
+    /// memory is refused, and beyond 2^64 - 1 transactions. A look-up for each key or principal that made one invalid,
+    /// logarithmic in those so far. Takes memory for the new ones, and for a copy of each until it returns.
     pub fn add(&mut self, reasons: &[Reason]) -> Result<(), AllocError>
         ensures ok { OnOk result ((before : List Reason) → Counts before self.old → Counts (before ++ reasons.now) self.new) }
         ensures err { OnErr result ((before : List Reason) → Counts before self.old → Counts before self.new) }
     {
         let total = increased(self.total, reasons.len())?;
-        count_keys(self.alloc, &mut self.keys, reasons, self.total)?;
+        count_tables(
+            self.alloc,
+            &mut self.keys,
+            &mut self.lacks,
+            reasons,
+            self.total,
+        )?;
         count_flags(&mut self.flags, reasons, self.total);
         self.total = total;
         Ok(())
@@ -101,5 +113,15 @@ impl Tally {
         ensures { IfOk result (λ lines. (reasons : List Reason) → Counts reasons self.now → AreFirst (conflicts_of reasons) n lines) }
     {
         Ok(Items::from_vec(first_lines(alloc, &self.keys, n)?))
+    }
+
+    /// The chaincodes whose own policies made transactions invalid, each with the principal that was missing in most of
+    /// them, the first of several: most transactions first, ties in the order of names. Sorts a list of all chaincodes
+    /// with each principal that was missing, and steps over it for each line.
+    pub fn chaincodes(&self, alloc: Global) -> Result<Items<ChaincodeLine>, AllocError>
+        ensures { IfOk result (λ lines. (reasons : List Reason) → Counts reasons self.now → AreChaincodes (lacks_of reasons) lines) }
+    {
+        let ranking = ranked_lines(alloc, &self.lacks)?;
+        Ok(Items::from_vec(chaincode_lines(alloc, ranking.as_slice())?))
     }
 }

@@ -9,7 +9,7 @@ use Rattle.conflicts.proofs.key_table.count_keys.Goals as goal
 pub count_all-requires-clause-small : goal.count_all-requires-clause-small
 count_all-requires-clause-small c =
     let e : c.as_slice-all.result.now ≡ conflicts_of c.args.reasons.now = c.as_slice-all.ensures.value ∙ c.in_ok-conflicts.ensures in
-    omega (arith, ap length e, few c.args.reasons.now)
+    omega (arith, ap length e, few conflict_of c.args.reasons.now)
 
 pub returns-clause-ok : goal.returns-clause-ok
 returns-clause-ok c = λ before h.
@@ -22,4 +22,4 @@ pub returns-clause-within : goal.returns-clause-within
 returns-clause-within c = λ k.
     let e : c.as_slice-all.result.now ≡ conflicts_of c.args.reasons.now = c.as_slice-all.ensures.value ∙ c.in_ok-conflicts.ensures in
     let most = c.count_all.ensures.within k in
-    (omega (arith, ap length e, few c.args.reasons.now, most.0), omega (arith, ap length e, few c.args.reasons.now, most.1))
+    (omega (arith, ap length e, few conflict_of c.args.reasons.now, most.0), omega (arith, ap length e, few conflict_of c.args.reasons.now, most.1))
