@@ -60,6 +60,7 @@ SUBJECTS = {
     "show": ("command_line_tests", "memory.rt", "outcome_of_answer(&rt, SHOW)"),
     "explain": ("command_line_tests", "memory.rt", "outcome_of_explain(&rt)"),
     "explain by id": ("command_line_tests", "memory.rt", "outcome_of_id(&rt)"),
+    "conflicts": ("command_line_tests", "memory.rt", "outcome_of_conflicts(&rt)"),
 }
 
 # The allocation of a process that is refused. No subject makes so many.

@@ -21,8 +21,11 @@ A few of them, by the rules:
 | 27, 0 | 12 | a policy write alone gave a the version (26, 5) |
 """
 
-from committer import text_of
+from committer import World, text_of
+from counting import counted
+from drafts import Chain
 from encoding import read_block
+from explaining import explained
 from rust import rust_file, rust_lines, rust_string, rust_table
 from story import story
 from words import at, named, told, word
@@ -166,6 +169,21 @@ def told_worked():
     for name, world in worked(ALL):
         yield f"\n{name}"
         yield from told_blocks(world.blocks, world.reasons)
+
+
+def rust_counts(world):
+    """What made the transactions of the chain invalid, of all blocks and of the later half."""
+    before, reasons = World(world.channel, dict(Chain().world.definitions)), []
+    for octets, _, _ in world.blocks:
+        reasons.append(explained(before, octets)[1:])
+        before.submit(octets)
+    half = len(reasons) // 2
+    for name, text in (("counts", counted(reasons)), ("later_counts", counted(reasons, 3, half))):
+        yield f"pub(crate) static {name.upper()}: &str = {rust_lines(text)};\n"
+
+
+def count_files():
+    yield "vectors.rt", rust_file(["//! What made transactions of the chain invalid, made by vectors/chain.py.\n", *rust_counts(story())])
 
 
 WORKED = [

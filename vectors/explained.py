@@ -4,6 +4,7 @@ from functools import partial
 
 import sample
 from committer import World
+from counting import counted
 from drafts import CHANNEL
 from explaining import explained
 from policies import read_policy
@@ -115,11 +116,15 @@ def rust_text(name, text):
 
 
 def rust_sample(folder):
-    yield "//! The sample's blocks, and the lines that explain the last of them, made by vectors/explained.py.\n"
+    yield "//! The sample's blocks, the lines that explain the last of them, and what all count, made by vectors/explained.py.\n"
+    reasons = []
     for title, _, block, world in sample.blocks(folder):
         yield from rust_bytes(title, block)
+        reasons.append(explained(world, block)[1:])
         if title == "every_flag":
             yield from rust_text("lines", sample.explanation(block, world))
+    yield from rust_text("counts", counted(reasons))
+    yield from rust_text("later_counts", counted(reasons, 1, 3))
 
 
 def rust_each_kind():

@@ -22,6 +22,7 @@ import told
 
 CRATES = pathlib.Path(__file__).resolve().parent.parent / "crates"
 CHAIN = CRATES / "chain_vectors/src"
+COUNTED = CRATES / "conflicts_tests/src"
 DRAFTED = CRATES / "command_line_tests/src/drafted"
 EACH_WORD = CRATES / "command_line_tests/src/explained/each_word"
 EXPLAINED = CRATES / "command_line_tests/src/explained"
@@ -38,6 +39,7 @@ def files():
     keys = (SAMPLE / "data/keys.txt").read_text()
     for folder, made in (
         (CHAIN, chain.files()),
+        (COUNTED, chain.count_files()),
         (DRAFTED, drafted.files(keys.encode())),
         (EACH_WORD, each_word.files()),
         (EXPLAINED, explained.program_files(SAMPLE / "data")),

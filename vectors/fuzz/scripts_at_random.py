@@ -5,7 +5,7 @@
 chains of up to five blocks. Each is drafted by PROGRAM (`./fabcommit`): a good one has to give the block that
 `scripts.py` gives, a faulty one the line that it names, with OUT left as it was. Each block is explained, in the lines of
 `explaining.py`, at times with ids, or by an id that it has, that a block before has used, or that none has. Each chain is then handed
-to `run`, `get`, `history`, `scan` and `definition`, whose lines have to be those of `committer.py`. Blocks are of both versions, those
+to `run`, `conflicts`, `get`, `history`, `scan` and `definition`, whose lines have to be those of `committer.py`. Blocks are of both versions, those
 of version 2 with updates that are valid, or aren't for each of the causes; half of the channels have an admin policy. Some blocks are
 drafted of raw lines alone, in which signatures, ids and channels are changed. For every chain there are lists too in which old, cut
 and otherwise spoiled blocks stand between the good ones, and these are run by 1, 2 and 5 workers and asked by `get`. It ends with
@@ -20,6 +20,7 @@ import subprocess
 import sys
 import tempfile
 from collections import Counter
+from copy import deepcopy
 from functools import partial
 
 sys.dont_write_bytecode = True
@@ -27,6 +28,7 @@ sys.path.append(str(pathlib.Path(__file__).resolve().parent.parent))
 
 import answers
 from committer import World, is_inside
+from counting import counted
 from encoding import Refused, data_hash, read_block, spelled_block, spelled_signed, spelled_tx, version_of_block
 from explaining import explained, explained_of, item_of
 from policies import read_policy
@@ -457,7 +459,7 @@ class Trial:
         self.want(0, lines, "", "scan", "--ns", name, *bounds, *files)
 
     def chain(self):
-        pick, blocks, nonces = self.pick, [], []
+        pick, blocks, nonces, reasons = self.pick, [], [], []
         self.take_channel(pick.choice([None, ADMIN]))
         world = self.blank()
         for number in range(pick.randrange(1, 6)):
@@ -472,6 +474,7 @@ class Trial:
             block = self.draft(number, blocks, script, version)
             blocks.append(block)
             self.explain(world, block, [f"block{number}" for number in range(len(blocks))])
+            reasons.append(explained(world, block)[1:])
             world.submit(block)
             self.flags.update(world.blocks[-1][2])
             self.updates.update(outcomes_of_updates(world))
@@ -480,19 +483,28 @@ class Trial:
         self.want(0, lines, "", "run", *files)
         lines = "".join(answers.accepted(world, number) + answers.committed(world, number) for number in range(len(files)))
         self.want(0, lines, "", "run", "--hashes", *files)
+        self.count(0, reasons, files)
         for _ in range(3):
             self.ask(world, files)
         self.mixed(blocks)
 
+    def count(self, status, reasons, files):
+        """What made transactions invalid, in all blocks or from one on."""
+        self.want(status, counted(reasons), "", "conflicts", *files)
+        top, first = self.pick.choice([0, 1, 2, 65535]), self.pick.randrange(len(reasons) + 2)
+        self.want(status, counted(reasons, top, first), "", "conflicts", "--top", str(top), *files, f"--from={first}")
+
     def mixed(self, blocks):
         """The chain's blocks with spoiled ones between them, by workers and by one thread."""
         self.lists += 1
-        world, lines, hashes, files = self.blank(), "", "", []
+        world, lines, hashes, files, reasons = self.blank(), "", "", [], []
         for octets in mixed_list(self.pick, blocks):
             files.append(f"mixed{len(files)}")
             self.write(files[-1], octets)
+            before = deepcopy(world)
             try:
                 world.submit(octets)
+                reasons.append(explained(before, octets)[1:])
                 told = answers.accepted(world, len(world.blocks) - 1)
                 lines, hashes = lines + told, hashes + told + answers.committed(world, len(world.blocks) - 1)
             except Refused as fault:
@@ -503,6 +515,7 @@ class Trial:
         for workers in (1, 2, 5):
             self.want(status, lines, "", "run", "--workers", str(workers), *files)
             self.want(status, hashes, "", "run", "--workers", str(workers), "--hashes", *files)
+        self.count(status, reasons, files)
         name, key = self.pick.choice([*CHANNEL]), self.pick.choice(KEYS)
         self.want(status, answers.get(world, name.encode(), word_bytes(key)), "", "get", "--ns", name, "--key", key, *files)
 

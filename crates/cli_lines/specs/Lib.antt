@@ -1,1 +1,2 @@
 pub mod BlockLines
+pub mod ConflictLines

@@ -1,14 +1,17 @@
 //! The lines in which the program `fabcommit` tells what a ledger holds and what came of a block: rows, entries of a
-//! history, accepted and refused blocks, and the reasons of flags.
+//! history, accepted and refused blocks, the reasons of flags, and what made transactions invalid.
 #![tactic(auto)]
 
 mod block_lines;
+mod conflict_lines;
+mod flag_name;
 mod line_fault;
 mod reason_lines;
 mod refusal;
 mod row_lines;
 
 pub use block_lines::{write_accepted, write_block, write_commit, write_hash, write_refused};
+pub use conflict_lines::write_report;
 pub use line_fault::LineFault;
 pub use reason_lines::{write_earlier, write_identity, write_reason};
 pub use refusal::Refusal;

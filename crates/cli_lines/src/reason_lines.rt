@@ -1,4 +1,5 @@
 //! The words of reasons.
+use crate::flag_name::name_of;
 use crate::line_fault::LineFault;
 use policy::{PolicyRole, Principal};
 use reasons::{
@@ -11,24 +12,6 @@ use std::io;
 use std::io::Write;
 use text_lines::Word;
 use transaction::{Identity, OwnedIdentity, Role, TxId, Version};
-
-/// The name of a flag in `peer.TxValidationCode`.
-fn name_of(flag: Flag) -> &'static str {
-    match flag {
-        Flag::Valid => "VALID",
-        Flag::BadPayload => "BAD_PAYLOAD",
-        Flag::BadCreatorSignature => "BAD_CREATOR_SIGNATURE",
-        Flag::InvalidConfigTransaction => "INVALID_CONFIG_TRANSACTION",
-        Flag::BadProposalTxId => "BAD_PROPOSAL_TXID",
-        Flag::DuplicateTxId => "DUPLICATE_TXID",
-        Flag::EndorsementPolicyFailure => "ENDORSEMENT_POLICY_FAILURE",
-        Flag::MvccReadConflict => "MVCC_READ_CONFLICT",
-        Flag::PhantomReadConflict => "PHANTOM_READ_CONFLICT",
-        Flag::TargetChainNotFound => "TARGET_CHAIN_NOT_FOUND",
-        Flag::BadRwset => "BAD_RWSET",
-        Flag::InvalidChaincode => "INVALID_CHAINCODE",
-    }
-}
 
 fn list_name(list: KeyList) -> &'static str {
     match list {

@@ -22,6 +22,8 @@ pub(crate) enum Form {
         least: u16,
         most: u16,
     },
+    /// `--NAME N`, a number of up to 64 bits, which has this value where it isn't given.
+    LongNumber(&'static str),
     /// `--NAME`, or not.
     Flag,
     /// One positional.
@@ -103,6 +105,9 @@ impl Argument {
                 most,
             } => count(alloc, self, least, most).default_value(default),
             Form::OptionalCount { least, most } => count(alloc, self, least, most),
+            Form::LongNumber(value) => option(alloc, self)
+                .value_parser(value_parser!(u64))
+                .default_value(value),
             Form::Flag => flag(alloc, self),
             Form::Positional => positional(alloc, self).required(true),
             Form::Positionals { least } => positionals(alloc, self, least),
@@ -110,12 +115,22 @@ impl Argument {
     }
 }
 
-/// The number of an option, of which clap has looked at all but its form: it has digits alone.
-pub(crate) fn number_of(matches: &ArgMatches<'_>, name: &str) -> Option<u16> {
+// The value of an option, where it has digits alone.
+fn digits_of<'a>(matches: &ArgMatches<'a>, name: &str) -> Option<&'a str> {
     let text = matches.get_str(name)?;
     if text.as_bytes().iter().all(u8::is_ascii_digit) {
-        text.parse().ok()
+        Some(text)
     } else {
         None
     }
+}
+
+/// The number of an option, of which clap has looked at all but its form: it has digits alone.
+pub(crate) fn number_of(matches: &ArgMatches<'_>, name: &str) -> Option<u16> {
+    digits_of(matches, name)?.parse().ok()
+}
+
+/// The same of a number of up to 64 bits.
+pub(crate) fn long_number_of(matches: &ArgMatches<'_>, name: &str) -> Option<u64> {
+    digits_of(matches, name)?.parse().ok()
 }

@@ -1,3 +1,4 @@
+use crate::conflict_counts::{CONFLICTS, ConflictCounts};
 use crate::definition::{DEFINITION, DefinitionQuery};
 use crate::draft::{DRAFT, Draft};
 use crate::explain::{EXPLAIN, Explain, asks_both_ways};
@@ -45,6 +46,7 @@ pub enum Asked<'a> {
     History(KeyedQuery<'a>),
     Definition(DefinitionQuery<'a>),
     Explain(Explain<'a>),
+    Conflicts(ConflictCounts<'a>),
     Show(Show<'a>),
 }
 
@@ -60,6 +62,7 @@ fn with_subcommands<'a>(alloc: Global, command: Command<'a>) -> Result<Command<'
         &HISTORY,
         &DEFINITION,
         &EXPLAIN,
+        &CONFLICTS,
     ] {
         command = command.subcommand(subcommand.command(alloc)?)?;
     }
@@ -101,6 +104,7 @@ impl<'a> Asked<'a> {
             Asked::Scan(words) => words.paths.quiet,
             Asked::Definition(words) => words.paths.quiet,
             Asked::Explain(words) => words.paths.quiet,
+            Asked::Conflicts(words) => words.paths.quiet,
         }
     }
 
@@ -147,6 +151,7 @@ impl<'a> Asked<'a> {
             "history" => KeyedQuery::from_matches(alloc, matches)?.map(Asked::History),
             "definition" => DefinitionQuery::from_matches(alloc, matches)?.map(Asked::Definition),
             "explain" => Explain::from_matches(alloc, matches)?.map(Asked::Explain),
+            "conflicts" => ConflictCounts::from_matches(alloc, matches)?.map(Asked::Conflicts),
             "show" => Some(Asked::Show(Show::from_matches(alloc, matches)?)),
             _ => None,
         })

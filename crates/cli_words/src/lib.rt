@@ -4,6 +4,7 @@
 
 mod arguments;
 mod command;
+mod conflict_counts;
 mod definition;
 mod draft;
 mod explain;
@@ -18,6 +19,7 @@ mod show;
 mod subcommand;
 
 pub use command::{Asked, not_text};
+pub use conflict_counts::ConflictCounts;
 pub use definition::DefinitionQuery;
 pub use draft::Draft;
 pub use explain::{Explain, Explained};

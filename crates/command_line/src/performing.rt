@@ -2,8 +2,8 @@ use crate::run::run_blocks;
 use cli_words::Asked;
 use command_files::{Fault, Files};
 use ledger_commands::{
-    Progress, draft_block, print_definition, print_history, print_reasons, print_row, print_rows,
-    print_scripts,
+    Progress, draft_block, print_conflicts, print_definition, print_history, print_reasons,
+    print_row, print_rows, print_scripts,
 };
 use std::io::Write;
 use std::sync::Wait;
@@ -31,5 +31,6 @@ pub(crate) fn perform<'a, R: AllocGlobal + Threads + Wait + Sync, F: Files, W: W
         Asked::Definition(words) => print_definition(alloc, files, words, out, progress),
         Asked::Show(words) => print_scripts(alloc, files, words, out, progress),
         Asked::Explain(words) => print_reasons(alloc, files, words, out, progress),
+        Asked::Conflicts(words) => print_conflicts(alloc, files, words, out, progress),
     }
 }

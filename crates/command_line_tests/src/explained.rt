@@ -227,6 +227,24 @@ const REASONS: &str = "0 2 BAD_PAYLOAD
 22 11 MVCC_READ_CONFLICT read cc e was 5 6 is absent
 ";
 
+// How many have each of these.
+const COUNTED: &str = "\
+flag 0 VALID 3
+flag 2 BAD_PAYLOAD 1
+flag 9 DUPLICATE_TXID 2
+flag 10 ENDORSEMENT_POLICY_FAILURE 4
+flag 11 MVCC_READ_CONFLICT 3
+flag 12 PHANTOM_READ_CONFLICT 2
+flag 22 BAD_RWSET 7
+flag 25 INVALID_CHAINCODE 1
+key cc a 3 stale 2 phantom 1 policy 0 touched 0 in-block 3
+key cc b 1 stale 0 phantom 1 policy 0 touched 0 in-block 1
+key cc d 1 stale 0 phantom 0 policy 0 touched 1 in-block 1
+key cc e 1 stale 1 phantom 0 policy 0 touched 0 in-block 0
+key cc k1 1 stale 0 phantom 0 policy 1 touched 0 in-block 0
+chaincode cc 2 missing Org1.peer 2
+";
+
 // The files that a script is drafted from.
 pub(crate) fn of_script<'a>(channel: &'a [u8], keys: &'a [u8], script: &'a [u8]) -> [File<'a>; 3] {
     [("c", channel), ("k", keys), ("s", script)]
@@ -275,8 +293,9 @@ fn rows() -> &'static [Row<'static>] {
     &ROWS
 }
 
-static ROWS: [Row; 2] = [
+static ROWS: [Row; 3] = [
     ("explain --tx 23 b0 b1", 2, "", "no transaction 23\n"),
+    ("conflicts --from 1 b0 b1", 0, COUNTED, ""),
     ("explain b0 b1 b1", 1, "refused 3 C2 want 2 got 1\n", ""),
 ];
 

@@ -8,6 +8,8 @@ mod answers;
 #[cfg(test)]
 mod blocks;
 #[cfg(test)]
+mod counted;
+#[cfg(test)]
 mod cut_off;
 #[cfg(test)]
 mod disk;

@@ -4,7 +4,7 @@
 use crate::drafted::first_script_files;
 use crate::drafted::vectors::{answers, first_block, second_block, third_block};
 use crate::explained::sample;
-use crate::explained::vectors::lines;
+use crate::explained::vectors::{counts, lines};
 use crate::files::{File, MemoryFiles, OneOut};
 use crate::fixture::{CHANNEL, End, Row, answered, is_said};
 use crate::signatures::keys;
@@ -109,6 +109,13 @@ pub(crate) fn outcome_of_explain(
     outcome_of_row(rt, &sample(), &row)
 }
 
+pub(crate) fn outcome_of_conflicts(
+    rt: &(impl AllocGlobal + Threads + Wait + Sync),
+) -> Result<Outcome, Failed> {
+    let row = ("conflicts b0 b1 b2 b3 b4 b5 b6", 0, counts(), "");
+    outcome_of_row(rt, &sample(), &row)
+}
+
 // An id whose transaction stands in the first of these blocks.
 const BY_ID: &str = "explain --id 4d941d69b676a61aff49cd6e78f11d3727d68eebad17b933dd85233f09067498 \
     --ids b0 b1 b2 b3 b4 b5";
@@ -162,6 +169,7 @@ fn each_subcommand(rt: HostRuntime) -> Result<(), Failed> {
     }
     assert!(rt; outcome_of_explain(&rt)? == Outcome::Done);
     assert!(rt; outcome_of_id(&rt)? == Outcome::Done);
+    assert!(rt; outcome_of_conflicts(&rt)? == Outcome::Done);
     assert!(rt; outcome_of_draft(&rt)? == Outcome::Done);
     Ok(())
 }

@@ -110,7 +110,7 @@ fn told() -> &'static [Told] {
     &TOLD
 }
 
-static TOLD: [Told; 5] = [
+static TOLD: [Told; 6] = [
     ("run b", ACCEPTED_0, "\r0 of 1 blocks are in\r\u{1b}[K"),
     ("run --quiet b", ACCEPTED_0, ""),
     (
@@ -124,6 +124,7 @@ static TOLD: [Told; 5] = [
         "block 0 9cae6f5c10756febc407bba95fc23853774c1f65f10354895bfdab6443d66ed3\n",
         "",
     ),
+    ("conflicts b", "", "\r0 of 1 blocks are in\r\u{1b}[K"),
 ];
 
 static FILES: [File<'static>; 3] = [("c", CHANNEL), ("k", KEYS), ("b", FIRST_BLOCK)];

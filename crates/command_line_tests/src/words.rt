@@ -35,6 +35,9 @@ const DEFINITION: &str =
 const EXPLAIN: &str =
     "Usage: fabcommit explain [OPTIONS] --channel <FILE> --keys <FILE> <BLOCK>...\n";
 
+const CONFLICTS: &str =
+    "Usage: fabcommit conflicts [OPTIONS] --channel <FILE> --keys <FILE> <BLOCK>...\n";
+
 const SHOW: &str = "Usage: fabcommit show [OPTIONS] <BLOCK>...\n";
 
 const LEAST_SHOW: &str = "Usage: fabcommit show <BLOCK>...\n";
@@ -46,7 +49,7 @@ fn mistaken() -> &'static [Row] {
     &MISTAKES
 }
 
-static MISTAKES: [Row; 31] = [
+static MISTAKES: [Row; 35] = [
     (
         &[],
         "'fabcommit' requires a subcommand but one was not provided",
@@ -210,6 +213,35 @@ static MISTAKES: [Row; 31] = [
         EXPLAIN,
     ),
     (
+        &["conflicts", "--channel", "c", "--keys", "k", "--top", "1"],
+        "\n  <BLOCK>...\n",
+        "fabcommit conflicts",
+    ),
+    (
+        &["conflicts", "--top", "65536"],
+        "invalid value '65536' for '--top <N>': 65536 is not in 0..=65535",
+        "--help",
+    ),
+    (
+        &["conflicts", "--from", "18446744073709551616"],
+        "invalid value '18446744073709551616' for '--from <N>'",
+        "--help",
+    ),
+    (
+        &[
+            "conflicts",
+            "--channel",
+            "c",
+            "--keys",
+            "k",
+            "--from",
+            "+2",
+            "b",
+        ],
+        "a number is written with digits alone",
+        COMMAND,
+    ),
+    (
         &["run", "--workers", "0"],
         "invalid value '0' for '--workers <N>': 0 is not in 1..=64",
         "--help",
@@ -249,7 +281,7 @@ fn helped() -> &'static [Row] {
     &HELP
 }
 
-static HELP: [Row; 16] = [
+static HELP: [Row; 17] = [
     (
         &["--version"],
         "fabcommit 0.2.0, for blocks of versions 1 and 2\n",
@@ -287,6 +319,7 @@ static HELP: [Row; 16] = [
         EXPLAIN,
     ),
     (&["help", "explain"], "\n      --ids ", EXPLAIN),
+    (&["conflicts", "-h"], "\n  fabcommit conflicts ", CONFLICTS),
     (
         &["run", "--help"],
         "\nOptions:\n      --channel <FILE>",
@@ -365,6 +398,7 @@ fn subcommands() -> &'static [&'static str] {
         "history",
         "definition",
         "explain",
+        "conflicts",
         "show",
         "help",
     ]

@@ -1,8 +1,9 @@
-//! The subcommands that one thread does: they draft a block, show blocks as scripts, or ask the ledger behind some
-//! blocks. And what a person is told who waits.
+//! The subcommands that one thread does: they draft a block, show blocks as scripts, count what made transactions
+//! invalid, or ask the ledger behind some blocks. And what a person is told who waits.
 #![tactic(auto)]
 
 mod buffered;
+mod conflict_counts;
 mod definition;
 mod draft;
 mod explain;
@@ -14,6 +15,7 @@ mod scan;
 mod show;
 
 pub use buffered::finish;
+pub use conflict_counts::print_conflicts;
 pub use definition::print_definition;
 pub use draft::draft_block;
 pub use explain::print_reasons;

@@ -1,3 +1,7 @@
+ghost use Rattle.std.specs.Prelude.{OnOk};
+ghost use Rattle.key_book.specs.Book.{accepts};
+ghost use Rattle.ledger_commands.specs.Handing.{AreTaken, LedgerTakes};
+
 use crate::buffered::finish;
 use crate::progress::Progress;
 use cli_lines::{Refusal, write_height};
@@ -5,7 +9,8 @@ use cli_words::LedgerPaths;
 use command_files::{ACCEPTED, Configuration, Fault, Files, Inputs, REFUSED};
 use key_book::KeyBook;
 use ledger::Ledger;
-use std::alloc::Global;
+use rules::Refused;
+use std::alloc::{AllocError, Global};
 use std::io::{BufWriter, Write};
 use values::Bytes;
 use world::World;
@@ -21,34 +26,68 @@ pub(crate) trait Question {
     ) -> Result<(), Fault<'a>>;
 }
 
-fn hand_in_each<'a, P: Progress>(
-    ledger: &mut Ledger,
+/// What blocks are handed in to.
+pub(crate) trait Taker {
+    ghost use Rattle.std.specs.Prelude.{ℕ, List};
+    ghost use Rattle.policy_eval.specs.Accepts.{Accepts};
+
+    /// What a string of bytes makes of it.
+    ghost takes: { Accepts → Self → List ℕ → Self → Type 0 };
+
+    /// Takes the bytes of the next block, or refuses them. Returns what the process ends with for them. An `Err` is want
+    /// of memory.
+    fn take(&mut self, bytes: &[u8], keys: &KeyBook) -> Result<u8, AllocError>
+        ensures { OnOk result (takes (accepts keys.now) self.old bytes.now self.new) };
+}
+
+/// What the process ends with for a refused block, unless it was want of memory.
+pub(crate) fn status_of_refused(refused: Refused) -> Result<u8, AllocError> {
+    Refusal::of(refused)?;
+    Ok(REFUSED)
+}
+
+impl Taker for Ledger {
+    ghost takes = { LedgerTakes };
+
+    fn take(&mut self, bytes: &[u8], keys: &KeyBook) -> Result<u8, AllocError> {
+        match self.submit_one(bytes, keys) {
+            Ok(_) => Ok(ACCEPTED),
+            Err(refused) => status_of_refused(refused),
+        }
+    }
+}
+
+fn hand_in_each<T: Taker, P: Progress>(
+    taker: &mut T,
     blocks: Vec<Bytes>,
     keys: &KeyBook,
     progress: &mut P,
-) -> Result<u8, Fault<'a>> {
+) -> Result<u8, AllocError>
+    ensures { OnOk result (AreTaken (T.takes (accepts keys.now)) taker.old blocks.items taker.new) }
+{
     let mut status = ACCEPTED;
+    let mut place = 0;
     let all = blocks.len();
-    for (place, bytes) in blocks.into_iter().enumerate() {
+    for bytes in blocks {
         progress.blocks_in(place, all);
-        if let Err(refused) = ledger.submit_one(bytes.as_slice(), keys) {
-            Refusal::of(refused)?;
-            status = REFUSED;
-        }
+        status = status.max(taker.take(bytes.as_slice(), keys)?);
+        place += 1;
     }
     Ok(status)
 }
 
 /// Hands blocks in, each let go when it is done. Returns what the process ends with, where nothing else befalls it.
-pub(crate) fn hand_in<'a, P: Progress>(
-    ledger: &mut Ledger,
+pub(crate) fn hand_in<'a, T: Taker, P: Progress>(
+    taker: &mut T,
     blocks: Vec<Bytes>,
     keys: &KeyBook,
     progress: &mut P,
-) -> Result<u8, Fault<'a>> {
-    let ended = hand_in_each(ledger, blocks, keys, progress);
+) -> Result<u8, Fault<'a>>
+    ensures { OnOk result (AreTaken (T.takes (accepts keys.now)) taker.old blocks.items taker.new) }
+{
+    let ended = hand_in_each(taker, blocks, keys, progress);
     progress.clear();
-    ended
+    Ok(ended?)
 }
 
 fn write_lines<'a, Q: Question, W: Write>(

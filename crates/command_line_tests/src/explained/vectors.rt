@@ -1,4 +1,4 @@
-//! The sample's blocks, and the lines that explain the last of them, made by vectors/explained.py.
+//! The sample's blocks, the lines that explain the last of them, and what all count, made by vectors/explained.py.
 
 pub(crate) fn block0() -> &'static [u8] {
     BLOCK0
@@ -200,4 +200,48 @@ block 6 8a789cd576e3ddbe999daa46eb5af17df3f7bdebd04de980e932642975fe60c5
 9 14 TARGET_CHAIN_NOT_FOUND channel other
 10 22 BAD_RWSET repeated cc reads car2
 11 25 INVALID_CHAINCODE undefined parts
+";
+
+pub(crate) fn counts() -> &'static str {
+    COUNTS
+}
+
+static COUNTS: &str = "\
+flag 0 VALID 11
+flag 2 BAD_PAYLOAD 2
+flag 4 BAD_CREATOR_SIGNATURE 1
+flag 6 INVALID_CONFIG_TRANSACTION 1
+flag 8 BAD_PROPOSAL_TXID 1
+flag 9 DUPLICATE_TXID 2
+flag 10 ENDORSEMENT_POLICY_FAILURE 4
+flag 11 MVCC_READ_CONFLICT 2
+flag 12 PHANTOM_READ_CONFLICT 2
+flag 14 TARGET_CHAIN_NOT_FOUND 1
+flag 22 BAD_RWSET 1
+flag 25 INVALID_CHAINCODE 1
+key cc car1 2 stale 1 phantom 1 policy 0 touched 0 in-block 2
+key cc car2 2 stale 0 phantom 0 policy 2 touched 0 in-block 0
+key cc car5 2 stale 1 phantom 1 policy 0 touched 0 in-block 2
+chaincode cc 2 missing Org1.peer 2
+";
+
+pub(crate) fn later_counts() -> &'static str {
+    LATER_COUNTS
+}
+
+static LATER_COUNTS: &str = "\
+flag 0 VALID 3
+flag 2 BAD_PAYLOAD 1
+flag 4 BAD_CREATOR_SIGNATURE 1
+flag 6 INVALID_CONFIG_TRANSACTION 1
+flag 8 BAD_PROPOSAL_TXID 1
+flag 9 DUPLICATE_TXID 1
+flag 10 ENDORSEMENT_POLICY_FAILURE 2
+flag 11 MVCC_READ_CONFLICT 1
+flag 12 PHANTOM_READ_CONFLICT 1
+flag 14 TARGET_CHAIN_NOT_FOUND 1
+flag 22 BAD_RWSET 1
+flag 25 INVALID_CHAINCODE 1
+key cc car5 2 stale 1 phantom 1 policy 0 touched 0 in-block 2
+chaincode cc 1 missing Org1.peer 1
 ";

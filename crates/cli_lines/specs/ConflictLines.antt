@@ -1,0 +1,75 @@
+-- The lines that say what made transactions invalid, each with the line feed that ends it.
+use Rattle.std.specs.Prelude.{◌≡◌, ℕ, nat_lt, if◌then◌else◌, List, [], ◌++◌, codes}
+use Rattle.std.specs.List.{flat_map}
+use Rattle.std.specs.Fmt.{decimal}
+use Rattle.text_lines.specs.Printed.{word_of}
+use Rattle.rules.specs.declared.flag.Flag.{Flag}
+use Rattle.rules.specs.declared.flag.Flag.TheVariants.{Valid, BadPayload, BadCreatorSignature, InvalidConfigTransaction, BadProposalTxId, DuplicateTxId, EndorsementPolicyFailure, MvccReadConflict, PhantomReadConflict, TargetChainNotFound, BadRwset, InvalidChaincode}
+use Rattle.rules.specs.Flags.{number_of}
+use Rattle.reasons.specs.declared.reason.Reason.{Reason}
+use Rattle.conflicts.specs.declared.chaincode_line.ChaincodeLine.{ChaincodeLine}
+use Rattle.conflicts.specs.declared.key_counts.KeyCounts.{KeyCounts}
+use Rattle.conflicts.specs.Chaincodes.{AreChaincodes}
+use Rattle.conflicts.specs.Conflict.{conflicts_of}
+use Rattle.conflicts.specs.FlagCounts.{with_flag}
+use Rattle.conflicts.specs.KeyCounts.{total_of}
+use Rattle.conflicts.specs.Lack.{lacks_of}
+use Rattle.conflicts.specs.Laws.{all_flags}
+use Rattle.conflicts.specs.Ranking.{Line, AreFirst}
+
+-- its name in `peer.TxValidationCode`
+abbrev pub flag_name : Flag → List ℕ
+flag_name Valid = codes "VALID"
+flag_name BadPayload = codes "BAD_PAYLOAD"
+flag_name BadCreatorSignature = codes "BAD_CREATOR_SIGNATURE"
+flag_name InvalidConfigTransaction = codes "INVALID_CONFIG_TRANSACTION"
+flag_name BadProposalTxId = codes "BAD_PROPOSAL_TXID"
+flag_name DuplicateTxId = codes "DUPLICATE_TXID"
+flag_name EndorsementPolicyFailure = codes "ENDORSEMENT_POLICY_FAILURE"
+flag_name MvccReadConflict = codes "MVCC_READ_CONFLICT"
+flag_name PhantomReadConflict = codes "PHANTOM_READ_CONFLICT"
+flag_name TargetChainNotFound = codes "TARGET_CHAIN_NOT_FOUND"
+flag_name BadRwset = codes "BAD_RWSET"
+flag_name InvalidChaincode = codes "INVALID_CHAINCODE"
+
+abbrev pub flag_line : Flag → ℕ → List ℕ
+flag_line flag n = codes "flag " ++ (decimal (number_of flag) ++ (codes " " ++ (flag_name flag ++ (codes " " ++ (decimal n ++ codes "\n")))))
+
+-- a flag that no transaction has gets no line
+abbrev pub line_of_some : Flag → ℕ → List ℕ
+line_of_some flag n = if nat_lt 0 n then flag_line flag n else []
+
+abbrev pub counted_line : List Reason → Flag → List ℕ
+counted_line reasons flag = line_of_some flag (with_flag flag reasons)
+
+abbrev pub lines_of : List Reason → List Flag → List ℕ
+lines_of reasons flags = flat_map (counted_line reasons) flags
+
+-- by the flags' numbers
+abbrev pub flag_lines : List Reason → List ℕ
+flag_lines reasons = lines_of reasons all_flags
+
+-- in which ways, and how many of all in their own blocks
+abbrev pub ways : KeyCounts → List ℕ
+ways n =
+    codes " stale " ++ (decimal n.stale_reads ++ (codes " phantom " ++ (decimal n.phantoms ++ (codes " policy " ++ (decimal n.own_policy
+    ++ (codes " touched " ++ (decimal n.policy_touched ++ (codes " in-block " ++ (decimal n.in_block ++ codes "\n")))))))))
+
+abbrev pub key_line : Line → List ℕ
+key_line l = (codes "key " ++ (word_of l.0.0 ++ (codes " " ++ (word_of l.0.1 ++ (codes " " ++ decimal (total_of l.1)))))) ++ ways l.1
+
+abbrev pub chaincode_line : ChaincodeLine → List ℕ
+chaincode_line l =
+    codes "chaincode " ++ (word_of l.most_missing.0.0 ++ (codes " " ++ (decimal l.transactions
+    ++ (codes " missing " ++ (word_of l.most_missing.0.1 ++ (codes " " ++ (decimal (total_of l.most_missing.1) ++ codes "\n")))))))
+
+abbrev pub report_text : List Reason → List Line → List ChaincodeLine → List ℕ
+report_text reasons keys chaincodes = flag_lines reasons ++ (flat_map key_line keys ++ flat_map chaincode_line chaincodes)
+
+-- What is told of transactions that have these reasons, with so many keys at most.
+pub record IsReport (reasons : List Reason) (top : ℕ) (text : List ℕ) : Type 0 where
+  pub keys : List Line
+  pub are_first : AreFirst (conflicts_of reasons) top keys
+  pub chaincodes : List ChaincodeLine
+  pub are_chaincodes : AreChaincodes (lacks_of reasons) chaincodes
+  pub is : text ≡ report_text reasons keys chaincodes

@@ -1,0 +1,12 @@
+use Rattle.std.proofs.Common.{◌≡◌, ◌+◌, length}
+use Rattle.std.specs.Vec.Iter.{into_iter_items}
+use Rattle.key_book.specs.Book.{accepts}
+use Rattle.ledger_commands.specs.Handing.{AreTaken}
+use Rattle.ledger_commands.proofs.question.hand_in_each.Given as goal
+
+-- those that were taken, and then those that are left, are all
+abbrev pub invariant-loop-bytes : goal.invariant-loop-bytes
+invariant-loop-bytes g l = record {
+  place : l.place + length (into_iter_items l.bytes-iterator) ≡ length l.fn.blocks.items;
+  taken : (last : _) → AreTaken (g.T.Taker.takes (accepts l.keys)) l.taker (into_iter_items l.bytes-iterator) last → AreTaken (g.T.Taker.takes (accepts l.keys)) l.fn.taker l.fn.blocks.items last;
+}

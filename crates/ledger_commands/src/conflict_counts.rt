@@ -1,0 +1,165 @@
+ghost use Rattle.std.specs.Prelude.{◌<◌, ◌≤◌, ℕ, List, IfOk, OnOk, IsOk};
+ghost use Rattle.std.specs.Io.KnownBytes.{Appends};
+ghost use Rattle.key_book.specs.Book.{accepts};
+ghost use Rattle.rules.specs.World.{empty_world, height_of};
+ghost use Rattle.reasons.specs.declared.reason.Reason.{Reason};
+ghost use Rattle.conflicts.specs.Chaincodes.{AreChaincodes};
+ghost use Rattle.conflicts.specs.Conflict.{conflicts_of};
+ghost use Rattle.conflicts.specs.Lack.{lacks_of};
+ghost use Rattle.conflicts.specs.Ranking.{AreFirst};
+ghost use Rattle.conflicts.specs.Tally.{Counts};
+ghost use Rattle.cli_lines.specs.ConflictLines.{IsReport, report_text};
+ghost use Rattle.ledger.specs.NextReasons.{AreNextReasons};
+ghost use Rattle.ledger_commands.specs.Counting.{CountedTakes, IsTold};
+
+use crate::buffered::finish;
+use crate::progress::Progress;
+use crate::question::{Taker, hand_in, status_of_refused};
+use cli_lines::write_report;
+use cli_words::ConflictCounts;
+use command_files::{ACCEPTED, Configuration, Fault, Files, Inputs};
+use conflicts::{ChaincodeLine, Line, Tally};
+use key_book::KeyBook;
+use ledger::Ledger;
+use reasons::Reason;
+use std::alloc::{AllocError, Global};
+use std::io::{BufWriter, Write};
+use values::Items;
+
+// A ledger, and what made transactions invalid in its blocks from one on.
+#[derive(Drop)]
+struct CountedLedger {
+    ledger: Ledger,
+    tally: Tally,
+    /// The number of the first block that is counted.
+    from: u64,
+}
+
+impl CountedLedger {
+    // Takes a block that isn't counted.
+    fn take_early(&mut self, bytes: &[u8], keys: &KeyBook) -> Result<u8, AllocError>
+        requires { height_of self.old.ledger.world < self.old.from }
+        ensures { OnOk result (CountedTakes (accepts keys.now) self.old bytes.now self.new) }
+    {
+        match self.ledger.submit_one(bytes, keys) {
+            Ok(_) => Ok(ACCEPTED),
+            Err(refused) => status_of_refused(refused),
+        }
+    }
+
+    // Takes the block that has these reasons, and counts them.
+    fn take_explained(
+        &mut self,
+        bytes: &[u8],
+        keys: &KeyBook,
+        reasons: &[Reason],
+    ) -> Result<u8, AllocError>
+        requires late { self.old.from ≤ height_of self.old.ledger.world }
+        requires reasons { AreNextReasons self.old.ledger.channel (accepts keys.now) self.old.ledger.world bytes.now reasons.now }
+        ensures { OnOk result (CountedTakes (accepts keys.now) self.old bytes.now self.new) }
+    {
+        match self.ledger.submit_one(bytes, keys) {
+            Ok(_) => {
+                self.tally.add(reasons)?;
+                Ok(ACCEPTED)
+            }
+            Err(refused) => status_of_refused(refused),
+        }
+    }
+}
+
+impl Taker for CountedLedger {
+    ghost takes = { CountedTakes };
+
+    fn take(&mut self, bytes: &[u8], keys: &KeyBook) -> Result<u8, AllocError> {
+        if self.ledger.view().height() < self.from {
+            return self.take_early(bytes, keys);
+        }
+        match self.ledger.explain(bytes, keys) {
+            Ok(reasons) => self.take_explained(bytes, keys, reasons.as_slice()),
+            Err(refused) => status_of_refused(refused),
+        }
+    }
+}
+
+// What a report is made of.
+#[derive(Drop)]
+struct Report {
+    keys: Items<Line>,
+    chaincodes: Items<ChaincodeLine>,
+}
+
+impl Report {
+    fn of(alloc: Global, tally: &Tally, top: u16) -> Result<Report, AllocError>
+        ensures keys { IfOk result (λ report. (reasons : List Reason) → Counts reasons tally.now → AreFirst (conflicts_of reasons) top report.keys) }
+        ensures chaincodes { IfOk result (λ report. (reasons : List Reason) → Counts reasons tally.now → AreChaincodes (lacks_of reasons) report.chaincodes) }
+    {
+        let keys = tally.worst_keys(alloc, usize::from(top))?;
+        let chaincodes = tally.chaincodes(alloc)?;
+        Ok(Report { keys, chaincodes })
+    }
+
+    fn write<'a, W: Write>(&self, out: &mut W, tally: &Tally) -> Result<(), Fault<'a>>
+        ensures { OnOk result ((reasons : List Reason) → Counts reasons tally.now → Appends (W.contents out.old) (W.contents out.new) (report_text reasons self.now.keys self.now.chaincodes)) }
+    {
+        write_report(out, tally, self.keys.as_slice(), self.chaincodes.as_slice())?;
+        Ok(())
+    }
+}
+
+// Writes what was counted, unless the blocks couldn't be handed in. Returns what the process ends with.
+fn write_counted<'a, W: Write>(
+    alloc: Global,
+    handed: Result<u8, Fault<'a>>,
+    tally: &Tally,
+    top: u16,
+    out: &mut W,
+) -> Result<u8, Fault<'a>>
+    ensures handed { OnOk result (IsOk handed.entry) }
+    ensures report { OnOk result ((reasons : List Reason) → Counts reasons tally.now → (text : List ℕ) × IsReport reasons top text × Appends (W.contents out.old) (W.contents out.new) text) }
+{
+    let status = handed?;
+    let report = Report::of(alloc, tally, top)?;
+    report.write(out, tally)?;
+    Ok(status)
+}
+
+// Owns the ledger, and has one way out.
+fn count_in<'a, W: Write, P: Progress>(
+    alloc: Global,
+    inputs: Inputs,
+    words: &ConflictCounts<'a>,
+    out: &mut W,
+    progress: &mut P,
+) -> Result<u8, Fault<'a>>
+    ensures { OnOk result (IsTold inputs.configuration.channel (accepts inputs.configuration.keys) words.now.from (empty_world inputs.configuration.channel.definitions) inputs.blocks.items words.now.top (W.contents out.old) (W.contents out.new)) }
+{
+    let Inputs {
+        configuration,
+        blocks,
+    } = inputs;
+    let Configuration { channel, keys } = configuration;
+    let mut counted = CountedLedger {
+        ledger: Ledger::open(alloc, channel),
+        tally: Tally::new(alloc),
+        from: words.from,
+    };
+    let handed = hand_in(&mut counted, blocks, &keys, progress);
+    write_counted(alloc, handed, &counted.tally, words.top, out)
+}
+
+/// Reads the files, hands the blocks in, one by one, and writes what made transactions invalid in those from a number
+/// on. The memory is that of `get`, with the reasons of one block, and what the tally keeps. Each block that is counted
+/// is explained besides, which costs a step's time again at most.
+pub fn print_conflicts<'a, F: Files, W: Write, P: Progress>(
+    alloc: Global,
+    files: &F,
+    words: &ConflictCounts<'a>,
+    out: &mut W,
+    progress: &mut P,
+) -> Result<u8, Fault<'a>> {
+    let inputs = Inputs::read(alloc, files, &words.paths)?;
+    let mut lines = BufWriter::new(alloc, out)?;
+    let ended = count_in(alloc, inputs, words, &mut lines, progress);
+    finish(lines, ended)
+}
