@@ -1,19 +1,35 @@
 #!/usr/bin/env python3
-"""Times `fabcommit run` on 256 MB of blocks against hashing the same bytes once with the same sha2.
+"""Times the program that people run, `fabcommit run`: by its workers, and by hashing the bytes that it reads.
 
-Run as `bench/run.py` from anywhere, on a machine that has the kit; it needs 1 GB of disk under TMPDIR.
-It prints wall times (the least of five runs) and the peak memory of the program.
+Run as `bench/run.py [--beside FOLDER] [--under WORDS ..] [--workers N ..] [--blocks N] [WORKLOAD ..]` from anywhere, on a quiet
+machine with four cores that has the kit; it needs 1 GB of disk under TMPDIR. It takes the program that `./fabcommit` would run, as
+it is: build it first. `--beside` has another checkout whose program takes turns with it; let both be proved, or both quick.
+
+A workload is one of `peer.py`, or `run`: the blocks of its `drawn`, but 100 of them. Each is timed with 1, 2 and 4 workers, by the
+system's scheduler and under `chrt -f 50`; `--under` has other words to put before the program, once for each series, `--workers`
+other numbers, and `--blocks` how many blocks there are behind the state.
+
+In each turn a program runs over all files, and over those alone that make the state: microseconds for a transaction are the
+difference by the transactions between, so that neither starting nor the state counts. `least` is that of the least times, `median`
+that over the turns, five or as many as RUNS says in the environment. Of two programs there is what these are divided by, and
+the median over the turns of the one by the other. Then come the least time on processors, the milliseconds until the first line
+behind those of the state came through a pipe, and the most memory of a run, in MB. All runs must write the same lines.
+
+`hashing` is no workload: it times the program on 256 MB of blocks without valid transactions against hashing the same bytes once
+with the same sha2. Behind the tables stands what else the machine did.
 """
 
+import argparse
 import os
 import pathlib
-import resource
+import statistics
 import subprocess
 import sys
 import tempfile
 import time
 
-from scratch import RUNS, TOP, build
+import peer
+from scratch import RUNS, TOP, Machine, build
 from encoding import data_hash, header_hash, spelled_block
 
 # Reads the files that it is given, and prints the microseconds that hashing them once takes.
@@ -39,6 +55,105 @@ fn main(rt: HostRuntime) -> anyhow::Result<()> {
 }
 """
 
+SIZES = {
+    "4 blocks of 64 transactions of 1 MiB": [(64, 1 << 20)] * 4,
+    "16 blocks of 4,096 transactions of 4 KiB": [(4096, 1 << 12)] * 16,
+    "1,000 blocks of 256 transactions of 1 KiB": [(256, 1 << 10)] * 1000,
+}
+
+
+class Ran:
+    """One run: its seconds by the clock and on processors, when which line came, its most memory in KB, and its lines."""
+
+    def __init__(self, words, folder, wanted):
+        start = time.monotonic()
+        process = subprocess.Popen(words, cwd=folder, stdout=subprocess.PIPE, stderr=subprocess.PIPE)
+        self.lines, self.first = [], None
+        for line in process.stdout:
+            self.lines.append(line)
+            if len(self.lines) == wanted:
+                self.first = time.monotonic() - start
+        said = process.stderr.read()
+        _, self.status, usage = os.wait4(process.pid, 0)
+        self.seconds = time.monotonic() - start
+        self.busy, self.memory = usage.ru_utime + usage.ru_stime, usage.ru_maxrss
+        if self.status != 0:
+            sys.exit(f"a run failed: {self.status} {said[:300]!r}")
+
+
+class Timed:
+    """What turns of a program gave, over all files and over those of the state."""
+
+    def __init__(self, words, blocks):
+        self.words, self.blocks, self.turns = words, blocks, []
+        self.count = sum(blocks.sizes[blocks.setup:])
+
+    def turn(self):
+        setup, paths = self.blocks.setup, self.blocks.paths
+        ran = [Ran([*self.words, *paths[:end]], self.blocks.folder, setup + 1) for end in (setup, len(paths))]
+        self.turns.append(ran)
+        return ran[1].lines
+
+    def each(self, part):
+        """Microseconds for a transaction, in each turn."""
+        return [(part(ran) - part(state)) / self.count * 1e6 for state, ran in self.turns]
+
+    def least(self, part):
+        """The same of the least times of all turns."""
+        states, all_files = zip(*self.turns)
+        return (min(map(part, all_files)) - min(map(part, states))) / self.count * 1e6
+
+    def first(self):
+        return min(ran.first for _, ran in self.turns) * 1000
+
+    def memory(self):
+        return max(ran.memory for _, ran in self.turns) / 1024
+
+
+def program_of(top):
+    """The program that the launcher of a checkout runs: the proved one, unless a source is newer, else the quick one."""
+    out = pathlib.Path(top) / "crates" / "fabcommit" / "out"
+    sources = [path for part in ("src", "specs", "proofs") for path in pathlib.Path(top).glob(f"crates/*/{part}/**/*")]
+    for program in (out / "fabcommit", out / "quick" / "fabcommit"):
+        if program.exists() and all(path.stat().st_mtime <= program.stat().st_mtime for path in sources):
+            return str(program)
+    sys.exit(f"{top} has no program of its sources: ./fabcommit help builds one")
+
+
+def told(programs, title, blocks, under, workers):
+    """One line of the table: all programs in turns, which must write the same."""
+    files = ["--channel", "channel.txt", "--keys", "keys.txt", "--workers", str(workers)]
+    timed = [Timed([*under, program, "run", *files], blocks) for program in programs]
+    lines = None
+    for _ in range(RUNS):
+        for one in timed:
+            found = one.turn()
+            if found != (lines or found):
+                sys.exit(f"{title}: two runs wrote other lines")
+            lines = found
+    walls = [one.each(lambda ran: ran.seconds) for one in timed]
+    least = [one.least(lambda ran: ran.seconds) for one in timed]
+    busy = [one.least(lambda ran: ran.busy) for one in timed]
+    columns = [f"{title:>10} {' '.join(under) or '-':>12} {workers:>7}"]
+    medians = [statistics.median(wall) for wall in walls]
+    columns += [f"{one:>7.2f} {median:>7.2f}" for one, median in zip(least, medians)]
+    if len(walls) > 1:
+        ratio = statistics.median(this / that for this, that in zip(*walls))
+        columns.append(f"{least[0] / least[1]:>6.2f} {medians[0] / medians[1]:>6.2f} {ratio:>6.2f}")
+    columns.append(" ".join(f"{time:>6.1f}" for time in busy))
+    columns.append(" ".join(f"{one.first():>6.0f} {one.memory():>6.0f}" for one in timed))
+    print("  ".join(columns), flush=True)
+
+
+def made_in(folder, title, count):
+    """The blocks of a workload, of which there are so many behind the state, where that is asked for."""
+    state, make, *sizes = (100_000, peer.mixed, 100, 500) if title == "run" else peer.WORKLOADS[title]
+    if count and len(sizes) == 2:
+        sizes[0] = count
+    blocks = peer.Blocks(folder / title, state)
+    make(blocks, *sizes)
+    return blocks
+
 
 def make_blocks(folder, sizes):
     """Linked blocks, one for each (transactions, bytes of each); the paths of their files."""
@@ -53,53 +168,53 @@ def make_blocks(folder, sizes):
     return paths
 
 
-def timed(words):
-    start = time.monotonic()
-    done = subprocess.run(words, capture_output=True, text=True, check=False)
-    return time.monotonic() - start, done
-
-
-def peak_of(words):
-    """The peak memory in MB of one run, by a child of its own."""
-    child = os.fork()
-    if child == 0:
-        with open(os.devnull, "w") as nothing:
-            subprocess.run(words, stdout=nothing, stderr=nothing, check=False)
-        peak = resource.getrusage(resource.RUSAGE_CHILDREN).ru_maxrss
-        os._exit(0 if pathlib.Path(os.environ["PEAK_FILE"]).write_text(str(peak)) else 1)
-    os.waitpid(child, 0)
-    return int(pathlib.Path(os.environ["PEAK_FILE"]).read_text()) / 1024
+def told_hashing(program, folder):
+    hasher = build(folder / "hasher", "hasher", HASHER, own=[], kit=["sha2", "anyhow"])
+    sample = TOP / "sample"
+    words = [program, "run", "--channel", str(sample / "channel.txt"), "--keys", str(sample / "keys.txt")]
+    for title, sizes in SIZES.items():
+        blocks = folder / title.replace(" ", "_").replace(",", "")
+        blocks.mkdir()
+        paths = make_blocks(blocks, sizes)
+        total = sum(os.path.getsize(path) for path in paths) / 1e6
+        hashing = min(int(subprocess.run([hasher, *paths], capture_output=True, text=True, check=True).stdout) for _ in range(RUNS)) / 1000
+        runs = [Ran([*words, *paths], blocks, 1) for _ in range(RUNS)]
+        if any(len(ran.lines) != len(paths) for ran in runs):
+            sys.exit(f"{title}: the run has another number of lines")
+        wall = min(ran.seconds for ran in runs) * 1000
+        print(f"{title}: {total:.0f} MB, hashing {hashing:.0f} ms, fabcommit {wall:.0f} ms, ratio {wall / hashing:.2f}, "
+              f"peak {max(ran.memory for ran in runs) / 1024:.0f} MB", flush=True)
+        for path in paths:
+            os.remove(path)
 
 
 def main():
+    words = argparse.ArgumentParser()
+    words.add_argument("--beside", metavar="FOLDER")
+    words.add_argument("--under", metavar="WORDS", action="append")
+    words.add_argument("--workers", metavar="N", type=int, action="append")
+    words.add_argument("--blocks", metavar="N", type=int)
+    words.add_argument("workloads", nargs="*")
+    words = words.parse_args()
+    programs = [program_of(top) for top in (TOP, words.beside) if top]
+    machine = Machine()
+    print(f"here {programs[0]}" + (f", there {programs[1]}" if words.beside else ""))
     with tempfile.TemporaryDirectory() as name:
         folder = pathlib.Path(name)
-        os.environ["PEAK_FILE"] = str(folder / "peak")
-        hasher = build(folder / "hasher", "hasher", HASHER, own=[], kit=["sha2", "anyhow"])
-        sample = TOP / "sample"
-        fabcommit = [str(TOP / "fabcommit"), "run", "--channel", str(sample / "channel.txt"), "--keys", str(sample / "keys.txt")]
-        subprocess.run(fabcommit + [str(sample / "block0.blk")], capture_output=True, check=True)
-        for title, sizes in (
-            ("4 blocks of 64 transactions of 1 MiB", [(64, 1 << 20)] * 4),
-            ("16 blocks of 4,096 transactions of 4 KiB", [(4096, 1 << 12)] * 16),
-            ("1,000 blocks of 256 transactions of 1 KiB", [(256, 1 << 10)] * 1000),
-        ):
-            blocks = folder / title.replace(" ", "_").replace(",", "")
-            blocks.mkdir()
-            paths = make_blocks(blocks, sizes)
-            total = sum(os.path.getsize(path) for path in paths) / 1e6
-            hashing = min(int(timed([hasher] + paths)[1].stdout) for _ in range(RUNS)) / 1000
-            walls = []
-            for _ in range(RUNS):
-                wall, done = timed(fabcommit + paths)
-                if done.returncode != 0 or len(done.stdout.splitlines()) != len(paths):
-                    sys.exit(f"the run failed: {done.stdout[:300]}{done.stderr[:300]}")
-                walls.append(wall)
-            peak = peak_of(fabcommit + paths)
-            print(f"{title}: {total:.0f} MB, hashing {hashing:.0f} ms, fabcommit {min(walls) * 1000:.0f} ms, "
-                  f"ratio {min(walls) * 1000 / hashing:.2f}, peak {peak:.0f} MB")
-            for path in paths:
-                os.remove(path)
+        wanted = words.workloads or ["run", "hashing"]
+        if wanted != ["hashing"]:
+            print("  workload        under workers  µs for a transaction, least and median, of each; divided: least, medians, median; "
+                  "processor µs; first line in ms and MB")
+        for title in wanted:
+            if title == "hashing":
+                told_hashing(programs[0], folder)
+                continue
+            blocks = made_in(folder, title, words.blocks)
+            for under in words.under if words.under is not None else ["", "chrt -f 50"]:
+                for workers in words.workers or peer.WORKERS:
+                    told(programs, title, blocks, under.split(), workers)
+        print(machine)
 
 
-main()
+if __name__ == "__main__":
+    main()

@@ -36,8 +36,8 @@ Example, with a worker for each of four processors and two readers:
   policies and reads side by side, and take in the block behind it while it is
   committed. With as many workers as there are processors blocks of many
   transactions are done soonest; for blocks of few one worker is enough. What is
-  printed of the blocks is the same for any number. Lines come for up to 16
-  blocks at a time.
+  printed of the blocks is the same for any number. A block's line comes when it
+  is done.
 
   Readers stand for the clients who query a peer while it commits. Each asks for
   the height, 1,000 times, while the blocks are handed in, and waits for nobody.",

@@ -4,7 +4,7 @@ use Rattle.std.specs.List.{All}
 use Rattle.std.specs.Io.KnownBytes.{Appends}
 use Rattle.std.proofs.lemmas.List.{append-nil, length-append}
 use Rattle.std.proofs.lemmas.List.Elements.{All-head, All-tail}
-use Rattle.cli_lines.proofs.Written.{nothing, then, then_whole}
+use Rattle.cli_lines.proofs.Written.{nothing, then_whole}
 use Rattle.policy_eval.specs.Accepts.{Accepts}
 use Rattle.logbook.specs.Pages.{Book}
 use Rattle.query.specs.declared.receipt.Receipt.{Receipt}
@@ -14,7 +14,7 @@ use Rattle.command_line.specs.Handing.{AreHandedIn, last_receipt}
 use Rattle.command_line.specs.Lines.{answer_lines, lines_behind}
 use Rattle.command_line.proofs.Books.{IsFor, are_for}
 
-last_receipt-behind : (before : Option Receipt) (answers others : List (Result Receipt NotCommitted)) → last_receipt (last_receipt before answers) others ≡ last_receipt before (answers ++ others)
+pub last_receipt-behind : (before : Option Receipt) (answers others : List (Result Receipt NotCommitted)) → last_receipt (last_receipt before answers) others ≡ last_receipt before (answers ++ others)
 last_receipt-behind before [] others = refl
 last_receipt-behind before (Ok receipt ∷ answers) others = last_receipt-behind (Some receipt) answers others
 last_receipt-behind before (Err why ∷ answers) others = last_receipt-behind before answers others
@@ -31,20 +31,6 @@ lines-behind hashes n m [] others e = ap (λ k. lines_behind hashes k others) (o
 lines-behind hashes n m (answer ∷ answers) others e =
     append_assoc (answer_lines hashes (suc n) answer) (lines_behind hashes (suc n) answers) (lines_behind hashes m others)
     ∙ ap (λ l. answer_lines hashes (suc n) answer ++ l) (lines-behind hashes (suc n) m answers others (omega (arith, e)))
-
--- an answer's lines behind those before it, and what is left
-pub more_lines : (hashes : Bool) (start place place' : ℕ) (from between to : Option (List ℕ)) (all rest rest' : List (Result Receipt NotCommitted)) (answer : Result Receipt NotCommitted)
-    → ((text : List ℕ) × Appends from between text × text ++ lines_behind hashes place rest ≡ lines_behind hashes start all)
-    → rest ≡ answer ∷ rest' → place' ≡ suc place → Appends between to (answer_lines hashes place' answer)
-    → (text : List ℕ) × Appends from to text × text ++ lines_behind hashes place' rest' ≡ lines_behind hashes start all
-more_lines hashes start place place' from between to all rest rest' answer before e same next =
-    let line : List ℕ = answer_lines hashes place' answer in (
-      before.0 ++ line,
-      then from between to before.0 line before.1 next,
-      append_assoc before.0 line (lines_behind hashes place' rest')
-          ∙ (ap (λ k. before.0 ++ (answer_lines hashes k answer ++ lines_behind hashes k rest')) same
-          ∙ (ap (λ l. before.0 ++ lines_behind hashes place l) (sym e) ∙ before.2)),
-    )
 
 module _ (accepts : Accepts) where
   Runs-behind : (old mid new : Committing) (blocks more : List (List ℕ)) (answers others : List (Result Receipt NotCommitted))

@@ -1,14 +1,12 @@
-//! Blocks handed in to a committer, some at a time, and a line for each.
-ghost use Rattle.std.specs.Prelude.{◌≡◌, ◌++◌, ◌+◌, ◌^◌, ◌<◌, length, IfOk, IfSome, OnOk};
-ghost use Rattle.std.specs.Io.KnownBytes.{Appends};
+//! Blocks handed in to a committer, and lines for each as soon as it is done.
+ghost use Rattle.std.specs.Prelude.{◌≡◌, ◌++◌, ◌+◌, ◌^◌, ◌<◌, true, length, IfOk, IfSome, OnOk};
 ghost use Rattle.std.specs.Vec.Iter.{into_iter_items};
 ghost use Rattle.key_book.specs.Book.{accepts};
-ghost use Rattle.command_line.specs.Handing.{AreHandedIn, last_receipt};
-ghost use Rattle.command_line.specs.Lines.{lines_behind};
+ghost use Rattle.command_line.specs.Handing.{AreHandedIn, AreTold, IsTold};
 
 use crate::lines::write_answer;
 use command_files::{ACCEPTED, Fault};
-use commit::{Committer, NotCommitted, Receipt};
+use commit::{Answer, Committer, Receipt};
 use gates::Open;
 use key_book::KeyBook;
 use ledger_commands::Progress;
@@ -19,9 +17,11 @@ use std::thread::Threads;
 use std::vec::IntoIter;
 use values::Bytes;
 
-/// How many blocks are handed in at once. Workers take the next one in while one is committed, but no line is written before
-/// all of them are answered.
+// Blocks are handed in so many at once, and so many bytes, unless fewer are left: their bytes are let go together, and threads that
+// take blocks in ahead begin anew.
 const AT_ONCE: usize = 16;
+
+const BYTES_AT_ONCE: usize = 1 << 26;
 
 /// How blocks are handed in, and what is printed of them.
 #[derive(Clone, Copy)]
@@ -46,40 +46,102 @@ fn next_blocks(alloc: Global, blocks: &mut IntoIter<Bytes>) -> Result<Vec<Bytes>
     ensures fewer { OnOk result (0 < length (into_iter_items blocks.old) → length (into_iter_items blocks.new) < length (into_iter_items blocks.old)) }
 {
     let mut next = Vec::with_capacity(alloc, AT_ONCE)?;
-    for _ in 0..AT_ONCE {
+    let mut len = 0usize;
+    for _ in 0..blocks.len() {
+        if next.len() >= AT_ONCE && len >= BYTES_AT_ONCE {
+            return Ok(next);
+        }
         let Some(bytes) = blocks.next() else {
             return Ok(next);
         };
+        len = len.saturating_add(bytes.as_slice().len());
         next.push(bytes)?;
     }
     Ok(next)
 }
 
-// Writes the lines of blocks that were handed in behind so many others. Returns what the process would end with for them.
-fn write_answers<'a, W: Write>(
-    answers: Vec<Result<Receipt, NotCommitted>>,
-    before: usize,
+/// What was told of the blocks so far.
+#[derive(Drop)]
+struct Told<'a> {
     hashes: bool,
-    out: &mut W,
-    last: &mut Option<Receipt>,
-) -> Result<u8, Fault<'a>>
-    requires { before + length answers.items < 2 ^ 64 }
-    ensures last { OnOk result (last.new ≡ last_receipt last.old answers.items) }
-    ensures lines { OnOk result (Appends (W.contents out.old) (W.contents out.new) (lines_behind hashes before answers.items)) }
-{
-    let mut status = ACCEPTED;
-    let mut place = before;
-    for answer in answers {
-        place += 1;
-        status = status.max(write_answer(out, place, &answer, hashes)?);
-        if let Ok(receipt) = answer {
-            *last = Some(receipt);
-        }
-    }
-    Ok(status)
+    /// How many blocks are done, and of how many.
+    done: usize,
+    all: usize,
+    committed: Committed,
+    /// Why no more is told.
+    fault: Option<Fault<'a>>,
 }
 
-/// Hands the blocks in, some at a time, which are let go when they are done, and writes a line for each.
+impl<'a> Told<'a> {
+    // Shows how many are in, where others follow.
+    fn show<P: Progress>(&self, progress: &mut P) {
+        if self.done < self.all {
+            progress.blocks_in(self.done, self.all);
+        }
+    }
+
+    // Writes the lines for the answer to the next block, now, and shows how many are in.
+    fn write<W: Write, P: Progress>(
+        &mut self,
+        out: &mut W,
+        progress: &mut P,
+        answer: Answer,
+    ) -> Result<(), Fault<'a>>
+        ensures { OnOk result (IsTold self.old (W.contents out.old) answer self.new (W.contents out.new)) }
+    {
+        progress.clear();
+        self.done = self.done.wrapping_add(1);
+        let status = write_answer(out, self.done, &answer, self.hashes)?;
+        out.flush()?;
+        self.committed.status = self.committed.status.max(status);
+        if let Ok(receipt) = answer {
+            self.committed.last = Some(receipt);
+        }
+        self.show(progress);
+        Ok(())
+    }
+
+    // Says whether the next answer can be told too.
+    fn tell<W: Write, P: Progress>(&mut self, out: &mut W, progress: &mut P, answer: Answer) -> bool
+        ensures { result ≡ true → IsTold self.old (W.contents out.old) answer self.new (W.contents out.new) }
+    {
+        match self.write(out, progress, answer) {
+            Ok(()) => true,
+            Err(fault) => {
+                self.fault = Some(fault);
+                false
+            }
+        }
+    }
+}
+
+// Hands these blocks in, and tells of each when it is done. Ends at the first fault.
+fn commit_some<'a, R: Threads + Wait + Sync, W: Write, P: Progress>(
+    rt: &R,
+    committer: &mut Committer,
+    blocks: &[Bytes],
+    keys: &KeyBook,
+    told: &mut Told<'a>,
+    out: &mut W,
+    progress: &mut P,
+) -> Result<(), Fault<'a>>
+    requires { told.old.done + length blocks.now < 2 ^ 64 }
+    ensures { OnOk result (AreTold (accepts keys.now) committer.old blocks.now told.old (W.contents out.old) committer.new told.new (W.contents out.new)) }
+{
+    let all = committer.run_telling(
+        rt,
+        blocks,
+        keys,
+        &Open,
+        &mut |answer| { told.tell(out, progress, answer) },
+    )?;
+    if all {
+        return Ok(());
+    }
+    Err(told.fault.take().unwrap_or(Fault::Output))
+}
+
+/// Hands the blocks in, some at a time, which are let go when they are done, and writes lines for each as soon as it is done.
 /// Ends at the first fault.
 pub(crate) fn commit_each<'a, R: Threads + Wait + Sync, W: Write, P: Progress>(
     rt: &R,
@@ -93,18 +155,30 @@ pub(crate) fn commit_each<'a, R: Threads + Wait + Sync, W: Write, P: Progress>(
     ensures handed { IfOk result (λ committed. AreHandedIn (accepts wanted.entry.keys.now) wanted.entry.hashes committer.old (W.contents out.old) blocks.items committed.last committer.new (W.contents out.new)) }
     ensures last { IfOk result (λ committed. IfSome committed.last (λ receipt. receipt.front.book ≡ committer.old.book)) }
 {
-    let mut status = ACCEPTED;
-    let mut last = None;
-    let mut before = 0;
-    let all = blocks.len();
+    let mut told = Told {
+        hashes: wanted.hashes,
+        done: 0,
+        all: blocks.len(),
+        committed: Committed {
+            status: ACCEPTED,
+            last: None,
+        },
+        fault: None,
+    };
+    told.show(progress);
     let mut blocks = blocks.into_iter();
     while blocks.len() > 0 {
-        progress.blocks_in(before, all);
         let some = next_blocks(alloc, &mut blocks)?;
-        let answers = committer.run(rt, some.as_slice(), wanted.keys, &Open)?;
-        progress.clear();
-        status = status.max(write_answers(answers, before, wanted.hashes, out, &mut last)?);
-        before += some.len();
+        commit_some(
+            rt,
+            committer,
+            some.as_slice(),
+            wanted.keys,
+            &mut told,
+            out,
+            progress,
+        )?;
     }
-    Ok(Committed { status, last })
+    progress.clear();
+    Ok(told.committed)
 }

@@ -44,7 +44,7 @@ fn status_of<E: Write>(ended: Result<u8, Fault<'_>>, err: &mut E) -> u8 {
 /// that is to be shown is no block; 2 where the words are no command, one is a bad word, or the transaction to explain
 /// isn't there; 3 where a file or `out` is at fault; 4 where memory ran out.
 ///
-/// The words are read first, then all files. Then the blocks are handed in, up to 16 at once by `run` and else one by
+/// The words are read first, then all files. Then the blocks are handed in, many at once by `run` and else one by
 /// one; or they are shown, or one is drafted. Lines and help go to `out`, and a fault's line to `err`, where a write
 /// that fails changes nothing. `progress` is told how many blocks are in, unless the words ask for silence.
 ///

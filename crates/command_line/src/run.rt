@@ -129,7 +129,7 @@ fn write_through_buffer<'a, R: Threads + Wait + Sync, W: Write, P: Progress>(
 }
 
 /// Reads the files, hands the blocks in to a new committer, and writes a line for each, and then one for
-/// each reader. The memory is the files' bytes, of which those of 16 blocks are let go when these are done, what the
+/// each reader. The memory is the files' bytes, of which those of some blocks are let go when these are done, what the
 /// committer keeps, what the blocks take that it takes in ahead, a buffer of a fixed size, and what threads take.
 pub(crate) fn run_blocks<
     'a,

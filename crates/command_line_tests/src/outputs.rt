@@ -87,14 +87,16 @@ static CASES: [Case; 8] = [
         status: 3,
         err: FAULT,
     },
-    // when all is written
+    // when the first block's line is written
     Case {
         files: FILES,
         words: WORDS,
         room: 1000,
         kind: ErrorKind::StorageFull,
         flushes: false,
-        taken: Some(ALL),
+        taken: Some(
+            "accepted 0 9cae6f5c10756febc407bba95fc23853774c1f65f10354895bfdab6443d66ed3\n",
+        ),
         status: 3,
         err: FAULT,
     },

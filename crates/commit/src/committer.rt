@@ -4,12 +4,14 @@ ghost use Rattle.check_workers.specs.Limits.{max_workers};
 ghost use Rattle.query.specs.Limits.{max_readers};
 ghost use Rattle.rules.specs.World.{empty_world};
 ghost use Rattle.commit.specs.Committing.{Submits, Runs};
+ghost use Rattle.commit.specs.Telling.{RunsTelling};
 
+use crate::collecting::{collect_all, lent};
 use crate::context::Context;
 use crate::not_committed::NotCommitted;
 use crate::opening::OpenFault;
 use crate::published::Published;
-use crate::running::{lent, run_all};
+use crate::running::{Answer, run_all};
 use crate::workers::Workers;
 use channel::{Channel, Configuration};
 use gates::Gate;
@@ -119,27 +121,19 @@ impl Committer {
     }
 
     /// Takes the bytes of blocks one after the other, and answers to each as [`Committer::submit`] would. An `Err` is
-    /// want of memory for the lists of blocks and answers; no block was handed in then.
-    ///
-    /// While the calling thread commits a block, threads take in those behind it, one each and as many as there are
-    /// workers, so that many blocks are done sooner than by as many calls of `submit`. What was taken in of a block that
-    /// isn't the next one goes for nothing.
-    ///
-    /// Beside the answers it takes memory for what is taken in ahead: as many blocks as there are workers, each with a
-    /// copy of its bytes. Where that is refused, the block is taken in once more when its turn comes. A thread that can't be
-    /// started is done without.
+    /// want of memory for the lists of blocks and answers; no block was handed in then. Costs what [`Committer::run_telling`] does.
     pub fn run<R: Threads + Wait + Sync, V: Verify + Sync, G: Gate + Sync>(
         &mut self,
         rt: &R,
         blocks: &[Bytes],
         verifier: &V,
         gate: &G,
-    ) -> Result<Vec<Result<Receipt, NotCommitted>>, AllocError>
+    ) -> Result<Vec<Answer>, AllocError>
         ensures runs { IfOk result (λ answers. Runs (V.accepts verifier.now) self.old blocks.now answers.items self.new) }
         ensures err { OnErr result (self.new ≡ self.old) }
     {
         let blocks = lent(self.alloc, blocks)?;
-        let answers = Vec::with_capacity(self.alloc, blocks.len())?;
+        let mut answers = Vec::with_capacity(self.alloc, blocks.len())?;
         let context = Context {
             rt,
             alloc: self.alloc,
@@ -148,7 +142,53 @@ impl Committer {
             verifier,
             gate,
         };
-        Ok(run_all(&context, &mut self.published, blocks.as_slice(), answers))
+        collect_all(
+            &context,
+            &mut self.published,
+            blocks.as_slice(),
+            &mut answers,
+        );
+        Ok(answers)
+    }
+
+    /// Takes the bytes of blocks one after the other, answers to each as [`Committer::submit`] would, and tells the function of
+    /// each answer as soon as the block is done. Where that says `false`, the run ends, and no other block is handed in. Answers
+    /// whether all were. An `Err` is want of memory for the list of blocks; no block was handed in then.
+    ///
+    /// While the calling thread commits a block, threads take in those behind it, one each and as many as there are
+    /// workers, so that many blocks are done sooner than by as many calls of `submit`. What was taken in of a block that
+    /// isn't the next one goes for nothing, as where the function ends the run.
+    ///
+    /// It takes memory for what is taken in ahead: as many blocks as there are workers, each with a copy of its bytes. Where that
+    /// is refused, the block is taken in once more when its turn comes. A thread that can't be started is done without.
+    pub fn run_telling<
+        R: Threads + Wait + Sync,
+        V: Verify + Sync,
+        G: Gate + Sync,
+        F: FnMut(Answer) -> bool,
+    >(
+        &mut self,
+        rt: &R,
+        blocks: &[Bytes],
+        verifier: &V,
+        gate: &G,
+        tell: &mut F,
+    ) -> Result<bool, AllocError>
+        requires { F.IsAlwaysCallable tell.old }
+        ensures told { IfOk result (λ all. RunsTelling F.step (V.accepts verifier.now) self.old blocks.now tell.old all self.new tell.new) }
+        ensures err { OnErr result ((self.new ≡ self.old) × (tell.new ≡ tell.old)) }
+        ensures callable { F.IsAlwaysCallable tell.new }
+    {
+        let blocks = lent(self.alloc, blocks)?;
+        let context = Context {
+            rt,
+            alloc: self.alloc,
+            channel: &self.channel,
+            workers: self.workers,
+            verifier,
+            gate,
+        };
+        Ok(run_all(&context, &mut self.published, blocks.as_slice(), tell))
     }
 
     /// Ends the committer, and answers what was published last: all that it had published, and nothing more. It waits for

@@ -2,6 +2,7 @@
 #![tactic(auto)]
 
 mod by_workers;
+mod collecting;
 mod committer;
 mod context;
 mod hashing;
@@ -20,5 +21,6 @@ pub use not_committed::NotCommitted;
 pub use opening::OpenFault;
 pub use query::{QueryFault, QueryHandle, RangeRows, Receipt, Reply};
 pub use rules::{Accepted, CommittedBlock, Delta, Flag, Refused};
+pub use running::Answer;
 pub use workers::MAX_WORKERS;
 pub use world::World;

@@ -18,6 +18,7 @@ mod committer_memory;
 #[cfg(test)]
 mod committing;
 #[cfg(test)]
+mod ended_runs;
 mod heights;
 #[cfg(test)]
 mod long_block;

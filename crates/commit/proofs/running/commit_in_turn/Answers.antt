@@ -1,7 +1,20 @@
-use Rattle.std.proofs.Common.{List, ℕ, subst, arith, ◌∙◌}
+use Rattle.std.proofs.Common.{Bool, List, ℕ, subst, arith, ◌∙◌}
 use Rattle.commit.specs.Running.{committing, SubmitsTo}
-use Rattle.commit.proofs.Runs.{Runs-more}
+use Rattle.commit.proofs.Telling.{IsRun-more, IsEndedRun-at}
 use Rattle.commit.proofs.running.commit_in_turn.Goals as goal
+
+pub returns-then-not-commit_next-clause-told : goal.returns-then-not-commit_next-clause-told
+returns-then-not-commit_next-clause-told g c =
+    let channel = c.args.context.now.channel.now in
+    let accepts = g.V.Verify.accepts c.args.context.now.verifier.now in
+    let item = c.bytes-item.result in
+    let step = c.commit_next.ensures.submits in
+    let old_run = c.loop-bytes.run in
+    let new_run = c.commit_next.new.self in
+    let submits = subst (λ (b : List ℕ). SubmitsTo channel accepts old_run.published.now b step.0 new_run.published.now) c.as_slice.ensures step.1 in
+    let ends = subst (λ (asks : Bool). goal.F-step g old_run.tell.now step.0 asks new_run.tell.now) c.if-not-commit_next.true step.2 in
+    IsEndedRun-at (goal.F-step g) accepts (committing channel c.args.run.now.published.now) (committing channel old_run.published.now) (committing channel new_run.published.now) c.args.blocks.now c.loop-bytes.bytes-index item c.args.run.now.tell.now old_run.tell.now new_run.tell.now step.0
+    (omega (arith, c.loop-bytes-test.true)) c.bytes-item.is c.loop-bytes.invariant.run submits ends
 
 pub loop-bytes-preserved : goal.loop-bytes-preserved
 loop-bytes-preserved g c =
@@ -13,11 +26,12 @@ loop-bytes-preserved g c =
     let old_run = c.loop-bytes.run in
     let new_run = c.commit_next.new.self in
     let submits = subst (λ (b : List ℕ). SubmitsTo channel accepts old_run.published.now b step.0 new_run.published.now) c.as_slice.ensures step.1 in
+    let asks = subst (λ (asks : Bool). goal.F-step g old_run.tell.now step.0 asks new_run.tell.now) c.if-not-commit_next.false step.2 in
     record {
-      runs = λ old earlier so_far. Runs-more accepts old (committing channel old_run.published.now) (committing channel new_run.published.now) earlier c.args.blocks.now c.loop-bytes.bytes-index item old_run.answers.items new_run.answers.items step.0
-          (omega (arith, c.loop-bytes-test.true)) c.bytes-item.is (before.runs old earlier so_far) submits step.2;
-      count = omega (arith, before.count, c.commit_next.ensures.count);
-      room = omega (arith, before.room, c.commit_next.ensures.room);
+      run = IsRun-more (goal.F-step g) accepts (committing channel c.args.run.now.published.now) (committing channel old_run.published.now) (committing channel new_run.published.now) c.args.blocks.now c.loop-bytes.bytes-index item c.args.run.now.tell.now old_run.tell.now new_run.tell.now step.0
+          (omega (arith, c.loop-bytes-test.true)) c.bytes-item.is before.run submits asks;
       belongs = c.commit_next.ensures.belongs;
+      callable = c.commit_next.ensures.callable;
       lent = c.commit_next.ensures.lent ∙ before.lent;
+      tell = c.commit_next.ensures.tell ∙ before.tell;
     }
