@@ -1,0 +1,3 @@
+mod ReadBack
+mod Texts
+mod Worked
