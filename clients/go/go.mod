@@ -1,0 +1,3 @@
+module fabcommit
+
+go 1.19

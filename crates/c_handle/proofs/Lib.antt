@@ -1,0 +1,3 @@
+mod AsHeld
+mod Crossing
+mod Words

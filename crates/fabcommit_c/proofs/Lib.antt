@@ -1,0 +1,2 @@
+mod Refusing
+mod Writing

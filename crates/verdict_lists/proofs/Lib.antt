@@ -1,0 +1,3 @@
+mod Answered
+mod Places
+mod Worked

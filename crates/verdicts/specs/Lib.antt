@@ -1,0 +1,3 @@
+pub mod Said
+pub mod Tags
+pub mod Index

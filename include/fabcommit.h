@@ -1,0 +1,138 @@
+/* The committing peer's ledger for C, and for what calls C: libfabcommit_c.a, of the crate fabcommit_c.
+ *
+ * What the caller owes, and nothing checks:
+ * - A handle is 16 bytes of the caller's. Of zeros it is closed. It is read and written by these calls alone, and never used from two
+ *   copies. Calls on one handle come one after the other; from thread to thread it may go, as under a lock.
+ * - No buffer overlaps another one or the handle. No pointer is null, also where its length is 0. A bool is 0 or 1.
+ * - malloc, realloc and free are one allocator's; no call comes from a signal handler, or from a forked child of a process with threads.
+ *
+ * What a call promises: it answers a code below, whatever else it is given. A code other than FABCOMMIT_OK has changed nothing, but what
+ * is told as said. A buffer is written whole or, where it is too small, not at all: then the code is FABCOMMIT_SMALL, and what is needed
+ * was told. Beside a length stands how many there are, not how much was given. */
+#ifndef FABCOMMIT_H
+#define FABCOMMIT_H
+#include <stdbool.h>
+#include <stddef.h>
+#include <stdint.h>
+
+#ifdef __cplusplus
+extern "C" {
+#endif
+
+/* The version of this interface that the header declares. */
+#define FABCOMMIT_INTERFACE 1u
+
+enum {
+    FABCOMMIT_OK = 0,
+    FABCOMMIT_MALFORMED = 1,       /* the bytes spell no block */
+    FABCOMMIT_WRONG_NUMBER = 2,    /* the block's number isn't the height */
+    FABCOMMIT_WRONG_PREVIOUS = 3,  /* its previous hash isn't the last header hash */
+    FABCOMMIT_WRONG_DATA_HASH = 4, /* its data hash isn't that of its transactions */
+    FABCOMMIT_OLD_VERSION = 5,     /* a block of version 1 behind one of version 2 */
+    FABCOMMIT_MEMORY = 6,          /* an allocation was refused */
+    FABCOMMIT_CLOSED = 7,          /* the handle is closed */
+    FABCOMMIT_NO_TEXT = 8,         /* a text isn't UTF-8 */
+    FABCOMMIT_NO_CHANNEL = 9,      /* the text is no channel's */
+    FABCOMMIT_NO_KEYS = 10,        /* the text is no key book */
+    FABCOMMIT_NO_NAME = 11,        /* a namespace or chaincode is no name, a key no key, an id no id */
+    FABCOMMIT_NONE = 12,           /* there is no row, block, policy or use */
+    FABCOMMIT_SMALL = 13           /* a buffer is too small; what is needed was told */
+};
+
+typedef struct { void *at; bool is_open; } fabcommit_handle;
+
+typedef struct { uint32_t interface, first_block, last_block; } fabcommit_version_numbers;
+
+/* Of an accepted block its number (twice), how many flags it has, and its hashes. At FABCOMMIT_WRONG_NUMBER the number that is next, and
+ * the one that the block has (`got`); at FABCOMMIT_MALFORMED the number of the first fault of the bytes, 1 to 6, B1 to B6 of the command
+ * line (`got`). Nothing else is told of a refusal. */
+typedef struct {
+    uint64_t number, got;
+    size_t flags;
+    uint8_t header_hash[32], commit_hash[32];
+} fabcommit_receipt;
+
+/* Bytes of a pool: where they begin, and how many they are. One that isn't inside the pool has none. */
+typedef struct { size_t at, len; } fabcommit_piece;
+
+/* What is said of one signature. The role is 0 for an admin, 1 for a client, 2 for a peer, 3 for an orderer. */
+typedef struct {
+    fabcommit_piece org, label, message, signature;
+    uint8_t role;
+    bool accepted;
+} fabcommit_verdict;
+
+typedef struct { size_t pool, verdicts; } fabcommit_sizes;
+
+/* Where a row was written last, and how long its value is. */
+typedef struct { uint64_t block; uint32_t tx; size_t len; } fabcommit_row;
+
+/* Where an id was used first, and that transaction's flag. */
+typedef struct { uint64_t block; uint32_t tx; uint8_t flag; } fabcommit_use;
+
+/* A row of a scan, whose key and value are pieces of a pool. `more` tells whether rows are left behind those. */
+typedef struct { fabcommit_piece key, value; uint64_t block; uint32_t tx; } fabcommit_scanned_row;
+typedef struct { size_t pool, rows; bool more; } fabcommit_scan_sizes;
+
+/* A value write or a delete of a key: the transaction's id, of 64 bytes, and the value are pieces of a pool. */
+typedef struct { fabcommit_piece id, value; uint64_t block; uint32_t tx; bool deleted; } fabcommit_past_write;
+typedef struct { size_t pool, writes; } fabcommit_history_sizes;
+
+/* Tells the version of the interface, and the first and last version of the blocks that the library reads. */
+void fabcommit_versions(fabcommit_version_numbers *versions);
+
+/* Opens the ledger of height 0 of a channel text, with a text of keys, which is empty where the caller checks all signatures. What the
+ * handle held is freed. */
+uint32_t fabcommit_open(fabcommit_handle *handle, const uint8_t *channel, size_t channel_len, const uint8_t *keys, size_t keys_len);
+
+/* Frees what the handle holds. A closed handle stays closed, and may be opened. */
+void fabcommit_close(fabcommit_handle *handle);
+
+/* Hands in the next block, whose signatures are checked by the keys of the handle. The flags are had by fabcommit_flags. */
+uint32_t fabcommit_submit(fabcommit_handle *handle, const uint8_t *block, size_t block_len, fabcommit_receipt *receipt);
+
+/* Lists the signatures that a block may ask about, also of a block that a ledger would refuse, as verdicts that refuse all. The caller
+ * sets `accepted` of each that is good: label, role and organization are its identity. In the pool stand, for one verdict after the
+ * other, organization, label, message, signature. The sizes are told before anything is written. */
+uint32_t fabcommit_list(const uint8_t *block, size_t block_len, uint8_t *pool, size_t pool_len, fabcommit_verdict *verdicts,
+                        size_t verdicts_len, fabcommit_sizes *sizes);
+
+/* Hands in the next block where the caller has checked the signatures: one is good if a verdict on its identity, message and bytes
+ * accepts it. What no verdict speaks of is refused. */
+uint32_t fabcommit_submit_by(fabcommit_handle *handle, const uint8_t *block, size_t block_len, const uint8_t *pool, size_t pool_len,
+                             const fabcommit_verdict *verdicts, size_t verdicts_len, fabcommit_receipt *receipt);
+
+/* Tells the number of the next block. */
+uint32_t fabcommit_height(fabcommit_handle *handle, uint64_t *height);
+
+/* Tells the row of a key of a namespace, and its value. A key without a row is FABCOMMIT_NONE. */
+uint32_t fabcommit_get(fabcommit_handle *handle, const uint8_t *ns, size_t ns_len, const uint8_t *key, size_t key_len,
+                       fabcommit_row *row, uint8_t *value, size_t value_len);
+
+/* Tells again what fabcommit_submit told of an accepted block, by its number. */
+uint32_t fabcommit_block(fabcommit_handle *handle, uint64_t number, fabcommit_receipt *receipt);
+
+/* Tells the flags of an accepted block by its number, one for each transaction, as in Fabric's TxValidationCode. */
+uint32_t fabcommit_flags(fabcommit_handle *handle, uint64_t number, uint8_t *flags, size_t flags_len, size_t *len);
+
+/* Tells the canonical text of a chaincode's policy. A chaincode without one is FABCOMMIT_NONE. */
+uint32_t fabcommit_definition(fabcommit_handle *handle, const uint8_t *chaincode, size_t chaincode_len, uint8_t *text, size_t text_len,
+                              size_t *len);
+
+/* Tells where an id was used first, of 64 bytes (else FABCOMMIT_NO_NAME). One that wasn't used is FABCOMMIT_NONE. */
+uint32_t fabcommit_first_use(fabcommit_handle *handle, const uint8_t *id, size_t id_len, fabcommit_use *first);
+
+/* Tells the rows of a namespace from a start to before an end, which is no bound if it is empty: as many as `rows` has room for. To go on
+ * where `more` is set, start at the last key with a zero byte behind it. In the pool stand, for one row after the other, key and value. */
+uint32_t fabcommit_scan(fabcommit_handle *handle, const uint8_t *ns, size_t ns_len, const uint8_t *start, size_t start_len,
+                        const uint8_t *end, size_t end_len, uint8_t *pool, size_t pool_len, fabcommit_scanned_row *rows, size_t rows_len,
+                        fabcommit_scan_sizes *sizes);
+
+/* Tells the value writes and deletes of a key, the newest first. In the pool stand, for one after the other, id and value. */
+uint32_t fabcommit_history(fabcommit_handle *handle, const uint8_t *ns, size_t ns_len, const uint8_t *key, size_t key_len, uint8_t *pool,
+                           size_t pool_len, fabcommit_past_write *writes, size_t writes_len, fabcommit_history_sizes *sizes);
+
+#ifdef __cplusplus
+}
+#endif
+#endif
