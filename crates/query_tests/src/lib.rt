@@ -19,6 +19,7 @@ mod committer_memory;
 mod committing;
 #[cfg(test)]
 mod ended_runs;
+#[cfg(test)]
 mod heights;
 #[cfg(test)]
 mod long_block;
