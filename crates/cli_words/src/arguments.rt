@@ -130,7 +130,7 @@ pub(crate) fn number_of(matches: &ArgMatches<'_>, name: &str) -> Option<u16> {
     digits_of(matches, name)?.parse().ok()
 }
 
-/// The same of a number of up to 64 bits.
+/// The number of an option, of up to 64 bits, of which clap has looked at all but its form: it has digits alone.
 pub(crate) fn long_number_of(matches: &ArgMatches<'_>, name: &str) -> Option<u64> {
     digits_of(matches, name)?.parse().ok()
 }

@@ -17,7 +17,7 @@ pub record IsRun {F : Type 0} (step : Steps F) (accepts : Accepts) (old : Commit
   pub runs : Runs accepts old blocks answers new
   pub told : FoldsTo (λ p answer q. step p answer true q) f answers f'
 
--- The same of those up to one, at whose answer it asked for no other. Those behind that one were not handed in.
+-- Those up to one were handed in so, and that one, at whose answer it asked for no other. Those behind it were not handed in.
 pub record IsEndedRun {F : Type 0} (step : Steps F) (accepts : Accepts) (old : Committing) (blocks : List (List ℕ)) (f : F) (new : Committing) (f' : F) : Type 0 where
   pub before : List (List ℕ)
   pub bytes : List ℕ

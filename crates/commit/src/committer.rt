@@ -153,7 +153,7 @@ impl Committer {
 
     /// Takes the bytes of blocks one after the other, answers to each as [`Committer::submit`] would, and tells the function of
     /// each answer as soon as the block is done. Where that says `false`, the run ends, and no other block is handed in. Answers
-    /// whether all were. An `Err` is want of memory for the list of blocks; no block was handed in then.
+    /// whether it never did. An `Err` is want of memory for the list of blocks; no block was handed in then.
     ///
     /// While the calling thread commits a block, threads take in those behind it, one each and as many as there are
     /// workers, so that many blocks are done sooner than by as many calls of `submit`. What was taken in of a block that

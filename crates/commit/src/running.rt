@@ -65,7 +65,7 @@ impl<F: FnMut(Answer) -> bool> Run<'_, '_, F> {
     }
 }
 
-/// Commits blocks, each of which all workers take in and check when its turn comes. Says whether all were handed in.
+/// Commits blocks, each of which all workers take in and check when its turn comes. Says whether the function always asked for more.
 fn commit_in_turn<
     R: Threads + Wait + Sync,
     V: Verify + Sync,
@@ -90,7 +90,7 @@ fn commit_in_turn<
 }
 
 /// Commits blocks that threads take in ahead. They have the processors, so each block is checked by this one alone.
-/// Says whether all were handed in.
+/// Says whether the function always asked for more.
 fn commit_taken_in<
     'e,
     R: Threads + Wait + Sync,
@@ -202,8 +202,8 @@ fn commit_in_scope<
     )
 }
 
-/// Commits blocks one after the other, and tells a function of each answer, until that asks for no more. Says whether all were
-/// handed in.
+/// Commits blocks one after the other, and tells a function of each answer, until that asks for no more. Says whether it
+/// always did.
 pub(crate) fn run_all<
     'e,
     R: Threads + Wait + Sync,

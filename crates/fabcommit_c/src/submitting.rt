@@ -36,8 +36,8 @@ fn submit_by(
     tell(receipt, submitted)
 }
 
-/// Hands in the bytes of the next block, whose signatures are checked by the keys of the handle. A code other than 0 has changed nothing
-/// but, at a wrong number, the two numbers of the receipt.
+/// Hands in the bytes of the next block, whose signatures are checked by the keys of the handle. A code other than 0 leaves the
+/// ledger and the receipt as they were, but that this tells the two numbers of a wrong number, or the number of the fault of the bytes.
 #[unsafe(no_mangle)]
 pub extern "C" fn fabcommit_submit(
     alloc: Global,
@@ -57,7 +57,8 @@ pub extern "C" fn fabcommit_submit(
     code
 }
 
-/// The same where the caller has checked the signatures: one is good if a verdict on it accepts it. By the verdicts of
+/// Hands in the bytes of the next block, whose signatures the caller has checked: one is good if a verdict on it accepts it. What
+/// is told of a refusal is as of [`fabcommit_submit`]. By the verdicts of
 /// `fabcommit_list`, each answered as a verifier answers, a block has the flags that it has by that verifier
 /// (`verdict_lists::answered_verdicts_suffice`).
 #[unsafe(no_mangle)]

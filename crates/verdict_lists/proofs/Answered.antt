@@ -4,9 +4,11 @@ use Rattle.std.specs.Prelude.{◌&&◌}
 use Rattle.std.specs.List.{list_any}
 use Rattle.std.specs.Str.{bytes_eq}
 use Rattle.std.specs.Cmp.Lexicographic.{bytes_decides}
+use Rattle.transaction.specs.declared.identity.Identity.{Identity}
 use Rattle.transaction.specs.declared.identity.Role.{Role}
 use Rattle.transaction.specs.declared.identity.Role.TheVariants.{Admin, Client, Peer, Orderer}
 use Rattle.transaction.specs.Grammar.{role_byte}
+use Rattle.policy_eval.proofs.Once.{same_is}
 use Rattle.policy_eval.specs.Accepts.{Accepts}
 use Rattle.signature_requests.specs.declared.request.Request.{Request}
 use Rattle.signature_requests.specs.Agreement.{answer_to, AgreeOn}
@@ -22,22 +24,9 @@ halves true b e = (refl, e)
 halves false b e = absurd cc
 
 same_role : (a b : Role) → (role_byte a == role_byte b) ≡ true → a ≡ b
-same_role Admin Admin e = refl
-same_role Client Client e = refl
-same_role Peer Peer e = refl
-same_role Orderer Orderer e = refl
-same_role Admin Client e = absurd cc
-same_role Admin Peer e = absurd cc
-same_role Admin Orderer e = absurd cc
-same_role Client Admin e = absurd cc
-same_role Client Peer e = absurd cc
-same_role Client Orderer e = absurd cc
-same_role Peer Admin e = absurd cc
-same_role Peer Client e = absurd cc
-same_role Peer Orderer e = absurd cc
-same_role Orderer Admin e = absurd cc
-same_role Orderer Client e = absurd cc
-same_role Orderer Peer e = absurd cc
+same_role a b e =
+    let with_role : Role → Identity = λ r. record { org = []; role = r; label = [] } in
+    ap (λ (i : Identity). i.role) (same_is (with_role a) (with_role b) (ap (λ (x : Bool). x && true) e))
 
 own_role : (r : Role) → (role_byte r == role_byte r) ≡ true
 own_role Admin = refl
