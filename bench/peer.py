@@ -99,7 +99,7 @@ use std::thread::Threads;
 use std::time::{Clock, Instant};
 use std::{env, fs};
 use transaction::{Identity, SpelledTx, append_identity, decode_tx, encode_body};
-use values::{Bytes, Slice};
+use values::{Bytes, Shared, Slice};
 
 // So many bytes are hashed beside a signature by a verifier that takes 60 µs more, where a byte takes 4.4 ns.
 const SLOW_BYTES: usize = 13_600;
@@ -350,7 +350,8 @@ fn run_all<R: AllocGlobal + Files + Clock + Print + Threads + Wait + Sync, V: Ve
     }
     let mut blocks = Vec::new(rt.alloc());
     for path in others {
-        blocks.push(Bytes::from_vec(fs::read(rt, path.as_str())?))?;
+        let bytes = Bytes::from_vec(fs::read(rt, path.as_str())?);
+        blocks.push(Shared::new(rt.alloc(), bytes)?)?;
     }
     let start = Instant::now(rt)?;
     let answers = committer.run(rt, blocks.as_slice(), verifier, &Open)?;
@@ -455,14 +456,14 @@ class Blocks:
     def number(self):
         return len(self.paths)
 
-    def tx(self, reads=(), writes=(), ranges=(), policies=()):
+    def tx(self, reads=(), writes=(), ranges=(), policies=(), value=VALUE):
         """A signed transaction with these reads at versions, writes, ranges and policies."""
         self.nonce += 1
         nonce, creator = b"%d" % self.nonce, identity(CREATOR)
         namespace = Namespace(b"cc")
         namespace.reads += sorted(dict(reads).items())
         namespace.ranges += ranges
-        namespace.writes += [(name, VALUE) for name in sorted(set(writes))]
+        namespace.writes += [(name, value) for name in sorted(set(writes))]
         namespace.policies += [(name, POLICY) for name in sorted(set(policies))]
         tx = Tx(b"ch", tx_id(nonce, creator), creator, nonce, b"cc", [namespace], [], b"")
         self.keys.endorse(tx, PEERS)

@@ -61,6 +61,14 @@ SUBJECTS = {
     "explain": ("command_line_tests", "memory.rt", "outcome_of_explain(&rt)"),
     "explain by id": ("command_line_tests", "memory.rt", "outcome_of_id(&rt)"),
     "conflicts": ("command_line_tests", "memory.rt", "outcome_of_conflicts(&rt)"),
+    "explain --dot": ("command_line_tests", "memory.rt", "outcome_of_graph(&rt)"),
+    "run --json": ("command_line_tests", "memory.rt", "outcome_of_objects(&rt, RUN_OBJECTS)"),
+    "get --json": ("command_line_tests", "memory.rt", "outcome_of_objects(&rt, GET_OBJECTS)"),
+    "scan --json": ("command_line_tests", "memory.rt", "outcome_of_objects(&rt, SCAN_OBJECTS)"),
+    "history --json": ("command_line_tests", "memory.rt", "outcome_of_objects(&rt, HISTORY_OBJECTS)"),
+    "definition --json": ("command_line_tests", "memory.rt", "outcome_of_objects(&rt, DEFINITION_OBJECT)"),
+    "explain --json": ("command_line_tests", "memory.rt", "outcome_of_objects(&rt, EXPLAIN_OBJECTS)"),
+    "conflicts --json": ("command_line_tests", "memory.rt", "outcome_of_objects(&rt, CONFLICTS_OBJECTS)"),
 }
 
 # The allocation of a process that is refused. No subject makes so many.

@@ -2,31 +2,45 @@
 """Times the program that people run, `fabcommit run`: by its workers, and by hashing the bytes that it reads.
 
 Run as `bench/run.py [--beside FOLDER] [--under WORDS ..] [--workers N ..] [--blocks N] [WORKLOAD ..]` from anywhere, on a quiet
-machine with four cores that has the kit; it needs 1 GB of disk under TMPDIR. It takes the program that `./fabcommit` would run, as
+machine with four cores that has the kit; it needs 2 GB of disk under TMPDIR. It takes the program that `./fabcommit` would run, as
 it is: build it first. `--beside` has another checkout whose program takes turns with it; let both be proved, or both quick.
 
-A workload is one of `peer.py`, or `run`: the blocks of its `drawn`, but 100 of them. Each is timed with 1, 2 and 4 workers, by the
-system's scheduler and under `chrt -f 50`; `--under` has other words to put before the program, once for each series, `--workers`
-other numbers, and `--blocks` how many blocks there are behind the state.
+A workload is one of `peer.py` or of those below, where `mixed` transactions are those of its `drawn`. Each is timed with 1, 2 and 4
+workers, by the system's scheduler and under `chrt -f 50`; `--under` has other words to put before the program, once for each
+series, `--workers` other numbers, and `--blocks` how many blocks there are behind the state. `all` is all of these but `hashing`.
 
-In each turn a program runs over all files, and over those alone that make the state: microseconds for a transaction are the
-difference by the transactions between, so that neither starting nor the state counts. `least` is that of the least times, `median`
+- `run`: 100 blocks of 500 mixed transactions over 100,000 keys.
+- `tens`, `hundreds`, `thousands`: 2,000 blocks of 10, 400 of 100, 12 of 4,096 of the same.
+- `fewkeys`, `manykeys`: 100 blocks of 500 over 1,000 keys, and 40 over 1,000,000.
+- `waiting`: 20 blocks of 500 transactions, each of which reads what the one before it wrote.
+- `large`: 12 blocks of 8 MiB, of 512 transactions that write 16 KiB each.
+- `alone`: one block, number 0, of 4,096 transactions that write two keys each.
+- `files`: 1,000 blocks of 50 KiB, of 47 mixed transactions.
+- `huge`: 3 blocks of 500 MiB, of bytes that are no transactions.
+
+In each turn a program runs over all files, and over those alone that make the state, or an empty block 0: microseconds for a
+transaction are the difference by the transactions between, so that neither starting nor the state counts. `least` is that of the least times, `median`
 that over the turns, five or as many as RUNS says in the environment. Of two programs there is what these are divided by, and
 the median over the turns of the one by the other. Then come the least time on processors, the milliseconds until the first line
-behind those of the state came through a pipe, and the most memory of a run, in MB. All runs must write the same lines.
+behind those of the state came through a pipe, and the most memory of a run, in MB, which isn't below that of this script, some 30.
+All runs must write the same lines.
 
 `hashing` is no workload: it times the program on 256 MB of blocks without valid transactions against hashing the same bytes once
-with the same sha2. Behind the tables stands what else the machine did.
+with the same sha2. Behind the tables stands what else the machine did. What a verifier of 60 µs a signature gives is told by
+`peer.py slow`.
 """
 
 import argparse
+import multiprocessing
 import os
 import pathlib
+import shutil
 import statistics
 import subprocess
 import sys
 import tempfile
 import time
+import typing
 
 import peer
 from scratch import RUNS, TOP, Machine, build
@@ -89,8 +103,7 @@ class Timed:
         self.count = sum(blocks.sizes[blocks.setup:])
 
     def turn(self):
-        setup, paths = self.blocks.setup, self.blocks.paths
-        ran = [Ran([*self.words, *paths[:end]], self.blocks.folder, setup + 1) for end in (setup, len(paths))]
+        ran = [Ran([*self.words, *paths], self.blocks.folder, self.blocks.setup + 1) for paths in (self.blocks.state, self.blocks.paths)]
         self.turns.append(ran)
         return ran[1].lines
 
@@ -145,14 +158,64 @@ def told(programs, title, blocks, under, workers):
     print("  ".join(columns), flush=True)
 
 
+def large(blocks, count, size):
+    blocks.fill()
+    for _ in range(count):
+        blocks.add([blocks.tx(writes=[peer.key(n)], value=b"v" * (1 << 14)) for n in range(size)])
+
+
+def alone(blocks, count, size):
+    """There is no state, and one block."""
+    blocks.add([blocks.tx(writes=[peer.key(2 * n), peer.key(2 * n + 1)]) for n in range(size)])
+
+
+def huge(blocks, count, size):
+    blocks.fill()
+    for number in range(count):
+        blocks.add([bytes([number % 251]) * (1 << 20)] * size)
+
+
+# As those of `peer.py`.
+WORKLOADS = {
+    "run": (100_000, peer.mixed, 100, 500),
+    "tens": (100_000, peer.mixed, 2000, 10),
+    "hundreds": (100_000, peer.mixed, 400, 100),
+    "thousands": (100_000, peer.mixed, 12, 4096),
+    "fewkeys": (1000, peer.mixed, 100, 500),
+    "manykeys": (1_000_000, peer.mixed, 40, 500),
+    "waiting": (10, peer.chain, 20, 500),
+    "large": (10, large, 12, 512),
+    "alone": (10, alone, 1, 4096),
+    "files": (100_000, peer.mixed, 1000, 47),
+    "huge": (10, huge, 3, 500),
+}
+
+
+class Made(typing.NamedTuple):
+    """Blocks as files of a folder: those that make the state, all of them, how many the first are, and the transactions of each."""
+
+    folder: pathlib.Path
+    state: list
+    paths: list
+    setup: int
+    sizes: list
+
+
 def made_in(folder, title, count):
     """The blocks of a workload, of which there are so many behind the state, where that is asked for."""
-    state, make, *sizes = (100_000, peer.mixed, 100, 500) if title == "run" else peer.WORKLOADS[title]
+    state, make, *sizes = (WORKLOADS | peer.WORKLOADS)[title]
     if count and len(sizes) == 2:
         sizes[0] = count
     blocks = peer.Blocks(folder / title, state)
     make(blocks, *sizes)
-    return blocks
+    (blocks.folder / "empty.blk").write_bytes(spelled_block(0, b"", data_hash([]), []))
+    return Made(blocks.folder, blocks.paths[:blocks.setup] or ["empty.blk"], blocks.paths, blocks.setup, blocks.sizes)
+
+
+def made_apart(*words):
+    """The same by a process of its own, since a program that is started counts the memory of who starts it as its own."""
+    with multiprocessing.Pool(1) as pool:
+        return pool.apply(made_in, words)
 
 
 def make_blocks(folder, sizes):
@@ -201,7 +264,7 @@ def main():
     print(f"here {programs[0]}" + (f", there {programs[1]}" if words.beside else ""))
     with tempfile.TemporaryDirectory() as name:
         folder = pathlib.Path(name)
-        wanted = words.workloads or ["run", "hashing"]
+        wanted = [*WORKLOADS] if words.workloads == ["all"] else words.workloads or ["run", "hashing"]
         if wanted != ["hashing"]:
             print("  workload        under workers  µs for a transaction, least and median, of each; divided: least, medians, median; "
                   "processor µs; first line in ms and MB")
@@ -209,10 +272,11 @@ def main():
             if title == "hashing":
                 told_hashing(programs[0], folder)
                 continue
-            blocks = made_in(folder, title, words.blocks)
+            blocks = made_apart(folder, title, words.blocks)
             for under in words.under if words.under is not None else ["", "chrt -f 50"]:
                 for workers in words.workers or peer.WORKERS:
                     told(programs, title, blocks, under.split(), workers)
+            shutil.rmtree(blocks.folder)
         print(machine)
 
 

@@ -39,7 +39,7 @@ STEPS = {
     "next_block::next_delta": "delta",
     "tentative_job_of": "linking",
     "take_in_one": "intake",
-    "hash_and_copy": "copying",
+    "intake_workers::taking::hash_of": "hashing",
     "PendingDelta::commit_hash": "commit hash",
     "left_right": "worlds",
     "Candidate+Destruct": "dropping",

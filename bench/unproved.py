@@ -9,6 +9,7 @@ proved one, but not the same, so it is compared with another such alone; what is
 """
 
 import argparse
+import importlib.util
 import pathlib
 import shutil
 import sys
@@ -23,17 +24,25 @@ import quick
 from processes import Running
 
 
+def peer_of(top):
+    """`peer.py` of a checkout, whose program calls that one's crates."""
+    found = importlib.util.spec_from_file_location("peer_of_checkout", pathlib.Path(top) / "bench" / "peer.py")
+    module = importlib.util.module_from_spec(found)
+    found.loader.exec_module(module)
+    return module
+
+
 def program_of(top, folder, has_frames=False):
     """The path of `peer.py`'s program over the crates of a checkout, which nothing proved."""
-    crates, work = folder / "crates", folder / "work"
+    crates, work, its = folder / "crates", folder / "work", peer_of(top)
     work.mkdir(parents=True)
     scratch.TOP = pathlib.Path(top)
-    needed = scratch.needed_lines(peer.CRATES)
+    needed = scratch.needed_lines(its.CRATES)
     (folder / "crates.txt").write_text("\n".join([*needed.values(), f"peer: {' '.join([*needed, 'anyhow'])}"]) + "\n")
     for crate in needed:
         shutil.copytree(scratch.TOP / "crates" / crate / "src", crates / crate / "src")
     (crates / "peer" / "src").mkdir(parents=True)
-    (crates / "peer" / "src" / "main.rt").write_text(peer.PROGRAM.lstrip())
+    (crates / "peer" / "src" / "main.rt").write_text(its.PROGRAM.lstrip())
     try:
         return str(quick.build(Running(), work, "peer", folder, has_frames))
     except (quick.Refused, quick.NoKit) as error:

@@ -20,7 +20,7 @@ extern "C" {
 #endif
 
 /* The version of this interface that the header declares. */
-#define FABCOMMIT_INTERFACE 1u
+#define FABCOMMIT_INTERFACE 2u
 
 enum {
     FABCOMMIT_OK = 0,
@@ -78,6 +78,66 @@ typedef struct { size_t pool, rows; bool more; } fabcommit_scan_sizes;
 typedef struct { fabcommit_piece id, value; uint64_t block; uint32_t tx; bool deleted; } fabcommit_past_write;
 typedef struct { size_t pool, writes; } fabcommit_history_sizes;
 
+/* What a reason is about, with what its record tells beside flag and kind, and the words of `fabcommit explain`. */
+enum {
+    FABCOMMIT_REASON_NO_FAULT = 0,
+    FABCOMMIT_REASON_NO_TRANSACTION = 1,
+    FABCOMMIT_REASON_BAD_SIGNATURE = 2,           /* creator: an identity, refused */
+    FABCOMMIT_REASON_OTHER_CHANNEL = 3,           /* channel: name */
+    FABCOMMIT_REASON_OTHER_ID = 4,                /* wanted: id */
+    FABCOMMIT_REASON_USED_ID = 5,                 /* used: block, tx, used_flag */
+    FABCOMMIT_REASON_NOT_ALONE = 6,               /* not-alone */
+    FABCOMMIT_REASON_NO_ADMIN_POLICY = 7,         /* no-admin-policy */
+    FABCOMMIT_REASON_UPDATE_UNDEFINED = 8,        /* undefined, of an update: name */
+    FABCOMMIT_REASON_UPDATE_UNREADABLE = 9,       /* policy, of an update: text_fault */
+    FABCOMMIT_REASON_ADMIN_UNSATISFIED = 10,      /* admin: a lack */
+    FABCOMMIT_REASON_UNDEFINED = 11,              /* undefined: name */
+    FABCOMMIT_REASON_NAMESPACE_REPEATS = 12,      /* repeated: name */
+    FABCOMMIT_REASON_READ_REPEATS = 13,           /* repeated, reads: name, key */
+    FABCOMMIT_REASON_WRITE_REPEATS = 14,          /* repeated, writes: name, key */
+    FABCOMMIT_REASON_POLICY_WRITE_REPEATS = 15,   /* repeated, policies: name, key */
+    FABCOMMIT_REASON_RESULT_FALLS = 16,           /* fallen: name, start, end, key, range_place, result_place */
+    FABCOMMIT_REASON_RESULT_LEAVES = 17,          /* outside: the same */
+    FABCOMMIT_REASON_POLICY_UNREADABLE = 18,      /* policy: name, key, text_fault */
+    FABCOMMIT_REASON_TOUCHED = 19,                /* touched: name, key, tx */
+    FABCOMMIT_REASON_KEY_UNSATISFIED = 20,        /* key: name, key, a lack */
+    FABCOMMIT_REASON_CHAINCODE_UNSATISFIED = 21,  /* chaincode: name, key, a lack */
+    FABCOMMIT_REASON_NAMED_UNSATISFIED = 22,      /* named: name, a lack */
+    FABCOMMIT_REASON_READ_CONFLICT = 23,          /* read: name, key, read, there, tx if has_tx */
+    FABCOMMIT_REASON_PHANTOM_CONFLICT = 24        /* range: the same, and start, end, exhausted */
+};
+
+/* The version of a key that was read, or that is there. Where the key was absent, `is_there` is false and the others are 0. */
+typedef struct { uint64_t block; uint32_t tx; bool is_there; } fabcommit_seen;
+
+/* An identity, whose role is as in a verdict. */
+typedef struct { fabcommit_piece org, label; uint8_t role; } fabcommit_identity;
+
+/* Why a transaction has its flag. What its kind doesn't speak of is a piece of no bytes, 0 or false. A lack is `policy`, the canonical
+ * text of what isn't satisfied; the signers; the endorsers of whom no signature is accepted, `refused`; the principal that is missing;
+ * and whether another order would do. */
+typedef struct {
+    fabcommit_piece name;          /* of a namespace, a chaincode or a channel */
+    fabcommit_piece key;
+    fabcommit_piece start, end;    /* the bounds of a range, of which an empty end is none */
+    fabcommit_piece id;            /* the id that nonce and creator give */
+    fabcommit_piece policy;
+    fabcommit_piece missing_org;
+    fabcommit_seen read, there;    /* what was read, and what is there */
+    uint64_t block;                /* of an id's first use: that of the block that is explained, or an earlier one */
+    size_t range_place, result_place; /* of a range in its namespace, of a result in the range */
+    size_t first_identity, signers, refused; /* where its identities begin: signers, and then whose signatures were refused */
+    uint32_t tx;                   /* an id's first use; the first that wrote a key's policy; the last that wrote or deleted a key */
+    uint8_t flag, kind;
+    uint8_t used_flag;             /* of an id's first use */
+    uint8_t text_fault;            /* of a policy text: 1 too large, 2 syntax, 3 role, 4 threshold, 5 too deep */
+    uint8_t missing_role;          /* as an identity's, and 4 for any member */
+    bool has_tx, exhausted, has_missing, another_order;
+} fabcommit_reason;
+
+/* The block's number (twice), and how much of each there is. Of a refusal the numbers that a receipt tells. */
+typedef struct { uint64_t number, got; size_t pool, reasons, identities; } fabcommit_reason_sizes;
+
 /* Tells the version of the interface, and the first and last version of the blocks that the library reads. */
 void fabcommit_versions(fabcommit_version_numbers *versions);
 
@@ -131,6 +191,24 @@ uint32_t fabcommit_scan(fabcommit_handle *handle, const uint8_t *ns, size_t ns_l
 /* Tells the value writes and deletes of a key, the newest first. In the pool stand, for one after the other, id and value. */
 uint32_t fabcommit_history(fabcommit_handle *handle, const uint8_t *ns, size_t ns_len, const uint8_t *key, size_t key_len, uint8_t *pool,
                            size_t pool_len, fabcommit_past_write *writes, size_t writes_len, fabcommit_history_sizes *sizes);
+
+/* Tells the canonical text of the policy that a key has of its own. A key without one, or without a row, is FABCOMMIT_NONE. */
+uint32_t fabcommit_key_policy(fabcommit_handle *handle, const uint8_t *ns, size_t ns_len, const uint8_t *key, size_t key_len,
+                              uint8_t *text, size_t text_len, size_t *len);
+
+/* Tells why each transaction of the next block would have its flag, by the keys of the handle, and commits nothing: a record for each,
+ * in order, and the identities that they name. The sizes are told before anything is written; of a block that would be refused they
+ * have what fabcommit_submit would tell, under its code. In the pool stand, for one reason after the other, its pieces in their order,
+ * and for each of its identities organization and label. */
+uint32_t fabcommit_explain(fabcommit_handle *handle, const uint8_t *block, size_t block_len, uint8_t *pool, size_t pool_len,
+                           fabcommit_reason *reasons, size_t reasons_len, fabcommit_identity *identities, size_t identities_len,
+                           fabcommit_reason_sizes *sizes);
+
+/* Tells the same by verdicts on a pool, as fabcommit_submit_by takes them. */
+uint32_t fabcommit_explain_by(fabcommit_handle *handle, const uint8_t *block, size_t block_len, const uint8_t *verdict_pool,
+                              size_t verdict_pool_len, const fabcommit_verdict *verdicts, size_t verdicts_len, uint8_t *pool,
+                              size_t pool_len, fabcommit_reason *reasons, size_t reasons_len, fabcommit_identity *identities,
+                              size_t identities_len, fabcommit_reason_sizes *sizes);
 
 #ifdef __cplusplus
 }

@@ -9,6 +9,7 @@ from committer import World
 from encoding import Refused, header_hash, identity, read_block, tx_id
 from explained import KEYS, rust_bytes
 from explaining import explained, explained_at, explained_of
+from objects import objects_of
 from rust import rust_file, rust_lines, rust_text, rust_tuples
 from scripts import accepts, drafted, keys_of, word_bytes
 from signing import Keys
@@ -279,6 +280,11 @@ class EachWord:
         words = ["explain", *["--ids"] * ids, *["--tx", str(place)] * (place is not None), *["--id", id] * (id is not None), names]
         return " ".join(words), *self.ended(names.split(), place, id, ids)
 
+    def as_objects(self, *arguments, **options):
+        """The same with `--json`, where the last block is accepted."""
+        words, status, out, err = self.row(*arguments, **options)
+        return words + " --json", status, objects_of(out), err
+
     def check(self):
         """That the lines are those worked out by hand."""
         for names, wanted in zip(("b0 b1", "b0 b1 b2"), LINES):
@@ -291,6 +297,7 @@ class EachWord:
         for names in ("b0 b1", last):
             yield row(names)
             yield row(names, ids=True)
+            yield self.as_objects(names)
         # one place, also of bytes that are no transaction, and none
         yield row("b0 b1", 22)
         yield row("b0 b1", 0, ids=True)
@@ -301,6 +308,7 @@ class EachWord:
         yield row("b0 b1", id=id_of("n5"), ids=True)
         yield row("b0 b1", id=id_of("n1"))
         yield row("b0 b1", id=ODD_WORD)
+        yield self.as_objects("b0 b1", id=ODD_WORD, ids=True)
         yield row("b0 b1", id=OTHER_WORD, ids=True)
         yield row("b0", id=id_of("n1"))
         yield row(last, id=id_of("n25"), ids=True)
@@ -308,6 +316,7 @@ class EachWord:
         for nonce in ("n1", "n2", "n6"):
             yield row(last, id=id_of(nonce))
         yield row(last, id=id_of("n6"), ids=True)
+        yield self.as_objects(last, id=id_of("n6"))
         # ids that came and weren't used, one of a refused block, and one that never came
         yield row(last, id=tx_id(b"n3", identity("Org1:peer:p1")).decode())
         yield row(last, id=OTHER_WORD)

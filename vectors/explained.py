@@ -5,8 +5,10 @@ from functools import partial
 import sample
 from committer import World
 from counting import counted
+from drawing import drawn
 from drafts import CHANNEL
 from explaining import explained
+from objects import objects_of
 from policies import read_policy
 from rust import rust_file, rust_lines, rust_string
 from scripts import accepts, drafted, keys_of
@@ -122,7 +124,11 @@ def rust_sample(folder):
         yield from rust_bytes(title, block)
         reasons.append(explained(world, block)[1:])
         if title == "every_flag":
-            yield from rust_text("lines", sample.explanation(block, world))
+            lines = sample.explanation(block, world)
+            yield from rust_text("lines", lines)
+            yield from rust_text("objects", objects_of(lines))
+            yield from rust_text("graph", drawn(6, reasons[-1]))
+            yield from rust_text("whole_graph", drawn(6, reasons[-1], True))
     yield from rust_text("counts", counted(reasons))
     yield from rust_text("later_counts", counted(reasons, 1, 3))
 

@@ -10,6 +10,7 @@ import sys
 
 sys.dont_write_bytecode = True
 
+import as_json
 import chain
 import drafted
 import each_word
@@ -27,6 +28,7 @@ DRAFTED = CRATES / "command_line_tests/src/drafted"
 EACH_WORD = CRATES / "command_line_tests/src/explained/each_word"
 EXPLAINED = CRATES / "command_line_tests/src/explained"
 EXPLAINED_MEMORY = CRATES / "ledger_tests/src/explained_memory"
+JSON = CRATES / "command_line_tests/src/json"
 HEADERS = CRATES / "bytes_tests/src/header_hashes"
 SAMPLE = CRATES / "fabcommit"
 SCRIPTS = CRATES / "draft_tests/src/drafting"
@@ -45,6 +47,7 @@ def files():
         (EXPLAINED, explained.program_files(SAMPLE / "data")),
         (EXPLAINED_MEMORY, explained.ledger_files()),
         (HEADERS, headers.files()),
+        (JSON, as_json.files()),
         (SAMPLE, sample.files(SAMPLE / "data")),
         (SCRIPTS, script_cases.files()),
         (SIGNATURES, signatures.files(keys)),

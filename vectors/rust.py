@@ -38,8 +38,9 @@ def rust_text(text):
 
 
 def rust_lines(text):
-    """A string of lines without special characters, each of which stands on a line of its own."""
-    return '"\\\n' + text + '"' if text else '""'
+    """A string of printable lines, each of which stands on a line of its own."""
+    spelled = text.replace("\\", "\\\\").replace('"', '\\"')
+    return '"\\\n' + spelled + '"' if text else '""'
 
 
 def rust_octets(octets):

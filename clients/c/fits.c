@@ -20,6 +20,17 @@ _Static_assert(sizeof(fabcommit_scan_sizes) == 24 && offsetof(fabcommit_scan_siz
 _Static_assert(sizeof(fabcommit_past_write) == 48 && offsetof(fabcommit_past_write, tx) == 40 &&
                    offsetof(fabcommit_past_write, deleted) == 44, "past write");
 _Static_assert(sizeof(fabcommit_history_sizes) == 16 && offsetof(fabcommit_history_sizes, writes) == 8, "history sizes");
+_Static_assert(sizeof(fabcommit_seen) == 16 && offsetof(fabcommit_seen, tx) == 8 && offsetof(fabcommit_seen, is_there) == 12, "seen");
+_Static_assert(sizeof(fabcommit_identity) == 40 && offsetof(fabcommit_identity, label) == 16 && offsetof(fabcommit_identity, role) == 32, "identity");
+_Static_assert(sizeof(fabcommit_reason) == 208 && offsetof(fabcommit_reason, key) == 16 && offsetof(fabcommit_reason, end) == 48 &&
+                   offsetof(fabcommit_reason, id) == 64 && offsetof(fabcommit_reason, policy) == 80 &&
+                   offsetof(fabcommit_reason, missing_org) == 96 && offsetof(fabcommit_reason, read) == 112 &&
+                   offsetof(fabcommit_reason, there) == 128 && offsetof(fabcommit_reason, block) == 144 &&
+                   offsetof(fabcommit_reason, result_place) == 160 && offsetof(fabcommit_reason, first_identity) == 168 &&
+                   offsetof(fabcommit_reason, refused) == 184 && offsetof(fabcommit_reason, tx) == 192 &&
+                   offsetof(fabcommit_reason, kind) == 197 && offsetof(fabcommit_reason, missing_role) == 200 &&
+                   offsetof(fabcommit_reason, has_tx) == 201 && offsetof(fabcommit_reason, another_order) == 204, "reason");
+_Static_assert(sizeof(fabcommit_reason_sizes) == 40 && offsetof(fabcommit_reason_sizes, identities) == 32, "reason sizes");
 _Static_assert(sizeof(bool) == 1 && sizeof(size_t) == 8, "bool, size_t");
 
 static int failures;
@@ -83,6 +94,17 @@ int main(void)
     fabcommit_history_sizes many = {7, 7};
     wants("history", fabcommit_history(&h.handle, BYTES("cc"), BYTES("k"), bytes, 4, &past, 1, &many), FABCOMMIT_OK);
     wants("its sizes", many.pool + many.writes, 0);
+    wants("key policy", fabcommit_key_policy(&h.handle, BYTES("cc"), BYTES("k"), bytes, 4, &len), FABCOMMIT_NONE);
+    fabcommit_reason reason;
+    fabcommit_identity identity;
+    fabcommit_reason_sizes why = {7, 7, 7, 7, 7};
+    wants("explain", fabcommit_explain(&h.handle, BYTES("x"), bytes, 4, &reason, 1, &identity, 1, &why), FABCOMMIT_MALFORMED);
+    wants("its fault", why.got, 1);
+    why.got = 7;
+    wants("explain_by", fabcommit_explain_by(&h.handle, BYTES("BLK9"), bytes, 4, &verdict, 0, bytes, 4, &reason, 1, &identity, 1, &why),
+          FABCOMMIT_MALFORMED);
+    wants("its fault", why.got, 1);
+    wants("its sizes", why.number + why.pool + why.reasons + why.identities, 28);
     wants("what wasn't told", (uint64_t)len + bytes[0] + bytes[3], 21);
     fabcommit_close(&h.handle);
     fabcommit_close(&h.handle);

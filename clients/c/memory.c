@@ -42,6 +42,11 @@ static uint8_t pool[1 << 20];
 static fabcommit_verdict verdicts[4096];
 static fabcommit_past_write writes[64];
 static fabcommit_scanned_row rows[64];
+static fabcommit_reason reasons[64];
+static fabcommit_identity identities[256];
+
+/* how many calls there are besides those of the blocks */
+enum { OTHERS = 9 };
 
 static struct bytes read_file(const char *path)
 {
@@ -62,6 +67,7 @@ static uint32_t call(int step)
     size_t len;
     fabcommit_scan_sizes scan;
     fabcommit_history_sizes past;
+    fabcommit_reason_sizes why;
     const uint8_t *cc = (const uint8_t *)"cc", *car = (const uint8_t *)"car1";
     if (step == 0) return fabcommit_open(&handle, channel.at, channel.len, keys.at, keys.len);
     if (step <= n_blocks) return fabcommit_submit(&handle, blocks[step - 1].at, blocks[step - 1].len, &receipt);
@@ -70,9 +76,14 @@ static uint32_t call(int step)
     case 2: return fabcommit_scan(&handle, cc, 2, cc, 0, cc, 0, pool, sizeof pool, rows, 64, &scan);
     case 3: return fabcommit_history(&handle, cc, 2, car, 4, pool, sizeof pool, writes, 64, &past);
     case 4: return fabcommit_definition(&handle, cc, 2, pool, sizeof pool, &len);
+    case 5: return fabcommit_key_policy(&handle, cc, 2, (const uint8_t *)"car2", 4, pool, sizeof pool, &len);
     /* where the first block is next once more, by verdicts that refuse all */
-    case 5: return fabcommit_open(&handle, channel.at, channel.len, keys.at, 0);
-    case 6: return fabcommit_list(blocks[0].at, blocks[0].len, pool, sizeof pool, verdicts, 4096, &sizes) ? FABCOMMIT_MEMORY
+    case 6: return fabcommit_open(&handle, channel.at, channel.len, keys.at, 0);
+    case 7: return fabcommit_explain(&handle, blocks[0].at, blocks[0].len, pool, sizeof pool, reasons, 64, identities, 256, &why);
+    case 8: return fabcommit_list(blocks[0].at, blocks[0].len, pool, sizeof pool, verdicts, 4096, &sizes) ? FABCOMMIT_MEMORY
+        : fabcommit_explain_by(&handle, blocks[0].at, blocks[0].len, pool, sizes.pool, verdicts, sizes.verdicts, pool + sizes.pool,
+                               sizeof pool - sizes.pool, reasons, 64, identities, 256, &why);
+    case OTHERS: return fabcommit_list(blocks[0].at, blocks[0].len, pool, sizeof pool, verdicts, 4096, &sizes) ? FABCOMMIT_MEMORY
         : fabcommit_submit_by(&handle, blocks[0].at, blocks[0].len, pool, sizes.pool, verdicts, sizes.verdicts, &receipt);
     }
     return FABCOMMIT_CLOSED;
@@ -91,7 +102,7 @@ static bool fits(long n)
     granted = n;
     was_refused = false;
     counts = true;
-    for (int step = 0; step <= n_blocks + 6; step++) {
+    for (int step = 0; step <= n_blocks + OTHERS; step++) {
         uint64_t before = height();
         uint32_t code = call(step);
         if (code == FABCOMMIT_MEMORY && was_refused && height() == before) code = call(step);

@@ -4,7 +4,7 @@ import os
 
 S, B, V, U32, U64 = ctypes.c_size_t, ctypes.c_char_p, ctypes.c_void_p, ctypes.c_uint32, ctypes.c_uint64
 OK, MALFORMED, WRONG_NUMBER, OLD_VERSION, MEMORY, CLOSED, NONE, SMALL = 0, 1, 2, 5, 6, 7, 12, 13
-INTERFACE = 1
+INTERFACE = 2
 ROLES = [b"admin", b"client", b"peer", b"orderer"]
 
 
@@ -27,6 +27,15 @@ Scanned = struct("Scanned", ("key", Piece), ("value", Piece), ("block", U64), ("
 ScanSizes = struct("ScanSizes", ("pool", S), ("rows", S), ("more", ctypes.c_bool))
 Past = struct("Past", ("id", Piece), ("value", Piece), ("block", U64), ("tx", U32), ("deleted", ctypes.c_bool))
 PastSizes = struct("PastSizes", ("pool", S), ("rows", S))
+Seen = struct("Seen", ("block", U64), ("tx", U32), ("is_there", ctypes.c_bool))
+Identity = struct("Identity", ("org", Piece), ("label", Piece), ("role", ctypes.c_uint8))
+Reason = struct(
+    "Reason", *((name, Piece) for name in ("name", "key", "start", "end", "id", "policy", "missing_org")), ("read", Seen), ("there", Seen),
+    ("block", U64), *((name, S) for name in ("range_place", "result_place", "first_identity", "signers", "refused")), ("tx", U32),
+    *((name, ctypes.c_uint8) for name in ("flag", "kind", "used_flag", "text_fault", "missing_role")),
+    *((name, ctypes.c_bool) for name in ("has_tx", "exhausted", "has_missing", "another_order")),
+)
+ReasonSizes = struct("ReasonSizes", ("number", U64), ("got", U64), ("pool", S), ("reasons", S), ("identities", S))
 Use = struct("Use", ("block", U64), ("tx", U32), ("flag", ctypes.c_uint8))
 
 lib = ctypes.CDLL(os.environ.get("FABCOMMIT_SO", "libfabcommit_c.so"))
@@ -37,6 +46,8 @@ for name, *arguments in (
     ("get", H, B, S, B, S, P(Row), V, S), ("block", H, U64, P(Receipt)), ("flags", H, U64, V, S, P(S)),
     ("definition", H, B, S, V, S, P(S)), ("first_use", H, B, S, P(Use)),
     ("scan", H, B, S, B, S, B, S, V, S, V, S, P(ScanSizes)), ("history", H, B, S, B, S, V, S, V, S, P(PastSizes)),
+    ("key_policy", H, B, S, B, S, V, S, P(S)), ("explain", H, B, S, V, S, V, S, V, S, P(ReasonSizes)),
+    ("explain_by", H, B, S, V, S, V, S, V, S, V, S, V, S, P(ReasonSizes)),
 ):
     call = getattr(lib, "fabcommit_" + name)
     call.argtypes, call.restype = arguments, None if name in ("versions", "close") else U32

@@ -9,7 +9,8 @@ import hmac
 import re
 import sys
 
-from fabcommit import MALFORMED, MEMORY, OLD_VERSION, WRONG_NUMBER, Ledger, Refused
+from binding import MALFORMED, MEMORY, OLD_VERSION, WRONG_NUMBER
+from fabcommit import Ledger, Refused
 
 
 def word_bytes(word):

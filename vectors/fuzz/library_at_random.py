@@ -3,10 +3,12 @@
 
 `FABCOMMIT_SO=FILE python3 vectors/fuzz/library_at_random.py [COUNT [SEED]]` makes COUNT chains (1000) from SEED (1), which are dense in
 updates. Each is handed to the library, its signatures checked by Python or by the library's keys, and asked as `updates_at_random.py`
-asks the program: the lines have to be those of `committer.py`; but for a row's policy, and for reasons, which the library doesn't tell.
-Before them come the sample's blocks with the one that has every flag, by keys and by answers. Then come three times as many ledgers of
-the sample's blocks, between which stand spoiled blocks with tables of any pieces, and calls with buffers of any sizes: a code other
-than 0 changes nothing, and no call writes beside its buffers. It ends with figures, and fails where anything differs.
+asks the program: the lines have to be those of `committer.py`. As many chains follow that are made as in `scripts_at_random.py`, of
+scripts and spoiled transactions; each block is explained before it is handed in, and the records have to say the lines of
+`explaining.py`. Before all this come the sample's blocks with the one that has every flag, and a block with each kind of reason,
+by keys and by answers. Last come three times as many ledgers of the sample's blocks, between which stand spoiled blocks with tables of
+any pieces, and calls with buffers of any sizes: a code other than 0 changes nothing, and no call writes beside its buffers. It ends
+with figures, and fails where anything differs, or where a kind of reason didn't come in 1,000 chains.
 """
 
 import ctypes
@@ -15,15 +17,24 @@ import random
 import sys
 import tempfile
 from collections import Counter
+from functools import partial
 
 sys.dont_write_bytecode = True
 TOP = pathlib.Path(__file__).resolve().parent.parent.parent
 sys.path += [str(TOP / "vectors"), str(TOP / "vectors" / "fuzz"), str(TOP / "clients" / "python")]
 
 import answers
-from binding import CLOSED, NONE, SMALL, Piece, Receipt, Row, S, Sizes, Verdict, lib
-from fabcommit import Ledger, Refused
+from asking import Refused
+from binding import CLOSED, NONE, SMALL, Identity, Piece, Reason, ReasonSizes, Receipt, Row, S, Sizes, Verdict, lib
+from committer import World
+from explain import KINDS, lines as lines_said
+from explained import CHANNEL, KEYS, each_kind
+from explaining import explained
+from fabcommit import Ledger
+from policies import read_policy
 from run import keys_in, refusal, verifier
+from scripts import accepts, drafted, keys_of
+from scripts_at_random import ADMIN, Trial, good_lines, raw_lines, second_lines, words_said
 from updates_at_random import UpdateTrial
 from words import word
 
@@ -32,13 +43,22 @@ class LibraryTrial(UpdateTrial):
     """Asks the library in the program's place."""
 
     def explain(self, world, octets, files):
-        pass
+        """The last of the files, which stands behind the world."""
+        ledger, verify = self.blank_ledger()
+        for name in files[:-1]:
+            ledger.submit((self.folder / name).read_bytes(), verify)
+        assert [*lines_said(*ledger.explain(octets, verify))] == explained(world, octets)[1:]
+        ledger.close()
+
+    def blank_ledger(self):
+        """One of the channel, and what it goes by where it has no keys."""
+        channel, keys = ((self.folder / name).read_bytes() for name in ("channel", "keys"))
+        verify = self.pick.choice([None, verifier(keys_in(keys))])
+        return Ledger(channel, b"" if verify else keys), verify
 
     def opened(self, files):
         """A ledger that took these files, their lines with and without hashes, and the status."""
-        channel, keys = ((self.folder / name).read_bytes() for name in ("channel", "keys"))
-        verify = self.pick.choice([None, verifier(keys_in(keys))])
-        ledger, lines, hashes, status = Ledger(channel, b"" if verify else keys), [], [], 0
+        (ledger, verify), lines, hashes, status = self.blank_ledger(), [], [], 0
         for place, name in enumerate(files, 1):
             try:
                 told = ledger.submit((self.folder / name).read_bytes(), verify)
@@ -59,7 +79,7 @@ class LibraryTrial(UpdateTrial):
             return "absent\n"
 
     def scanned(self, ledger, name):
-        """All rows, a few at a time, each with a space where its policy would stand."""
+        """All rows, a few at a time."""
         limit, start, rows, more = self.pick.choice([1, 2, 3, 100]), b"", [], True
         while more:
             some, more = ledger.scan(name, start, b"", limit)
@@ -67,7 +87,8 @@ class LibraryTrial(UpdateTrial):
             start = some[-1][0] + b"\0" if some else b""
         for key, *row, value in rows:
             assert ledger.get(name, key) == (*row, value)
-        return [f"row {word(key)} {block} {tx} {word(value)} " for key, block, tx, value in rows]
+        policy = lambda key: (ledger.key_policy(name, key) or b"-").decode()
+        return [f"row {word(key)} {block} {tx} {word(value)} {policy(key)}\n" for key, block, tx, value in rows]
 
     def want(self, status, out, err, *words):
         self.calls += 1
@@ -84,15 +105,43 @@ class LibraryTrial(UpdateTrial):
             writes = ledger.history(name, named["--key"].encode())
             assert head + "".join(answers.entry_line((block, tx), id, value) for block, tx, id, value in writes) == out
         else:
-            rows, wanted = self.scanned(ledger, name), out.splitlines()
-            assert kind == "scan" and head == wanted[0] + "\n" and len(rows) == len(wanted) - 1
-            assert all(line.startswith(row) for row, line in zip(rows, wanted[1:]))
+            assert kind == "scan" and head + "".join(self.scanned(ledger, name)) == out
         ledger.close()
         ledger.close()
         try:
             raise AssertionError(ledger.height())
         except Refused as refused:
             assert refused.code == CLOSED
+
+
+class ReasonTrial(Trial):
+    """Explains each block of a chain before it is handed in."""
+
+    def __init__(self, *given):
+        super().__init__(*given)
+        self.kinds = Counter()
+
+    def chain(self):
+        pick, nonces, last = self.pick, [], None
+        self.take_channel(pick.choice([None, ADMIN]))
+        keys = (self.folder / "keys").read_bytes()
+        verify = pick.choice([None, verifier(keys_in(keys))])
+        world, ledger = self.blank(), Ledger((self.folder / "channel").read_bytes(), b"" if verify else keys)
+        for _ in range(pick.randrange(1, 6)):
+            version = max(world.version(), pick.choice([1, 1, 1, 2]))
+            script = self.text(list((good_lines if version == 1 else second_lines)(pick, world, nonces)))
+            if pick.random() < 0.3:
+                script = self.text(list(raw_lines(pick, self.keys, version, script)))
+            last = drafted(b"ch", self.keys, last, script, version)
+            reasons, *others = ledger.explain(last, verify)
+            wanted = explained(world, last)[1:]
+            assert [*lines_said(reasons, *others)] == wanted, (script, wanted)
+            self.kinds.update(reason.kind for reason in reasons)
+            self.words.update(words_said(wanted))
+            world.submit(last)
+            ledger.submit(last, verify)
+            assert ledger.flags(ledger.height() - 1) == [reason.flag for reason in reasons] == world.blocks[-1][2]
+        ledger.close()
 
 
 def spoiled(pick, octets):
@@ -148,6 +197,21 @@ class HostileTrial:
         self.codes["submit", code] += 1
         return code
 
+    def explain(self, ledger, octets, said):
+        """By the keys or by nothing, with buffers that may be too small; and of what the next block isn't."""
+        pick, sizes = self.pick, ReasonSizes(7, 7, 7, 7, 7)
+        room, places, names = pick.choice([0, 10, 1000]), pick.choice([0, 1, 3, 20]), pick.choice([0, 1, 20])
+        pool, reasons, identities = Guarded(room), (Reason * (places + 1))(), (Identity * (names + 1))()
+        words = pool.at, room, reasons, places, identities, names, sizes
+        if pick.random() < 0.5:
+            code = lib.fabcommit_explain(ledger.handle, octets, len(octets), *words)
+        else:
+            code = lib.fabcommit_explain_by(ledger.handle, octets, len(octets), said.at, said.size, (Verdict * 1)(), 0, *words)
+        self.codes["explain", code] += 1
+        assert pool.is_whole() and not any(bytes(reasons[places])) and not any(bytes(identities[names]))
+        assert code == 0 or pool.is_as_it_was() and not any(bytes(reasons)) and not any(bytes(identities))
+        assert (code in (0, SMALL)) == (sizes.pool != 7 or sizes.reasons != 7)
+
     def ask(self, ledger):
         pick = self.pick
         for number in range(ledger.height()):
@@ -161,6 +225,10 @@ class HostileTrial:
         code = lib.fabcommit_get(ledger.handle, name, len(name), key, len(key), Row(), buffer.at, buffer.size)
         self.codes["get", code] += 1
         assert buffer.is_whole() and (code == 0 or buffer.is_as_it_was())
+        buffer = Guarded(pick.randrange(40))
+        code = lib.fabcommit_key_policy(ledger.handle, name, len(name), key, len(key), buffer.at, buffer.size, S())
+        self.codes["key_policy", code] += 1
+        assert buffer.is_whole() and (code == 0 or buffer.is_as_it_was())
 
     def ledger(self):
         pick, ledger = self.pick, Ledger(self.channel, self.keys if self.pick.random() < 0.5 else b"")
@@ -168,6 +236,8 @@ class HostileTrial:
             ledger.submit(self.blocks[number], self.verify)
             octets = pick.choice([spoiled(pick, pick.choice(self.blocks)), pick.randbytes(pick.randrange(80)), pick.choice(self.blocks)])
             before = [ledger.flags(i) for i in range(ledger.height())]
+            self.explain(ledger, octets, self.list(octets))
+            assert before == [ledger.flags(i) for i in range(ledger.height())]
             if self.submit(ledger, octets, self.list(octets)) == 0:
                 break
             assert before == [ledger.flags(i) for i in range(ledger.height())]
@@ -187,20 +257,45 @@ def try_each_flag():
     assert len({*by_keys.flags(6)}) >= 10 and 4 in by_keys.flags(6)
 
 
+def try_each_kind():
+    """A block with a transaction for almost each kind of reason; the kinds that it has."""
+    first, second, _ = each_kind()
+    definitions = {name.encode(): read_policy(text.encode()) for name, text in CHANNEL.items()}
+    world = World(b"ch", definitions, partial(accepts, keys_of(KEYS.encode())))
+    channel = "".join(["channel ch\n", *(f"chaincode {name} {text}\n" for name, text in CHANNEL.items())])
+    world.submit(first)
+    for keys, verify in ((KEYS.encode(), None), (b"", verifier(keys_in(KEYS.encode())))):
+        ledger = Ledger(channel.encode(), keys)
+        ledger.submit(first, verify)
+        reasons, *others = ledger.explain(second, verify)
+        assert [*lines_said(reasons, *others)] == explained(world, second)[1:]
+        ledger.close()
+    return Counter(reason.kind for reason in reasons)
+
+
 def main():
     try_each_flag()
+    kinds = try_each_kind()
     words = sys.argv[1:] + ["1000", "1"][len(sys.argv) - 1 :]
     count, pick = int(words[0]), random.Random(int(words[1]))
     with tempfile.TemporaryDirectory() as folder:
         trial = LibraryTrial("", pathlib.Path(folder), pick)
         for _ in range(count):
             trial.chain()
+        reasons = ReasonTrial("", pathlib.Path(folder), pick)
+        reasons.kinds.update(kinds)
+        for _ in range(count):
+            reasons.chain()
     hostile = HostileTrial(pick)
     for _ in range(3 * count):
         hostile.ledger()
+    if count >= 1000:
+        assert all(reasons.kinds[kind] for kind in range(len(KINDS))), reasons.kinds
     print(f"{count} chains, {trial.calls} ledgers of them")
     print("flags:", ", ".join(f"{flag} {times} times" for flag, times in sorted(trial.flags.items())))
     print("updates:", ", ".join(f"{name} {times} times" for name, times in sorted(trial.updates.items())))
+    print("kinds of reasons:", ", ".join(f"{kind} {times} times" for kind, times in sorted(reasons.kinds.items())))
+    print("words of reasons:", ", ".join(f"{said} {times} times" for said, times in sorted(reasons.words.items())))
     print("codes:", ", ".join(f"{call} {code} {times} times" for (call, code), times in sorted(hostile.codes.items())))
 
 

@@ -4,7 +4,7 @@
 `python3 vectors/fuzz/scripts_at_random.py [PROGRAM [COUNT [SEED]]]` makes at least COUNT scripts (1000) from SEED (1), in
 chains of up to five blocks. Each is drafted by PROGRAM (`./fabcommit`): a good one has to give the block that
 `scripts.py` gives, a faulty one the line that it names, with OUT left as it was. Each block is explained, in the lines of
-`explaining.py`, at times with ids, or by an id that it has, that a block before has used, or that none has. Each chain is then handed
+`explaining.py` and the graph of `drawing.py`, at times with ids, or by an id that it has, that a block before has used, or that none has. Each chain is then handed
 to `run`, `conflicts`, `get`, `history`, `scan` and `definition`, whose lines have to be those of `committer.py`. Blocks are of both versions, those
 of version 2 with updates that are valid, or aren't for each of the causes; half of the channels have an admin policy. Some blocks are
 drafted of raw lines alone, in which signatures, ids and channels are changed. For every chain there are lists too in which old, cut
@@ -29,6 +29,7 @@ sys.path.append(str(pathlib.Path(__file__).resolve().parent.parent))
 import answers
 from committer import World, is_inside
 from counting import counted
+from drawing import drawn
 from encoding import Refused, data_hash, read_block, spelled_block, spelled_signed, spelled_tx, version_of_block
 from explaining import explained, explained_of, item_of
 from policies import read_policy
@@ -431,6 +432,8 @@ class Trial:
         self.words.update(words_said(lines[1:]))
         if self.pick.random() < 0.3:
             self.want(0, text_of(explained(world, octets, ids=True)), "", "explain", "--ids", *files)
+        every = self.pick.random() < 0.5
+        self.want(0, drawn(len(world.blocks), lines[1:], every), "", "explain", "--dot", *["--all"] * every, *files)
         if self.pick.random() < 0.6:
             self.explain_id(world, octets, files)
 

@@ -4,7 +4,7 @@ ghost use Rattle.cli_lines.specs.ConflictLines.{flag_name};
 use rules::Flag;
 
 /// The name of a flag in `peer.TxValidationCode`.
-pub(crate) fn name_of(flag: Flag) -> &'static str
+pub fn name_of(flag: Flag) -> &'static str
     ensures { result.now ≡ flag_name flag }
 {
     match flag {

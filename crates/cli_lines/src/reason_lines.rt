@@ -1,6 +1,12 @@
 //! The words of reasons.
 use crate::flag_name::name_of;
 use crate::line_fault::LineFault;
+use crate::members::{
+    write_bytes, write_end, write_kind, write_label, write_name, write_number, write_place,
+    write_text, write_version,
+};
+use cli_values::Format;
+use json_lines::write_value;
 use policy::{PolicyRole, Principal};
 use reasons::{
     EndorsementFault, FormFault, IdUse, KeyList, PhantomKey, PolicyOwner, PolicyTextFault,
@@ -50,34 +56,51 @@ fn policy_role_name(role: PolicyRole) -> &'static str {
     }
 }
 
-fn write_version<W: Write>(out: &mut W, version: &Option<Version>) -> io::Result<()> {
-    match version {
-        Some(version) => {
-            let (block, tx) = (version.block, version.tx);
-            write!(out, "{block} {tx}")
-        }
-        None => write!(out, "absent"),
-    }
+/// ` FLAG NAME`, or two members.
+pub(crate) fn write_flag<W: Write>(out: &mut W, format: Format, flag: Flag) -> io::Result<()> {
+    write_number(out, format, "flag", u64::from(flag.number()))?;
+    write_text(out, format, "name", name_of(flag))
+}
+
+// The word that tells reasons apart.
+fn write_word<W: Write>(out: &mut W, format: Format, word: &str) -> io::Result<()> {
+    write_text(out, format, "reason", word)
+}
+
+// ` NAMESPACE KEY`
+fn write_key<W: Write>(
+    out: &mut W,
+    format: Format,
+    namespace: &[u8],
+    key: &[u8],
+) -> io::Result<()> {
+    write_bytes(out, format, "namespace", namespace)?;
+    write_bytes(out, format, "key", key)
 }
 
 // ` was VERSION is VERSION`
 fn write_versions<W: Write>(
     out: &mut W,
+    format: Format,
     read: &Option<Version>,
     there: &Option<Version>,
 ) -> io::Result<()> {
-    write!(out, " was ")?;
-    write_version(out, read)?;
-    write!(out, " is ")?;
-    write_version(out, there)
+    write_version(out, format, "was", read)?;
+    write_version(out, format, "is", there)
 }
 
 // ` NAMESPACE START END key KEY`
-fn write_range<W: Write>(out: &mut W, range: &QueriedRange, key: &[u8]) -> io::Result<()> {
-    let namespace = Word(range.namespace.as_slice());
-    let (start, end) = (Word(range.start.as_slice()), Word(range.end.as_slice()));
-    let key = Word(key);
-    write!(out, " {namespace} {start} {end} key {key}")
+fn write_range<W: Write>(
+    out: &mut W,
+    format: Format,
+    range: &QueriedRange,
+    key: &[u8],
+) -> io::Result<()> {
+    write_bytes(out, format, "namespace", range.namespace.as_slice())?;
+    write_bytes(out, format, "start", range.start.as_slice())?;
+    write_bytes(out, format, "end", range.end.as_slice())?;
+    write_label(out, format, "key")?;
+    write_bytes(out, format, "key", key)
 }
 
 /// Writes `ORG:ROLE:LABEL`, LABEL as a word, as key books and scripts have it. Takes no memory.
@@ -90,156 +113,276 @@ pub fn write_identity<W: Write>(out: &mut W, identity: &Identity<'_>) -> io::Res
     write!(out, "{org}:{role}:{label}")
 }
 
-fn write_signer<W: Write>(out: &mut W, signer: &OwnedIdentity) -> io::Result<()> {
-    write!(out, " ")?;
-    write_identity(out, &signer.lend())
+fn write_identity_object<W: Write>(out: &mut W, identity: &Identity<'_>) -> io::Result<()> {
+    let role = role_name(identity.role);
+    write!(out, "{{\"org\":")?;
+    write_value(out, identity.org.as_slice())?;
+    write!(out, ",\"role\":\"{role}\",\"label\":")?;
+    write_value(out, identity.label.as_slice())?;
+    write!(out, "}}")
 }
 
-fn write_signers<W: Write>(out: &mut W, signers: &[OwnedIdentity]) -> io::Result<()> {
+fn write_signer<W: Write>(out: &mut W, format: Format, signer: &OwnedIdentity) -> io::Result<()> {
+    match format {
+        Format::Plain => write_identity(out, &signer.lend()),
+        Format::Json => write_identity_object(out, &signer.lend()),
+    }
+}
+
+// ` SIGNER` for each behind the first of a list
+fn write_more_signers<W: Write>(
+    out: &mut W,
+    format: Format,
+    signers: &[OwnedIdentity],
+) -> io::Result<()> {
+    let between = match format {
+        Format::Plain => " ",
+        Format::Json => ",",
+    };
     for signer in signers {
-        write_signer(out, signer)?;
+        write!(out, "{between}")?;
+        write_signer(out, format, signer)?;
     }
     Ok(())
 }
 
-// ` missing ORG.ROLE`
-fn write_missing<W: Write>(out: &mut W, missing: &Option<Principal>) -> io::Result<()> {
+fn write_signer_list<W: Write>(
+    out: &mut W,
+    format: Format,
+    signers: &[OwnedIdentity],
+) -> io::Result<()> {
+    if let Some((first, more)) = signers.split_first() {
+        write_signer(out, format, first)?;
+        write_more_signers(out, format, more)?;
+    }
+    Ok(())
+}
+
+// ` SIGNER ..`, or a list
+fn write_signers<W: Write>(
+    out: &mut W,
+    format: Format,
+    name: &str,
+    signers: &[OwnedIdentity],
+) -> io::Result<()> {
+    match format {
+        Format::Plain => write_more_signers(out, format, signers),
+        Format::Json => {
+            write!(out, ",\"{name}\":[")?;
+            write_signer_list(out, format, signers)?;
+            write!(out, "]")
+        }
+    }
+}
+
+// ` missing ORG.ROLE`; a name stands for itself, as word and in a string
+fn write_missing<W: Write>(
+    out: &mut W,
+    format: Format,
+    missing: &Option<Principal>,
+) -> io::Result<()> {
     match missing {
         Some(principal) => {
             let org = Word(principal.org.as_slice());
             let role = policy_role_name(principal.role);
-            write!(out, " missing {org}.{role}")
+            match format {
+                Format::Plain => write!(out, " missing {org}.{role}"),
+                Format::Json => write!(out, ",\"missing\":\"{org}.{role}\""),
+            }
         }
         None => Ok(()),
     }
 }
 
+fn write_order<W: Write>(out: &mut W, format: Format) -> io::Result<()> {
+    match format {
+        Format::Plain => write!(out, " order"),
+        Format::Json => write!(out, ",\"order\":true"),
+    }
+}
+
 // ` POLICY SIGNER .. [refused ENDORSER ..] [missing ORG.ROLE] [order]`
-fn write_shortfall<W: Write>(out: &mut W, policy: &str, shortfall: &Shortfall) -> io::Result<()> {
-    write!(out, " {policy}")?;
-    write_signers(out, shortfall.signers.as_slice())?;
+fn write_shortfall<W: Write>(
+    out: &mut W,
+    format: Format,
+    policy: &str,
+    shortfall: &Shortfall,
+) -> io::Result<()> {
+    write_text(out, format, "policy", policy)?;
+    write_signers(out, format, "signers", shortfall.signers.as_slice())?;
     let refused = shortfall.refused.as_slice();
     if !refused.is_empty() {
-        write!(out, " refused")?;
-        write_signers(out, refused)?;
+        write_label(out, format, "refused")?;
+        write_signers(out, format, "refused", refused)?;
     }
-    write_missing(out, &shortfall.missing)?;
+    write_missing(out, format, &shortfall.missing)?;
     if shortfall.another_order {
-        write!(out, " order")?;
+        write_order(out, format)?;
     }
     Ok(())
 }
 
-// ` by TX`, where there is one
-fn write_writer<W: Write>(out: &mut W, writer: Option<u32>) -> io::Result<()> {
+// ` by TX`
+fn write_by<W: Write>(out: &mut W, format: Format, writer: u32) -> io::Result<()> {
+    write_label(out, format, "by")?;
+    write_number(out, format, "by", u64::from(writer))
+}
+
+// where there is one
+fn write_writer<W: Write>(out: &mut W, format: Format, writer: Option<u32>) -> io::Result<()> {
     match writer {
-        Some(writer) => write!(out, " by {writer}"),
+        Some(writer) => write_by(out, format, writer),
         None => Ok(()),
     }
 }
 
-fn write_read<W: Write>(out: &mut W, read: &StaleRead) -> io::Result<()> {
-    let (namespace, key) = (Word(read.namespace.as_slice()), Word(read.key.as_slice()));
-    write!(out, " read {namespace} {key}")?;
-    write_versions(out, &read.read, &read.there)?;
-    write_writer(out, read.writer)
+fn write_read<W: Write>(out: &mut W, format: Format, read: &StaleRead) -> io::Result<()> {
+    write_word(out, format, "read")?;
+    write_key(out, format, read.namespace.as_slice(), read.key.as_slice())?;
+    write_versions(out, format, &read.read, &read.there)?;
+    write_writer(out, format, read.writer)
 }
 
-fn write_phantom<W: Write>(out: &mut W, phantom: &PhantomKey) -> io::Result<()> {
-    write!(out, " range")?;
-    write_range(out, &phantom.range, phantom.key.as_slice())?;
-    write_versions(out, &phantom.read, &phantom.there)?;
+fn write_phantom<W: Write>(out: &mut W, format: Format, phantom: &PhantomKey) -> io::Result<()> {
+    write_word(out, format, "range")?;
+    write_range(out, format, &phantom.range, phantom.key.as_slice())?;
+    write_versions(out, format, &phantom.read, &phantom.there)?;
     let extent = if phantom.exhausted { "all" } else { "part" };
-    write!(out, " {extent}")?;
-    write_writer(out, phantom.writer)
+    write_text(out, format, "extent", extent)?;
+    write_writer(out, format, phantom.writer)
 }
 
 // ` NAMESPACE START END key KEY range N result M`
-fn write_result<W: Write>(out: &mut W, found: &RangeResult) -> io::Result<()> {
-    write_range(out, &found.range, found.key.as_slice())?;
-    let (range_place, place) = (found.range_place, found.place);
-    write!(out, " range {range_place} result {place}")
+fn write_result<W: Write>(
+    out: &mut W,
+    format: Format,
+    word: &str,
+    found: &RangeResult,
+) -> io::Result<()> {
+    write_word(out, format, word)?;
+    write_range(out, format, &found.range, found.key.as_slice())?;
+    write_label(out, format, "range")?;
+    write_number(out, format, "range", found.range_place as u64)?;
+    write_label(out, format, "result")?;
+    write_number(out, format, "result", found.place as u64)
 }
 
-fn write_form<W: Write>(out: &mut W, fault: &FormFault) -> io::Result<()> {
+fn write_repeated_key<W: Write>(
+    out: &mut W,
+    format: Format,
+    namespace: &[u8],
+    list: KeyList,
+    key: &[u8],
+) -> io::Result<()> {
+    write_word(out, format, "repeated")?;
+    write_bytes(out, format, "namespace", namespace)?;
+    write_text(out, format, "list", list_name(list))?;
+    write_bytes(out, format, "key", key)
+}
+
+fn write_text_fault<W: Write>(
+    out: &mut W,
+    format: Format,
+    fault: PolicyTextFault,
+) -> io::Result<()> {
+    write_text(out, format, "fault", text_fault_name(fault))
+}
+
+fn write_form<W: Write>(out: &mut W, format: Format, fault: &FormFault) -> io::Result<()> {
     match fault {
         FormFault::NamespaceRepeats { namespace } => {
-            let namespace = Word(namespace.as_slice());
-            write!(out, " repeated {namespace}")
+            write_word(out, format, "repeated")?;
+            write_bytes(out, format, "namespace", namespace.as_slice())
         }
         FormFault::KeyRepeats {
             namespace,
             list,
             key,
-        } => {
-            let (namespace, key) = (Word(namespace.as_slice()), Word(key.as_slice()));
-            let list = list_name(*list);
-            write!(out, " repeated {namespace} {list} {key}")
-        }
-        FormFault::ResultFalls(found) => {
-            write!(out, " fallen")?;
-            write_result(out, found)
-        }
-        FormFault::ResultLeaves(found) => {
-            write!(out, " outside")?;
-            write_result(out, found)
-        }
+        } => write_repeated_key(out, format, namespace.as_slice(), *list, key.as_slice()),
+        FormFault::ResultFalls(found) => write_result(out, format, "fallen", found),
+        FormFault::ResultLeaves(found) => write_result(out, format, "outside", found),
         FormFault::UnreadablePolicy {
             namespace,
             key,
             fault,
         } => {
-            let (namespace, key) = (Word(namespace.as_slice()), Word(key.as_slice()));
-            let fault = text_fault_name(*fault);
-            write!(out, " policy {namespace} {key} {fault}")
+            write_word(out, format, "policy")?;
+            write_key(out, format, namespace.as_slice(), key.as_slice())?;
+            write_text_fault(out, format, *fault)
         }
     }
 }
 
 // ` BLOCK TX FLAG NAME`
-fn write_placed<W: Write>(out: &mut W, block: u64, place: u32, flag: Flag) -> io::Result<()> {
-    let (code, name) = (flag.number(), name_of(flag));
-    write!(out, " {block} {place} {code} {name}")
+fn write_placed<W: Write>(
+    out: &mut W,
+    format: Format,
+    block: u64,
+    place: u32,
+    flag: Flag,
+) -> io::Result<()> {
+    write_place(out, format, block, place)?;
+    write_flag(out, format, flag)
 }
 
-fn write_use<W: Write>(out: &mut W, number: u64, first: &IdUse) -> io::Result<()> {
-    write!(out, " used")?;
+// ` used BLOCK TX FLAG NAME`; its members are those of an object
+fn write_used<W: Write>(
+    out: &mut W,
+    format: Format,
+    block: u64,
+    place: u32,
+    flag: Flag,
+) -> io::Result<()> {
+    write_word(out, format, "used")?;
+    match format {
+        Format::Plain => write_placed(out, format, block, place, flag),
+        Format::Json => {
+            let (code, name) = (flag.number(), name_of(flag));
+            write!(out, ",\"used\":{{\"block\":{block},\"tx\":{place}")?;
+            write!(out, ",\"flag\":{code},\"name\":\"{name}\"}}")
+        }
+    }
+}
+
+fn write_use<W: Write>(out: &mut W, format: Format, number: u64, first: &IdUse) -> io::Result<()> {
     match first {
-        IdUse::Earlier { block, place, flag } => write_placed(out, *block, *place, *flag),
-        IdUse::Here { place, flag } => write_placed(out, number, *place, *flag),
+        IdUse::Earlier { block, place, flag } => write_used(out, format, *block, *place, *flag),
+        IdUse::Here { place, flag } => write_used(out, format, number, *place, *flag),
     }
 }
 
 fn write_touched<W: Write>(
     out: &mut W,
+    format: Format,
     namespace: &[u8],
     key: &[u8],
     place: u32,
 ) -> io::Result<()> {
-    let (namespace, key) = (Word(namespace), Word(key));
-    write!(out, " touched {namespace} {key} {place}")
+    write_word(out, format, "touched")?;
+    write_key(out, format, namespace, key)?;
+    write_number(out, format, "by", u64::from(place))
 }
 
-// ` key NAMESPACE KEY` and what is lacking, or `chaincode` in the place of `key`
-fn write_unsatisfied<W: Write>(
-    out: &mut W,
-    owner: PolicyOwner,
-    namespace: &[u8],
-    key: &[u8],
-    policy: &str,
-    shortfall: &Shortfall,
-) -> io::Result<()> {
-    let (namespace, key) = (Word(namespace), Word(key));
-    let whose = match owner {
+fn owner_name(owner: PolicyOwner) -> &'static str {
+    match owner {
         PolicyOwner::OfKey => "key",
         PolicyOwner::OfChaincode => "chaincode",
-    };
-    write!(out, " {whose} {namespace} {key}")?;
-    write_shortfall(out, policy, shortfall)
+    }
+}
+
+fn write_chaincode<W: Write>(
+    out: &mut W,
+    format: Format,
+    word: &str,
+    chaincode: &[u8],
+) -> io::Result<()> {
+    write_word(out, format, word)?;
+    write_bytes(out, format, "chaincode", chaincode)
 }
 
 fn write_endorsement<W: Write>(
     out: &mut W,
+    format: Format,
     fault: &EndorsementFault,
     policy: &str,
 ) -> io::Result<()> {
@@ -248,80 +391,87 @@ fn write_endorsement<W: Write>(
             namespace,
             key,
             place,
-        } => write_touched(out, namespace.as_slice(), key.as_slice(), *place),
+        } => write_touched(out, format, namespace.as_slice(), key.as_slice(), *place),
         EndorsementFault::Unsatisfied {
             namespace,
             key,
             owner,
             shortfall,
-        } => write_unsatisfied(
-            out,
-            *owner,
-            namespace.as_slice(),
-            key.as_slice(),
-            policy,
-            shortfall,
-        ),
+        } => {
+            write_word(out, format, owner_name(*owner))?;
+            write_key(out, format, namespace.as_slice(), key.as_slice())?;
+            write_shortfall(out, format, policy, shortfall)
+        }
         EndorsementFault::ChaincodeUnsatisfied {
             chaincode,
             shortfall,
         } => {
-            let chaincode = Word(chaincode.as_slice());
-            write!(out, " named {chaincode}")?;
-            write_shortfall(out, policy, shortfall)
+            write_chaincode(out, format, "named", chaincode.as_slice())?;
+            write_shortfall(out, format, policy, shortfall)
         }
     }
 }
 
-fn write_undefined<W: Write>(out: &mut W, chaincode: &[u8]) -> io::Result<()> {
-    let chaincode = Word(chaincode);
-    write!(out, " undefined {chaincode}")
-}
-
-fn write_update<W: Write>(out: &mut W, fault: &UpdateFault, policy: &str) -> io::Result<()> {
+fn write_update<W: Write>(
+    out: &mut W,
+    format: Format,
+    fault: &UpdateFault,
+    policy: &str,
+) -> io::Result<()> {
     match fault {
-        UpdateFault::NotAlone => write!(out, " not-alone"),
-        UpdateFault::NoAdminPolicy => write!(out, " no-admin-policy"),
-        UpdateFault::NoDefinition { chaincode } => write_undefined(out, chaincode.as_slice()),
+        UpdateFault::NotAlone => write_word(out, format, "not-alone"),
+        UpdateFault::NoAdminPolicy => write_word(out, format, "no-admin-policy"),
+        UpdateFault::NoDefinition { chaincode } => {
+            write_chaincode(out, format, "undefined", chaincode.as_slice())
+        }
         UpdateFault::NoPolicy(fault) => {
-            let fault = text_fault_name(*fault);
-            write!(out, " policy {fault}")
+            write_word(out, format, "policy")?;
+            write_text_fault(out, format, *fault)
         }
         UpdateFault::AdminUnsatisfied(shortfall) => {
-            write!(out, " admin")?;
-            write_shortfall(out, policy, shortfall)
+            write_word(out, format, "admin")?;
+            write_shortfall(out, format, policy, shortfall)
         }
     }
+}
+
+// ` creator SIGNER`
+fn write_creator<W: Write>(out: &mut W, format: Format, creator: &OwnedIdentity) -> io::Result<()> {
+    write_word(out, format, "creator")?;
+    write_name(out, format, "creator")?;
+    write_signer(out, format, creator)
+}
+
+// ` WORD VALUE`, which is a member of the word's name
+fn write_named<W: Write>(out: &mut W, format: Format, word: &str, bytes: &[u8]) -> io::Result<()> {
+    write_word(out, format, word)?;
+    write_bytes(out, format, word, bytes)
 }
 
 // What stands behind the flag's name, of a place of the block of this number.
 fn write_words<W: Write>(
     out: &mut W,
+    format: Format,
     number: u64,
     reason: &Reason,
     policy: &str,
 ) -> io::Result<()> {
     match reason {
         Reason::NoFault | Reason::NoTransaction => Ok(()),
-        Reason::BadSignature { creator } => {
-            write!(out, " creator")?;
-            write_signer(out, creator)
-        }
-        Reason::InvalidUpdate(fault) => write_update(out, fault, policy),
-        Reason::OtherId { wanted } => {
-            let wanted = Word(wanted);
-            write!(out, " wanted {wanted}")
-        }
-        Reason::UsedId(first) => write_use(out, number, first),
-        Reason::NotEndorsed(fault) => write_endorsement(out, fault, policy),
-        Reason::ReadConflict(read) => write_read(out, read),
-        Reason::PhantomConflict(phantom) => write_phantom(out, phantom),
+        Reason::BadSignature { creator } => write_creator(out, format, creator),
+        Reason::InvalidUpdate(fault) => write_update(out, format, fault, policy),
+        Reason::OtherId { wanted } => write_named(out, format, "wanted", wanted),
+        Reason::UsedId(first) => write_use(out, format, number, first),
+        Reason::NotEndorsed(fault) => write_endorsement(out, format, fault, policy),
+        Reason::ReadConflict(read) => write_read(out, format, read),
+        Reason::PhantomConflict(phantom) => write_phantom(out, format, phantom),
         Reason::OtherChannel { channel } => {
-            let channel = Word(channel.as_slice());
-            write!(out, " channel {channel}")
+            write_named(out, format, "channel", channel.as_slice())
         }
-        Reason::NotInForm(fault) => write_form(out, fault),
-        Reason::Undefined { chaincode } => write_undefined(out, chaincode.as_slice()),
+        Reason::NotInForm(fault) => write_form(out, format, fault),
+        Reason::Undefined { chaincode } => {
+            write_chaincode(out, format, "undefined", chaincode.as_slice())
+        }
     }
 }
 
@@ -337,32 +487,65 @@ fn policy_of(alloc: Global, reason: &Reason) -> Result<String, AllocError> {
     }
 }
 
-/// Writes `TX FLAG NAME` and the words of the reason, of a place of the block of this number, and `id ID` behind them
-/// where the id is wanted. The memory is the text of the policy that it names, which is made before any of the line is
-/// written.
+/// A place of a block, and why it has its flag.
+#[derive(Clone, Copy)]
+pub struct ReasonLine<'r> {
+    /// The block's number.
+    number: u64,
+    place: usize,
+    reason: &'r Reason,
+    /// The transaction's id, where it is wanted.
+    id: Option<&'r TxId>,
+}
+
+impl<'r> ReasonLine<'r> {
+    /// A place, from 0, of the block of this number, with its reason; and the transaction's id, where the line is to
+    /// have it.
+    pub fn new(
+        number: u64,
+        place: usize,
+        reason: &'r Reason,
+        id: Option<&'r TxId>,
+    ) -> ReasonLine<'r> {
+        ReasonLine {
+            number,
+            place,
+            reason,
+            id,
+        }
+    }
+}
+
+// The place stands first in a plain line, which has no other kind.
+fn write_transaction<W: Write>(out: &mut W, format: Format, place: usize) -> io::Result<()> {
+    match format {
+        Format::Plain => write!(out, "{place}"),
+        Format::Json => write!(out, "{{\"kind\":\"reason\",\"tx\":{place}"),
+    }
+}
+
+/// Writes `TX FLAG NAME` and the words of the reason, and `id ID` behind them where the id is wanted. The memory is the
+/// text of the policy that it names, which is made before any of the line is written.
 pub fn write_reason<W: Write>(
     alloc: Global,
     out: &mut W,
-    number: u64,
-    place: usize,
-    reason: &Reason,
-    id: Option<&TxId>,
+    format: Format,
+    line: &ReasonLine<'_>,
 ) -> Result<(), LineFault> {
-    let policy = policy_of(alloc, reason)?;
-    let flag = reason.flag();
-    let (code, name) = (flag.number(), name_of(flag));
-    write!(out, "{place} {code} {name}")?;
-    write_words(out, number, reason, policy.as_str())?;
-    if let Some(id) = id {
-        let id = Word(id);
-        write!(out, " id {id}")?;
+    let policy = policy_of(alloc, line.reason)?;
+    write_transaction(out, format, line.place)?;
+    write_flag(out, format, line.reason.flag())?;
+    write_words(out, format, line.number, line.reason, policy.as_str())?;
+    if let Some(id) = line.id {
+        write_label(out, format, "id")?;
+        write_bytes(out, format, "id", id)?;
     }
-    Ok(writeln!(out)?)
+    Ok(write_end(out, format)?)
 }
 
 /// Writes `earlier BLOCK TX FLAG NAME`: where an id was used first, and the flag that it was given. Takes no memory.
-pub fn write_earlier<W: Write>(out: &mut W, first: &FirstUse) -> io::Result<()> {
-    write!(out, "earlier")?;
-    write_placed(out, first.block, first.place, first.flag)?;
-    writeln!(out)
+pub fn write_earlier<W: Write>(out: &mut W, format: Format, first: &FirstUse) -> io::Result<()> {
+    write_kind(out, format, "earlier")?;
+    write_placed(out, format, first.block, first.place, first.flag)?;
+    write_end(out, format)
 }

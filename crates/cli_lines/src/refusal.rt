@@ -44,8 +44,8 @@ impl Refusal {
         })
     }
 
-    // What stands before the numbers of a refusal, if it has any.
-    fn code(&self) -> &'static str
+    /// What stands before the numbers of a refusal, if it has any.
+    pub(crate) fn code(&self) -> &'static str
         ensures { result.now ≡ spec.code_of self.now }
     {
         match self {

@@ -1,16 +1,56 @@
 //! The lines in which the ledger's contents are told.
 use crate::line_fault::LineFault;
-use cli_values::ValueWord;
+use crate::members::{
+    write_bytes, write_end, write_kind, write_label, write_name, write_none, write_number,
+    write_place, write_text,
+};
+use cli_values::{Format, ValueWord};
+use json_lines::write_value;
 use policy::Policy;
 use rules::{HistoryEntry, Row};
 use std::alloc::Global;
 use std::io;
 use std::io::Write;
-use text_lines::Word;
 
 /// Writes `height H`. Takes no memory.
-pub fn write_height<W: Write>(out: &mut W, height: u64) -> io::Result<()> {
-    writeln!(out, "height {height}")
+pub fn write_height<W: Write>(out: &mut W, format: Format, height: u64) -> io::Result<()> {
+    write_kind(out, format, "height")?;
+    write_number(out, format, "height", height)?;
+    write_end(out, format)
+}
+
+/// Writes `reader J height H`. Takes no memory.
+pub fn write_reader<W: Write>(
+    out: &mut W,
+    format: Format,
+    place: u64,
+    height: u64,
+) -> io::Result<()> {
+    write_kind(out, format, "reader")?;
+    write_number(out, format, "reader", place)?;
+    write_label(out, format, "height")?;
+    write_number(out, format, "height", height)?;
+    write_end(out, format)
+}
+
+/// Writes `absent`. Takes no memory.
+pub fn write_absent<W: Write>(out: &mut W, format: Format) -> io::Result<()> {
+    write_kind(out, format, "absent")?;
+    write_end(out, format)
+}
+
+/// Writes `more`. Takes no memory.
+pub fn write_more<W: Write>(out: &mut W, format: Format) -> io::Result<()> {
+    write_kind(out, format, "more")?;
+    write_end(out, format)
+}
+
+// All of a row but the policy.
+fn write_contents<W: Write>(out: &mut W, format: Format, key: &[u8], row: &Row) -> io::Result<()> {
+    write_kind(out, format, "row")?;
+    write_bytes(out, format, "key", key)?;
+    write_place(out, format, row.version.block, row.version.tx)?;
+    write_bytes(out, format, "value", row.value.as_slice())
 }
 
 /// Writes `row KEY BLOCK TX VALUE POLICY`: words, numbers, and the canonical text of the key's own
@@ -18,19 +58,28 @@ pub fn write_height<W: Write>(out: &mut W, height: u64) -> io::Result<()> {
 pub fn write_row<W: Write>(
     alloc: Global,
     out: &mut W,
+    format: Format,
     key: &[u8],
     row: &Row,
 ) -> Result<(), LineFault> {
-    let (block, tx) = (row.version.block, row.version.tx);
-    let (key, value) = (Word(key), Word(row.value.as_slice()));
     match &row.policy {
         Some(policy) => {
             let policy = policy.get().text(alloc)?;
-            writeln!(out, "row {key} {block} {tx} {value} {policy}")?;
+            write_contents(out, format, key, row)?;
+            write_text(out, format, "policy", policy.as_str())?;
         }
-        None => writeln!(out, "row {key} {block} {tx} {value} -")?,
+        None => {
+            write_contents(out, format, key, row)?;
+            write_none(out, format, "policy", "-")?;
+        }
     }
-    Ok(())
+    Ok(write_end(out, format)?)
+}
+
+fn write_policy<W: Write>(out: &mut W, format: Format, text: &str) -> io::Result<()> {
+    write_kind(out, format, "definition")?;
+    write_text(out, format, "policy", text)?;
+    write_end(out, format)
 }
 
 /// Writes `definition TEXT`, the canonical text of a chaincode's policy, or `absent` where there is none. The memory is
@@ -38,26 +87,39 @@ pub fn write_row<W: Write>(
 pub fn write_definition<W: Write>(
     alloc: Global,
     out: &mut W,
+    format: Format,
     policy: Option<&Policy>,
 ) -> Result<(), LineFault> {
     match policy {
         Some(policy) => {
             let text = policy.text(alloc)?;
-            writeln!(out, "definition {text}")?;
+            write_policy(out, format, text.as_str())?;
         }
-        None => writeln!(out, "absent")?,
+        None => write_absent(out, format)?,
     }
     Ok(())
 }
 
-/// Writes `entry BLOCK TX ID VALUE`, or `deleted` in the value's place. Takes no memory.
-pub fn write_entry<W: Write>(out: &mut W, entry: &HistoryEntry) -> io::Result<()> {
-    let (block, tx, id) = (entry.version.block, entry.version.tx, Word(&entry.id));
-    match &entry.value {
-        Some(value) => {
-            let value = ValueWord(value.as_slice());
-            writeln!(out, "entry {block} {tx} {id} {value}")
+// A value, which isn't taken for a deletion.
+fn write_written<W: Write>(out: &mut W, format: Format, value: &[u8]) -> io::Result<()> {
+    write_name(out, format, "value")?;
+    match format {
+        Format::Plain => {
+            let value = ValueWord(value);
+            write!(out, "{value}")
         }
-        None => writeln!(out, "entry {block} {tx} {id} deleted"),
+        Format::Json => write_value(out, value),
     }
+}
+
+/// Writes `entry BLOCK TX ID VALUE`, or `deleted` in the value's place. Takes no memory.
+pub fn write_entry<W: Write>(out: &mut W, format: Format, entry: &HistoryEntry) -> io::Result<()> {
+    write_kind(out, format, "entry")?;
+    write_place(out, format, entry.version.block, entry.version.tx)?;
+    write_bytes(out, format, "id", &entry.id)?;
+    match &entry.value {
+        Some(value) => write_written(out, format, value.as_slice())?,
+        None => write_none(out, format, "value", "deleted")?,
+    }
+    write_end(out, format)
 }

@@ -1,7 +1,7 @@
 use crate::conflict_counts::{CONFLICTS, ConflictCounts};
 use crate::definition::{DEFINITION, DefinitionQuery};
 use crate::draft::{DRAFT, Draft};
-use crate::explain::{EXPLAIN, Explain, asks_both_ways};
+use crate::explain::{EXPLAIN, Explain, asks_both_ways, mixes_graph_and_lines};
 use crate::get::GET;
 use crate::history::HISTORY;
 use crate::keyed::KeyedQuery;
@@ -89,6 +89,9 @@ pub fn not_text(alloc: Global) -> Result<Error, AllocError> {
 fn fault_of(matches: &ArgMatches<'_>) -> &'static str {
     match matches.subcommand() {
         Some(("explain", matches)) if asks_both_ways(matches) => "--tx and --id don't go together",
+        Some(("explain", matches)) if mixes_graph_and_lines(matches) => {
+            "--dot goes with --all, and with none of --tx, --id, --ids and --json"
+        }
         _ => "a number is written with digits alone",
     }
 }

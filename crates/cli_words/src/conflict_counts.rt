@@ -1,6 +1,6 @@
 //! The words of `conflicts`.
 use crate::arguments::{Argument, Form, long_number_of, number_of};
-use crate::paths::{CHANNEL, KEYS, LedgerPaths, QUIET, SOME_BLOCKS};
+use crate::paths::{CHANNEL, JSON, KEYS, LedgerPaths, QUIET, SOME_BLOCKS};
 use crate::subcommand::Subcommand;
 use clap::ArgMatches;
 use std::alloc::{AllocError, Global};
@@ -25,7 +25,7 @@ Example, of the blocks from number 1 on:
                          most of them, and in how many
 
 Where most of a key's N are in-block, smaller blocks help, or other keys.",
-    arguments: &[CHANNEL, KEYS, TOP, FROM, QUIET, SOME_BLOCKS],
+    arguments: &[CHANNEL, KEYS, TOP, FROM, QUIET, JSON, SOME_BLOCKS],
 };
 
 const TOP: Argument = Argument {

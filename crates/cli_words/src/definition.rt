@@ -1,6 +1,6 @@
 //! The words of `definition`.
 use crate::arguments::NAMESPACE;
-use crate::paths::{ANY_BLOCKS, CHANNEL, KEYS, LedgerPaths, QUIET};
+use crate::paths::{ANY_BLOCKS, CHANNEL, JSON, KEYS, LedgerPaths, QUIET};
 use crate::subcommand::Subcommand;
 use clap::ArgMatches;
 use cli_values::{WordFault, name_of};
@@ -18,7 +18,7 @@ Example:
   definition TEXT        whose endorsement the chaincode's transactions need; no
                          spaces, single quotes
   absent                 the channel has no such chaincode",
-    arguments: &[CHANNEL, KEYS, NAMESPACE, QUIET, ANY_BLOCKS],
+    arguments: &[CHANNEL, KEYS, NAMESPACE, QUIET, JSON, ANY_BLOCKS],
 };
 
 /// Blocks in, and the policy of a chaincode out.

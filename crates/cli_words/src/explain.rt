@@ -1,6 +1,6 @@
 //! The words of `explain`.
 use crate::arguments::{Argument, Form, number_of};
-use crate::paths::{CHANNEL, KEYS, LedgerPaths, QUIET, SOME_BLOCKS};
+use crate::paths::{CHANNEL, JSON, KEYS, LedgerPaths, QUIET, SOME_BLOCKS};
 use crate::subcommand::Subcommand;
 use clap::ArgMatches;
 use std::alloc::{AllocError, Global};
@@ -68,8 +68,28 @@ The reasons:
                          a result of the range, and both places, from 0
     policy NAMESPACE KEY FAULT
   25 INVALID_CHAINCODE
-    undefined NAME",
-    arguments: &[CHANNEL, KEYS, TX, ID, IDS, QUIET, SOME_BLOCKS],
+    undefined NAME
+
+With --dot, a picture of who stands in whose way:
+  fabcommit explain --channel channel.txt --keys keys.txt --dot block0.blk \\
+    block1.blk | dot -Tsvg > block1.svg
+
+The nodes are the transactions that have an edge, with --all each one: place,
+flag and name. An edge leads to what a reason names: who wrote the key last, or
+touched it, or used the id first; of an earlier block as BLOCK TX. It is
+labelled NAMESPACE KEY, or id.",
+    arguments: &[
+        CHANNEL,
+        KEYS,
+        TX,
+        ID,
+        IDS,
+        DOT,
+        ALL,
+        QUIET,
+        JSON,
+        SOME_BLOCKS,
+    ],
 };
 
 const TX: Argument = Argument {
@@ -96,6 +116,29 @@ const IDS: Argument = Argument {
     form: Form::Flag,
 };
 
+const DOT: Argument = Argument {
+    name: "dot",
+    value_name: "",
+    help: "Prints a graph for Graphviz in place of lines",
+    form: Form::Flag,
+};
+
+const ALL: Argument = Argument {
+    name: "all",
+    value_name: "",
+    help: "With --dot, shows transactions without edges too",
+    form: Form::Flag,
+};
+
+/// How the reasons are told.
+#[derive(Clone, Copy, Debug, PartialEq, Eq)]
+pub enum Told {
+    /// In lines, each of which ends with the id if it is asked for.
+    Lines { ids: bool },
+    /// In a graph, of all transactions or of those with edges.
+    Graph { all: bool },
+}
+
 /// Which transactions of the block are explained.
 #[derive(Clone, Copy, Debug, PartialEq, Eq)]
 pub enum Explained<'a> {
@@ -111,8 +154,7 @@ pub enum Explained<'a> {
 pub struct Explain<'a> {
     pub paths: LedgerPaths<'a>,
     pub explained: Explained<'a>,
-    /// Whether each line ends with the id.
-    pub ids: bool,
+    pub told: Told,
 }
 
 /// Whether a transaction is asked for by its place and by its id.
@@ -120,13 +162,40 @@ pub(crate) fn asks_both_ways(matches: &ArgMatches<'_>) -> bool {
     matches.get_str("tx").is_some() && matches.get_str("id").is_some()
 }
 
-// Which transactions are asked for; none where a place isn't a number, or it is asked both ways.
+// Which transactions are asked for; none where a place isn't a number, or what is asked for doesn't go together.
 fn explained_of<'a>(matches: &ArgMatches<'a>) -> Option<Explained<'a>> {
+    if mixes_graph_and_lines(matches) {
+        return None;
+    }
     match (matches.get_str("tx"), matches.get_str("id")) {
         (None, None) => Some(Explained::All),
         (Some(_), None) => Some(Explained::Place(number_of(matches, "tx")?)),
         (None, Some(id)) => Some(Explained::Id(id)),
         (Some(_), Some(_)) => None,
+    }
+}
+
+fn told_of(matches: &ArgMatches<'_>) -> Told {
+    if matches.get_flag("dot") {
+        Told::Graph {
+            all: matches.get_flag("all"),
+        }
+    } else {
+        Told::Lines {
+            ids: matches.get_flag("ids"),
+        }
+    }
+}
+
+/// Whether a graph is asked for with what lines alone have, or all of its transactions without it.
+pub(crate) fn mixes_graph_and_lines(matches: &ArgMatches<'_>) -> bool {
+    if matches.get_flag("dot") {
+        matches.get_flag("ids")
+            || matches.get_flag("json")
+            || matches.get_str("tx").is_some()
+            || matches.get_str("id").is_some()
+    } else {
+        matches.get_flag("all")
     }
 }
 
@@ -138,11 +207,11 @@ impl<'a> Explain<'a> {
         let Some(explained) = explained_of(matches) else {
             return Ok(None);
         };
-        let ids = matches.get_flag("ids");
+        let told = told_of(matches);
         Ok(LedgerPaths::from_matches(alloc, matches)?.map(|paths| Explain {
             paths,
             explained,
-            ids,
+            told,
         }))
     }
 }

@@ -1,6 +1,6 @@
 //! The words of `get`, which are those of a `KeyedQuery`.
 use crate::arguments::{KEY, NAMESPACE};
-use crate::paths::{ANY_BLOCKS, CHANNEL, KEYS, QUIET};
+use crate::paths::{ANY_BLOCKS, CHANNEL, JSON, KEYS, QUIET};
 use crate::subcommand::Subcommand;
 
 pub(crate) static GET: Subcommand = Subcommand {
@@ -15,6 +15,11 @@ Example:
   row KEY BLOCK TX VALUE POLICY
                          the block and transaction that wrote it last; - is no
                          own policy
-  absent                 in the row's place, where there is none",
-    arguments: &[CHANNEL, KEYS, NAMESPACE, KEY, QUIET, ANY_BLOCKS],
+  absent                 in the row's place, where there is none
+
+With --json each line is an object, in which bytes are strings where they are
+UTF-8, else {\"hex\":\"DIGITS\"}:
+  fabcommit get --channel channel.txt --keys keys.txt --ns cc --key car1 \\
+    --json block0.blk block1.blk | jq -r '.value // empty'",
+    arguments: &[CHANNEL, KEYS, NAMESPACE, KEY, QUIET, JSON, ANY_BLOCKS],
 };

@@ -1,6 +1,6 @@
 //! The words of `history`, which are those of a `KeyedQuery`.
 use crate::arguments::{KEY, NAMESPACE};
-use crate::paths::{ANY_BLOCKS, CHANNEL, KEYS, QUIET};
+use crate::paths::{ANY_BLOCKS, CHANNEL, JSON, KEYS, QUIET};
 use crate::subcommand::Subcommand;
 
 pub(crate) static HISTORY: Subcommand = Subcommand {
@@ -16,5 +16,5 @@ Example:
                          a value that was written, with the transaction's place
                          and id
   entry BLOCK TX ID deleted",
-    arguments: &[CHANNEL, KEYS, NAMESPACE, KEY, QUIET, ANY_BLOCKS],
+    arguments: &[CHANNEL, KEYS, NAMESPACE, KEY, QUIET, JSON, ANY_BLOCKS],
 };

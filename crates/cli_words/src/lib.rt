@@ -22,7 +22,7 @@ pub use command::{Asked, not_text};
 pub use conflict_counts::ConflictCounts;
 pub use definition::DefinitionQuery;
 pub use draft::Draft;
-pub use explain::{Explain, Explained};
+pub use explain::{Explain, Explained, Told};
 pub use keyed::{KeyedQuery, NamespacedKey};
 pub use parallelism::Parallelism;
 pub use paths::{ConfigurationPaths, LedgerPaths};

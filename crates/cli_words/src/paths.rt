@@ -1,6 +1,7 @@
 //! The files that words name.
 use crate::arguments::{Argument, Form};
 use clap::ArgMatches;
+use cli_values::Format;
 use std::alloc::{AllocError, Global};
 
 /// The paths of what each subcommand begins with.
@@ -10,12 +11,14 @@ pub struct ConfigurationPaths<'a> {
     pub keys: &'a str,
 }
 
-/// The paths of what a ledger is made of, the blocks' in their order, and whether it is made in silence.
+/// The paths of what a ledger is made of, the blocks' in their order; whether it is made in silence, and how lines are
+/// written.
 #[derive(Drop)]
 pub struct LedgerPaths<'a> {
     pub configuration: ConfigurationPaths<'a>,
     pub blocks: Vec<&'a str>,
     pub quiet: bool,
+    pub format: Format,
 }
 
 pub(crate) const CHANNEL: Argument = Argument {
@@ -36,6 +39,13 @@ pub(crate) const QUIET: Argument = Argument {
     name: "quiet",
     value_name: "",
     help: "Doesn't show on a terminal how many blocks are in",
+    form: Form::Flag,
+};
+
+pub(crate) const JSON: Argument = Argument {
+    name: "json",
+    value_name: "",
+    help: "Prints each line as a JSON object, for jq or a program",
     form: Form::Flag,
 };
 
@@ -66,6 +76,14 @@ impl<'a> ConfigurationPaths<'a> {
     }
 }
 
+fn format_of(matches: &ArgMatches<'_>) -> Format {
+    if matches.get_flag("json") {
+        Format::Json
+    } else {
+        Format::Plain
+    }
+}
+
 impl<'a> LedgerPaths<'a> {
     pub(crate) fn from_matches(
         alloc: Global,
@@ -79,6 +97,7 @@ impl<'a> LedgerPaths<'a> {
             configuration,
             blocks: Vec::from_slice(alloc, blocks)?,
             quiet: matches.get_flag("quiet"),
+            format: format_of(matches),
         }))
     }
 }

@@ -1,7 +1,7 @@
 //! The words of `run`.
 use crate::arguments::{Argument, Form};
 use crate::parallelism::{Parallelism, READERS, WORKERS};
-use crate::paths::{CHANNEL, KEYS, LedgerPaths, QUIET, SOME_BLOCKS};
+use crate::paths::{CHANNEL, JSON, KEYS, LedgerPaths, QUIET, SOME_BLOCKS};
 use crate::subcommand::Subcommand;
 use clap::ArgMatches;
 use std::alloc::{AllocError, Global};
@@ -41,7 +41,16 @@ Example, with a worker for each of four processors and two readers:
 
   Readers stand for the clients who query a peer while it commits. Each asks for
   the height, 1,000 times, while the blocks are handed in, and waits for nobody.",
-    arguments: &[CHANNEL, KEYS, WORKERS, READERS, HASHES, QUIET, SOME_BLOCKS],
+    arguments: &[
+        CHANNEL,
+        KEYS,
+        WORKERS,
+        READERS,
+        HASHES,
+        QUIET,
+        JSON,
+        SOME_BLOCKS,
+    ],
 };
 
 /// Blocks in, and a line for each out.

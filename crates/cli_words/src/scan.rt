@@ -1,6 +1,6 @@
 //! The words of `scan`.
 use crate::arguments::{Argument, Form, NAMESPACE, number_of};
-use crate::paths::{ANY_BLOCKS, CHANNEL, KEYS, LedgerPaths, QUIET};
+use crate::paths::{ANY_BLOCKS, CHANNEL, JSON, KEYS, LedgerPaths, QUIET};
 use crate::subcommand::Subcommand;
 use clap::ArgMatches;
 use std::alloc::{AllocError, Global};
@@ -20,7 +20,7 @@ Example:
   more                   behind the rows, where the limit cut them: go on with
                          --start KEY%00, KEY being that of the last row",
     arguments: &[
-        CHANNEL, KEYS, NAMESPACE, START, END, LIMIT, QUIET, ANY_BLOCKS,
+        CHANNEL, KEYS, NAMESPACE, START, END, LIMIT, QUIET, JSON, ANY_BLOCKS,
     ],
 };
 

@@ -1,7 +1,7 @@
 -- A committer stays that of its handles while blocks are handed in, and its receipts are for them.
 use Rattle.std.proofs.Common.{◌≡◌, ℕ, List, [], ◌∷◌, Result, Ok, Err, IfOk, ap, subst, ◌∙◌}
 use Rattle.std.specs.List.{All}
-use Rattle.std.proofs.lemmas.List.Elements.{All-nil, All-cons, All-head, All-tail}
+use Rattle.std.proofs.lemmas.List.Elements.{All-nil, All-cons}
 use Rattle.policy_eval.specs.Accepts.{Accepts}
 use Rattle.logbook.specs.Pages.{Book}
 use Rattle.query.specs.declared.receipt.Receipt.{Receipt}
@@ -37,12 +37,3 @@ module _ (accepts : Accepts) where
       (subst (λ (book : Book). All (IsFor book) answers) (keeps_one old runs.0 bytes answer runs.1) (are_for runs.0 new blocks answers runs.2))
   are_for old new [] (answer ∷ answers) runs = absurd runs
   are_for old new (bytes ∷ blocks) [] runs = absurd runs
-
--- the next of answers that are for a book, and the others
-pub next_is_for : (book : Book) (answer : Result Receipt NotCommitted) (rest all : List (Result Receipt NotCommitted)) → all ≡ answer ∷ rest → All (IsFor book) all → IsFor book answer × All (IsFor book) rest
-next_is_for book answer rest all e are =
-    let same : All (IsFor book) (answer ∷ rest) = subst (All (IsFor book)) e are in
-    (All-head (IsFor book) answer rest same, All-tail (IsFor book) answer rest same)
-
-pub next_receipt : (book : Book) (answer : Result Receipt NotCommitted) (r : Receipt) → answer ≡ Ok r → IsFor book answer → r.front.book ≡ book
-next_receipt book answer r e is = subst (IsFor book) e is

@@ -1,3 +1,4 @@
 pub mod Books
 pub mod Handing
 pub mod Telling
+pub mod FilesRead

@@ -1,5 +1,5 @@
 -- Of all answers that were told one after the other.
-use Rattle.std.proofs.Common.{◌≡◌, ◌++◌, ◌∷◌, ◌+◌, ◌<◌, ◌^◌, ◌∙◌, ℕ, suc, Bool, true, List, [], Option, Result, length, ap, subst, refl, arith}
+use Rattle.std.proofs.Common.{◌≡◌, ◌++◌, ◌∷◌, ◌+◌, ◌<◌, ◌^◌, ◌∙◌, ℕ, suc, Bool, true, List, [], Option, None, Result, length, ap, subst, refl, arith}
 use Rattle.std.specs.Io.KnownBytes.{Appends}
 use Rattle.std.specs.List.{FoldsTo}
 use Rattle.cli_lines.proofs.Written.{nothing, then_whole}
@@ -10,7 +10,7 @@ use Rattle.commit.specs.Committing.{Committing}
 use Rattle.commit.specs.Telling.{Steps, RunsTelling}
 use Rattle.commit.proofs.Runs.{one_each}
 use Rattle.command_line.specs.declared.committing.Told.{Told}
-use Rattle.command_line.specs.Handing.{AreTold, IsTold, last_receipt}
+use Rattle.command_line.specs.Handing.{AreHandedIn, IsTold, last_receipt}
 use Rattle.command_line.specs.Lines.{answer_lines, lines_behind}
 use Rattle.command_line.proofs.Handing.{last_receipt-behind}
 
@@ -19,10 +19,10 @@ Answer = Result Receipt NotCommitted
 
 module _ {F : Type 0} (step : Steps F) (told : F → Told) (contents : F → Option (List ℕ)) (tells : (p : F) (answer : Answer) (q : F) → step p answer true q → IsTold (told p) (contents p) answer (told q) (contents q)) where
   record AllTold (p : F) (answers : List Answer) (q : F) : Type 0 where
-    pub same : (told q).hashes ≡ (told p).hashes
+    pub same : (told q).style ≡ (told p).style
     pub counted : (told q).done ≡ (told p).done + length answers
     pub is_last : (told q).committed.last ≡ last_receipt (told p).committed.last answers
-    pub printed : Appends (contents p) (contents q) (lines_behind (told p).hashes (told p).done answers)
+    pub printed : Appends (contents p) (contents q) (lines_behind (told p).style (told p).done answers)
 
   all_told : (answers : List Answer) (p q : F) → (told p).done + length answers < 2 ^ 64 → FoldsTo (λ p answer q. step p answer true q) p answers q → AllTold p answers q
   all_told [] p q fits folds = subst (AllTold p []) folds (record { same = refl; counted = omega arith; is_last = refl; printed = nothing (contents p) })
@@ -36,22 +36,21 @@ module _ {F : Type 0} (step : Steps F) (told : F → Told) (contents : F → Opt
         same = others.same ∙ one.same;
         counted = omega (arith, others.counted, count);
         is_last = others.is_last ∙ (ap (λ (l : Option Receipt). last_receipt l answers) one.is_last ∙ last_receipt-behind (told p).committed.last (answer ∷ []) answers);
-        printed = then_whole (contents p) (contents folds.0) (contents q) (answer_lines (told p).hashes (suc (told p).done) answer) (lines_behind (told folds.0).hashes (told folds.0).done answers) (lines_behind (told p).hashes (told p).done (answer ∷ answers))
-            (one.printed first) others.printed (λ i. answer_lines (told p).hashes (suc (told p).done) answer ++ lines_behind (one.same i) (next i) answers);
+        printed = then_whole (contents p) (contents folds.0) (contents q) (answer_lines (told p).style (suc (told p).done) answer) (lines_behind (told folds.0).style (told folds.0).done answers) (lines_behind (told p).style (told p).done (answer ∷ answers))
+            (one.printed first) others.printed (λ i. answer_lines (told p).style (suc (told p).done) answer ++ lines_behind (one.same i) (next i) answers);
       }
 
-  pub are_told : (accepts : Accepts) (old new : Committing) (blocks : List (List ℕ)) (f f' : F) → (told f).done + length blocks < 2 ^ 64 → RunsTelling step accepts old blocks f true new f'
-      → AreTold accepts old blocks (told f) (contents f) new (told f') (contents f')
-  are_told accepts old new blocks f f' fits run =
+  -- where nothing was told before
+  pub are_handed_in : (accepts : Accepts) (old new : Committing) (blocks : List (List ℕ)) (f f' : F) → length blocks < 2 ^ 64 → (told f).done ≡ 0 → (told f).committed.last ≡ None
+      → RunsTelling step accepts old blocks f true new f' → AreHandedIn accepts (told f).style old (contents f) blocks (told f').committed.last new (contents f')
+  are_handed_in accepts old new blocks f f' fits none_done none_last run =
       let count : length run.answers ≡ length blocks = one_each accepts old new blocks run.answers run.runs in
-      let all = all_told run.answers f f' (omega (arith, fits, count)) run.told in
+      let all = all_told run.answers f f' (omega (arith, fits, count, none_done)) run.told in
       record {
         answers = run.answers;
         runs = run.runs;
-        same = all.same;
-        counted = omega (arith, all.counted, count);
-        is_last = all.is_last;
-        printed = all.printed;
+        is_last = all.is_last ∙ ap (λ (l : Option Receipt). last_receipt l run.answers) none_last;
+        printed = subst (λ n. Appends (contents f) (contents f') (lines_behind (told f).style n run.answers)) none_done all.printed;
       }
 
 -- where it is said that all were told

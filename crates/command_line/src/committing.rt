@@ -1,34 +1,26 @@
 //! Blocks handed in to a committer, and lines for each as soon as it is done.
-ghost use Rattle.std.specs.Prelude.{◌≡◌, ◌++◌, ◌+◌, ◌^◌, ◌<◌, true, length, IfOk, IfSome, OnOk};
-ghost use Rattle.std.specs.Vec.Iter.{into_iter_items};
+ghost use Rattle.std.specs.Prelude.{◌≡◌, ◌^◌, ◌<◌, None, true, length, IfOk, IfSome, OnOk};
 ghost use Rattle.key_book.specs.Book.{accepts};
-ghost use Rattle.command_line.specs.Handing.{AreHandedIn, AreTold, IsTold};
+ghost use Rattle.command_line.specs.Handing.{AreHandedIn, IsTold};
 
-use crate::lines::write_answer;
+use crate::lines::{Style, write_answer};
 use command_files::{ACCEPTED, Fault};
 use commit::{Answer, Committer, Receipt};
 use gates::Open;
 use key_book::KeyBook;
 use ledger_commands::Progress;
-use std::alloc::{AllocError, Global};
 use std::io::Write;
 use std::sync::Wait;
 use std::thread::Threads;
-use std::vec::IntoIter;
-use values::Bytes;
+use values::{Bytes, Shared};
 
-// Blocks are handed in so many at once, and so many bytes, unless fewer are left: their bytes are let go together, and threads that
-// take blocks in ahead begin anew.
-const AT_ONCE: usize = 16;
-
-const BYTES_AT_ONCE: usize = 1 << 26;
-
-/// How blocks are handed in, and what is printed of them.
-#[derive(Clone, Copy)]
-pub(crate) struct Wanted<'k> {
-    pub(crate) keys: &'k KeyBook,
-    /// Whether commit hashes are printed.
-    pub(crate) hashes: bool,
+/// Blocks that are handed in, the runtime and the keys by which they are, and how what is told of them is written.
+#[derive(Drop)]
+pub(crate) struct Handing<'h, R> {
+    pub(crate) rt: &'h R,
+    pub(crate) blocks: &'h [Shared<Bytes>],
+    pub(crate) keys: &'h KeyBook,
+    pub(crate) style: Style,
 }
 
 /// What came of the blocks.
@@ -40,30 +32,10 @@ pub(crate) struct Committed {
     pub(crate) last: Option<Receipt>,
 }
 
-// The next blocks that are handed in at once.
-fn next_blocks(alloc: Global, blocks: &mut IntoIter<Bytes>) -> Result<Vec<Bytes>, AllocError>
-    ensures next { IfOk result (λ next. into_iter_items blocks.old ≡ next.items ++ into_iter_items blocks.new) }
-    ensures fewer { OnOk result (0 < length (into_iter_items blocks.old) → length (into_iter_items blocks.new) < length (into_iter_items blocks.old)) }
-{
-    let mut next = Vec::with_capacity(alloc, AT_ONCE)?;
-    let mut len = 0usize;
-    for _ in 0..blocks.len() {
-        if next.len() >= AT_ONCE && len >= BYTES_AT_ONCE {
-            return Ok(next);
-        }
-        let Some(bytes) = blocks.next() else {
-            return Ok(next);
-        };
-        len = len.saturating_add(bytes.as_slice().len());
-        next.push(bytes)?;
-    }
-    Ok(next)
-}
-
 /// What was told of the blocks so far.
 #[derive(Drop)]
 struct Told<'a> {
-    hashes: bool,
+    style: Style,
     /// How many blocks are done, and of how many.
     done: usize,
     all: usize,
@@ -73,6 +45,24 @@ struct Told<'a> {
 }
 
 impl<'a> Told<'a> {
+    // Nothing yet of so many blocks.
+    fn nothing(all: usize, style: Style) -> Told<'a>
+        ensures style { result.style ≡ style }
+        ensures done { result.done ≡ 0 }
+        ensures last { result.committed.last ≡ None }
+    {
+        Told {
+            style,
+            done: 0,
+            all,
+            committed: Committed {
+                status: ACCEPTED,
+                last: None,
+            },
+            fault: None,
+        }
+    }
+
     // Shows how many are in, where others follow.
     fn show<P: Progress>(&self, progress: &mut P) {
         if self.done < self.all {
@@ -91,7 +81,7 @@ impl<'a> Told<'a> {
     {
         progress.clear();
         self.done = self.done.wrapping_add(1);
-        let status = write_answer(out, self.done, &answer, self.hashes)?;
+        let status = write_answer(out, self.done, &answer, self.style)?;
         out.flush()?;
         self.committed.status = self.committed.status.max(status);
         if let Ok(receipt) = answer {
@@ -115,23 +105,23 @@ impl<'a> Told<'a> {
     }
 }
 
-// Hands these blocks in, and tells of each when it is done. Ends at the first fault.
-fn commit_some<'a, R: Threads + Wait + Sync, W: Write, P: Progress>(
-    rt: &R,
+// Hands the blocks in, and tells of each when it is done. Ends at the first fault.
+fn commit_told<'a, R: Threads + Wait + Sync, W: Write, P: Progress>(
     committer: &mut Committer,
-    blocks: &[Bytes],
-    keys: &KeyBook,
+    handing: &Handing<'_, R>,
     told: &mut Told<'a>,
     out: &mut W,
     progress: &mut P,
 ) -> Result<(), Fault<'a>>
-    requires { told.old.done + length blocks.now < 2 ^ 64 }
-    ensures { OnOk result (AreTold (accepts keys.now) committer.old blocks.now told.old (W.contents out.old) committer.new told.new (W.contents out.new)) }
+    requires fits { length handing.now.blocks.now < 2 ^ 64 }
+    requires done { told.old.done ≡ 0 }
+    requires last { told.old.committed.last ≡ None }
+    ensures { OnOk result (AreHandedIn (accepts handing.now.keys.now) told.old.style committer.old (W.contents out.old) handing.now.blocks.now told.new.committed.last committer.new (W.contents out.new)) }
 {
     let all = committer.run_telling(
-        rt,
-        blocks,
-        keys,
+        handing.rt,
+        handing.blocks,
+        handing.keys,
         &Open,
         &mut |answer| { told.tell(out, progress, answer) },
     )?;
@@ -141,44 +131,19 @@ fn commit_some<'a, R: Threads + Wait + Sync, W: Write, P: Progress>(
     Err(told.fault.take().unwrap_or(Fault::Output))
 }
 
-/// Hands the blocks in, some at a time, which are let go when they are done, and writes lines for each as soon as it is done.
-/// Ends at the first fault.
+/// Hands the blocks in, and writes lines for each as soon as it is done. Ends at the first fault.
 pub(crate) fn commit_each<'a, R: Threads + Wait + Sync, W: Write, P: Progress>(
-    rt: &R,
-    alloc: Global,
     committer: &mut Committer,
-    blocks: Vec<Bytes>,
-    wanted: Wanted<'_>,
+    handing: &Handing<'_, R>,
     out: &mut W,
     progress: &mut P,
 ) -> Result<Committed, Fault<'a>>
-    ensures handed { IfOk result (λ committed. AreHandedIn (accepts wanted.entry.keys.now) wanted.entry.hashes committer.old (W.contents out.old) blocks.items committed.last committer.new (W.contents out.new)) }
+    ensures handed { IfOk result (λ committed. AreHandedIn (accepts handing.now.keys.now) handing.now.style committer.old (W.contents out.old) handing.now.blocks.now committed.last committer.new (W.contents out.new)) }
     ensures last { IfOk result (λ committed. IfSome committed.last (λ receipt. receipt.front.book ≡ committer.old.book)) }
 {
-    let mut told = Told {
-        hashes: wanted.hashes,
-        done: 0,
-        all: blocks.len(),
-        committed: Committed {
-            status: ACCEPTED,
-            last: None,
-        },
-        fault: None,
-    };
+    let mut told = Told::nothing(handing.blocks.len(), handing.style);
     told.show(progress);
-    let mut blocks = blocks.into_iter();
-    while blocks.len() > 0 {
-        let some = next_blocks(alloc, &mut blocks)?;
-        commit_some(
-            rt,
-            committer,
-            some.as_slice(),
-            wanted.keys,
-            &mut told,
-            out,
-            progress,
-        )?;
-    }
+    commit_told(committer, handing, &mut told, out, progress)?;
     progress.clear();
     Ok(told.committed)
 }

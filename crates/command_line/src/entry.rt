@@ -44,8 +44,8 @@ fn status_of<E: Write>(ended: Result<u8, Fault<'_>>, err: &mut E) -> u8 {
 /// that is to be shown is no block; 2 where the words are no command, one is a bad word, or the transaction to explain
 /// isn't there; 3 where a file or `out` is at fault; 4 where memory ran out.
 ///
-/// The words are read first, then all files. Then the blocks are handed in, many at once by `run` and else one by
-/// one; or they are shown, or one is drafted. Lines and help go to `out`, and a fault's line to `err`, where a write
+/// The words are read first, then all files, those of blocks by all workers of `run`. Then the blocks are handed in, all at
+/// once by `run` and else one by one; or they are shown, or one is drafted. Lines and help go to `out`, and a fault's line to `err`, where a write
 /// that fails changes nothing. `progress` is told how many blocks are in, unless the words ask for silence.
 ///
 /// The memory is the files' bytes, what the ledger or the committer keeps, what one block takes (with `run` those that
@@ -62,7 +62,7 @@ pub fn program<R, S, F, O, E, P>(
 where
     R: AllocGlobal + Threads + Wait + Sync,
     S: AsStr,
-    F: Files,
+    F: Files + Sync,
     O: Write,
     E: Write,
     P: Progress,

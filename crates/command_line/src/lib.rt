@@ -7,10 +7,11 @@ mod entry;
 mod lines;
 mod performing;
 mod readers;
+mod reading;
 mod run;
 
-pub use cli_values::printed_values_are_read_back;
+pub use cli_values::{Format, printed_values_are_read_back};
 pub use command_files::{DiskFiles, Fault, FileFault, Files};
 pub use entry::{program, without_words};
 pub use ledger_commands::{Progress, ProgressLine, Silent};
-pub use lines::write_answer;
+pub use lines::{Style, write_answer};

@@ -8,10 +8,19 @@ ghost use Rattle.rules.specs.declared.answer.Refused.TheVariants as refused_as;
 ghost use Rattle.command_line.specs.Lines as spec;
 
 use cli_lines::{Refusal, write_accepted, write_commit, write_refused};
+use cli_values::Format;
 use command_files::{ACCEPTED, Fault, REFUSED};
 use commit::{NotCommitted, Receipt};
 use std::alloc::{AllocError, Global};
 use std::io::Write;
+
+/// How the lines for blocks are written.
+#[derive(Clone, Copy)]
+pub struct Style {
+    pub format: Format,
+    /// Whether commit hashes are printed.
+    pub hashes: bool,
+}
 
 /// The refusal, unless it is want of memory, for which alone a committer stops.
 fn refusal_of(why: NotCommitted) -> Result<Refusal, AllocError>
@@ -27,36 +36,42 @@ fn refusal_of(why: NotCommitted) -> Result<Refusal, AllocError>
 fn write_receipt<'a, W: Write>(
     out: &mut W,
     receipt: &Receipt,
-    hashes: bool,
+    style: Style,
 ) -> Result<(), Fault<'a>>
-    ensures { OnOk result (Appends (W.contents out.old) (W.contents out.new) (spec.receipt_lines hashes receipt.now)) }
+    ensures { OnOk result (Appends (W.contents out.old) (W.contents out.new) (spec.receipt_lines style receipt.now)) }
 {
     let flags = receipt.flags.as_slice();
-    write_accepted(out, receipt.number, &receipt.header_hash, flags)?;
-    if hashes {
-        write_commit(out, receipt.number, &receipt.commit_hash)?;
+    write_accepted(
+        out,
+        style.format,
+        receipt.number,
+        &receipt.header_hash,
+        flags,
+    )?;
+    if style.hashes {
+        write_commit(out, style.format, receipt.number, &receipt.commit_hash)?;
     }
     Ok(())
 }
 
 /// Writes the lines for the answer to the block at this place, from 1: `accepted NUMBER HASH` and the flags, with
-/// `commit NUMBER HASH` behind it where hashes are asked for; or `refused PLACE FAULT`. Returns what the process ends
-/// with where the other blocks are accepted. Want of memory is a fault and has no line. Takes no memory.
+/// `commit NUMBER HASH` behind it where hashes are asked for; or `refused PLACE FAULT`; or objects of these. Returns what
+/// the process ends with where the other blocks are accepted. Want of memory is a fault and has no line. Takes no memory.
 pub fn write_answer<'a, W: Write>(
     out: &mut W,
     place: usize,
     answer: &Result<Receipt, NotCommitted>,
-    hashes: bool,
+    style: Style,
 ) -> Result<u8, Fault<'a>>
-    ensures { OnOk result (Appends (W.contents out.old) (W.contents out.new) (spec.answer_lines hashes place answer.now)) }
+    ensures { OnOk result (Appends (W.contents out.old) (W.contents out.new) (spec.answer_lines style place answer.now)) }
 {
     match answer {
         Ok(receipt) => {
-            write_receipt(out, receipt, hashes)?;
+            write_receipt(out, receipt, style)?;
             Ok(ACCEPTED)
         }
         Err(why) => {
-            write_refused(out, place, refusal_of(*why)?)?;
+            write_refused(out, style.format, place, refusal_of(*why)?)?;
             Ok(REFUSED)
         }
     }

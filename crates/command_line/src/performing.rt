@@ -11,13 +11,13 @@ use std::thread::Threads;
 
 /// Does what is asked for. Returns what the process ends with, unless a fault ends it before. `run`
 /// alone has threads.
-pub(crate) fn perform<'a, R: AllocGlobal + Threads + Wait + Sync, F: Files, W: Write, P: Progress>(
-    asked: &Asked<'a>,
-    rt: &R,
-    files: &F,
-    out: &mut W,
-    progress: &mut P,
-) -> Result<u8, Fault<'a>> {
+pub(crate) fn perform<
+    'a,
+    R: AllocGlobal + Threads + Wait + Sync,
+    F: Files + Sync,
+    W: Write,
+    P: Progress,
+>(asked: &Asked<'a>, rt: &R, files: &F, out: &mut W, progress: &mut P) -> Result<u8, Fault<'a>> {
     let alloc = rt.alloc();
     if asked.is_quiet() {
         progress.silence();

@@ -1,6 +1,8 @@
 //! Readers: threads that query while blocks are handed in.
 ghost use Rattle.std.specs.Prelude.{◌≡◌, All, IfOk, IfSome};
 
+use cli_lines::write_reader;
+use cli_values::Format;
 use command_files::Fault;
 use commit::{Committer, QueryFault, QueryHandle, Receipt};
 use std::alloc::{AllocError, Global};
@@ -86,6 +88,7 @@ pub(crate) fn write_heights<'a, R: Threads, W: Write>(
     rt: &R,
     readers: Vec<Reader>,
     last: &Option<Receipt>,
+    format: Format,
     out: &mut W,
 ) -> Result<(), Fault<'a>>
     requires { All (λ reader. IfSome last.now (λ receipt. reader.promise.0.value.book ≡ receipt.front.book)) readers.items }
@@ -94,7 +97,7 @@ pub(crate) fn write_heights<'a, R: Threads, W: Write>(
     for reader in readers {
         place = place.wrapping_add(1);
         let height = height_of(rt, reader, last).map_err(|_| Fault::Memory)?;
-        writeln!(out, "reader {place} height {height}")?;
+        write_reader(out, format, place, height)?;
     }
     Ok(())
 }

@@ -5,8 +5,8 @@ use crate::drafted::vectors::first_block;
 use crate::files::{MemoryFiles, OneOut};
 use crate::fixture::{Row, is_answered};
 use std::alloc::AllocError;
-use std::cell::Cell;
 use std::sync::Wait;
+use std::sync::atomic::AtomicU32;
 use std::thread::Threads;
 
 static DRAFT: Row = ("draft s out", 3, "", "cannot write out\n");
@@ -25,7 +25,7 @@ fn is_cut_off(
     rt: &(impl AllocGlobal + Threads + Wait + Sync),
     room: usize,
 ) -> Result<bool, AllocError> {
-    let written = Cell::new(0);
+    let written = AtomicU32::new(0);
     let files = first_script_files();
     let disk = OneOut {
         files: MemoryFiles(&files),

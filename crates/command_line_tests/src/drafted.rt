@@ -7,8 +7,8 @@ use crate::files::{File, MemoryFiles, OneOut};
 use crate::fixture::{CHANNEL, is_answered, unlike};
 use crate::signatures::keys;
 use std::alloc::{AllocError, Global};
-use std::cell::Cell;
 use std::sync::Wait;
+use std::sync::atomic::{AtomicU32, Ordering};
 use std::thread::Threads;
 
 pub(crate) mod vectors;
@@ -42,7 +42,7 @@ fn is_drafted<'a>(
     words: &str,
     block: &'a [u8],
 ) -> Result<bool, AllocError> {
-    let written = Cell::new(0);
+    let written = AtomicU32::new(0);
     let files = OneOut {
         files: MemoryFiles(files),
         out: ("out", block),
@@ -50,7 +50,7 @@ fn is_drafted<'a>(
         written: &written,
     };
     let is_said = is_answered(rt, &files, &(words, 0, "", ""))?;
-    Ok(is_said && written.get() == 1)
+    Ok(is_said && written.load(Ordering::SeqCst) == 1)
 }
 
 #[test]

@@ -1,16 +1,15 @@
 //! Why transactions have their flags, from the scripts that they are drafted of.
 
 use crate::explained::vectors::{
-    block0, block1, block2, block3, block4, block5, every_flag, lines,
+    block0, block1, block2, block3, block4, block5, every_flag, lines, objects,
 };
 use crate::files::{File, MemoryFiles};
 use crate::fixture::{CHANNEL, End, Row, answered, unlike};
 use crate::signatures::keys;
 use command_line::{FileFault, Files};
 use std::alloc::{AllocError, Global};
-use std::cell::Cell;
 use std::str::from_utf8;
-use std::sync::Wait;
+use std::sync::{OnceLock, Wait};
 use std::thread::Threads;
 use test_support::Failed;
 use values::Bytes;
@@ -20,12 +19,12 @@ mod policy_texts;
 mod updates;
 pub(crate) mod vectors;
 
-// Files in memory, and what was written last, whatever its path.
+// Files in memory, and what was written first, whatever its path.
 #[derive(Drop)]
 struct Desk<'a> {
     alloc: Global,
     files: MemoryFiles<'a>,
-    written: Cell<Option<Bytes>>,
+    written: OnceLock<Bytes>,
 }
 
 impl Files for Desk<'_> {
@@ -34,12 +33,12 @@ impl Files for Desk<'_> {
     }
 
     fn write(&self, _path: &str, bytes: &[u8]) -> Result<(), FileFault> {
-        match Bytes::from_slice(self.alloc, bytes) {
-            Ok(bytes) => {
-                self.written.set(Some(bytes));
-                Ok(())
-            }
-            Err(AllocError) => Err(FileFault::Memory),
+        let Ok(bytes) = Bytes::from_slice(self.alloc, bytes) else {
+            return Err(FileFault::Memory);
+        };
+        match self.written.try_set(bytes) {
+            Ok(_) => Ok(()),
+            Err(_) => Err(FileFault::Inaccessible),
         }
     }
 }
@@ -55,16 +54,16 @@ pub(crate) fn drafted(
     let desk = Desk {
         alloc: rt.alloc(),
         files: MemoryFiles(files),
-        written: Cell::new(None),
+        written: OnceLock::new(),
     };
     match status(rt, &desk, words) {
-        Ok(0) => desk.written.take().ok_or(NOT_DRAFTED),
+        Ok(0) => desk.written.into_inner().ok_or(NOT_DRAFTED),
         Ok(_) => Err(NOT_DRAFTED),
         Err(error) => Err(Failed::from(error)),
     }
 }
 
-fn status<F: Files>(
+fn status<F: Files + Sync>(
     rt: &(impl AllocGlobal + Threads + Wait + Sync),
     files: &F,
     words: &str,
@@ -399,6 +398,7 @@ pub(crate) fn sample() -> [File<'static>; 9] {
 fn a_reason_of_each_flag(rt: HostRuntime) -> Result<(), AllocError> {
     let rows = [
         ("explain b0 b1 b2 b3 b4 b5 b6", 0, lines(), ""),
+        ("explain --json b0 b1 b2 b3 b4 b5 b6", 0, objects(), ""),
         ("explain b0 b1 b6", 1, "refused 3 C2 want 2 got 6\n", ""),
     ];
     let unlike = unlike(&rt, &MemoryFiles(&sample()), &rows)?;

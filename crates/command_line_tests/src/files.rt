@@ -2,7 +2,7 @@
 
 use command_line::{FileFault, Files};
 use std::alloc::Global;
-use std::cell::Cell;
+use std::sync::atomic::{AtomicU32, Ordering};
 use values::Bytes;
 
 /// A path, and the bytes that lie there.
@@ -56,14 +56,14 @@ pub(crate) struct OneOut<'a> {
     pub(crate) files: MemoryFiles<'a>,
     pub(crate) out: File<'a>,
     pub(crate) room: usize,
-    pub(crate) written: &'a Cell<u32>,
+    pub(crate) written: &'a AtomicU32,
 }
 
 impl Files for OneOut<'_> {
     // What is written is cut off where the room ends.
     fn read(&self, alloc: Global, path: &str) -> Result<Bytes, FileFault> {
         let (out, bytes) = self.out;
-        if path != out || self.written.get() == 0 {
+        if path != out || self.written.load(Ordering::SeqCst) == 0 {
             return self.files.read(alloc, path);
         }
         let kept = bytes.get(..self.room).unwrap_or(bytes);
@@ -74,7 +74,7 @@ impl Files for OneOut<'_> {
         if (path, bytes) != self.out {
             return Err(FileFault::Inaccessible);
         }
-        self.written.set(self.written.get().saturating_add(1));
+        self.written.fetch_add(1, Ordering::SeqCst);
         if self.room < bytes.len() {
             return Err(FileFault::Inaccessible);
         }

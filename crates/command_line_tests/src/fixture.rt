@@ -30,7 +30,7 @@ pub(crate) struct End {
 }
 
 /// Runs the program on these words, the first of which is its name.
-pub(crate) fn ended<R: AllocGlobal + Threads + Wait + Sync, F: Files>(
+pub(crate) fn ended<R: AllocGlobal + Threads + Wait + Sync, F: Files + Sync>(
     rt: &R,
     files: &F,
     words: &[&str],
@@ -59,7 +59,7 @@ pub(crate) fn words_of<'a>(alloc: Global, text: &'a str) -> Result<Vec<&'a str>,
 }
 
 /// How a run on the words of a row ends.
-pub(crate) fn answered<F: Files>(
+pub(crate) fn answered<F: Files + Sync>(
     rt: &(impl AllocGlobal + Threads + Wait + Sync),
     files: &F,
     words: &str,
@@ -76,7 +76,7 @@ pub(crate) fn is_said(ended: &End, row: &Row<'_>) -> bool {
 }
 
 /// Whether a run as the row says ends as it says.
-pub(crate) fn is_answered<F: Files>(
+pub(crate) fn is_answered<F: Files + Sync>(
     rt: &(impl AllocGlobal + Threads + Wait + Sync),
     files: &F,
     row: &Row<'_>,
@@ -86,7 +86,7 @@ pub(crate) fn is_answered<F: Files>(
 }
 
 /// The words of the first of these rows whose run ends otherwise.
-pub(crate) fn unlike<'a, F: Files>(
+pub(crate) fn unlike<'a, F: Files + Sync>(
     rt: &(impl AllocGlobal + Threads + Wait + Sync),
     files: &F,
     rows: &'a [Row<'a>],

@@ -60,7 +60,7 @@ impl Write for Full {
 
 /// Whether the program on these words, the first of which is its name, ends with this status and this text of standard
 /// error.
-pub(crate) fn ends_into<F: Files>(
+pub(crate) fn ends_into<F: Files + Sync>(
     rt: &(impl AllocGlobal + Threads + Wait + Sync),
     files: &F,
     words: &[&str],

@@ -16,6 +16,8 @@ mod disk;
 #[cfg(test)]
 mod drafted;
 #[cfg(test)]
+mod drawn;
+#[cfg(test)]
 mod explained;
 #[cfg(test)]
 mod files;
@@ -25,6 +27,8 @@ mod fixture;
 mod full;
 #[cfg(test)]
 mod hostile;
+#[cfg(test)]
+mod json;
 #[cfg(test)]
 mod large;
 #[cfg(test)]

@@ -4,14 +4,16 @@
 use crate::drafted::first_script_files;
 use crate::drafted::vectors::{answers, first_block, second_block, third_block};
 use crate::explained::sample;
-use crate::explained::vectors::{counts, lines};
+use crate::explained::vectors::{counts, graph, lines};
 use crate::files::{File, MemoryFiles, OneOut};
 use crate::fixture::{CHANNEL, End, Row, answered, is_said};
+use crate::json::odd_files;
+use crate::json::vectors::answers as objects;
 use crate::signatures::keys;
 use command_line::Files;
 use std::alloc::AllocError;
-use std::cell::Cell;
 use std::sync::Wait;
+use std::sync::atomic::{AtomicU32, Ordering};
 use std::thread::Threads;
 use test_support::{Failed, Outcome, begins};
 
@@ -42,7 +44,7 @@ fn said_of(ended: &End, row: &Row<'_>) -> Said {
     }
 }
 
-fn told<F: Files>(
+fn told<F: Files + Sync>(
     rt: &(impl AllocGlobal + Threads + Wait + Sync),
     files: &F,
     row: &Row<'_>,
@@ -69,6 +71,15 @@ fn outcome_of_row(
     }
 }
 
+fn row_of(rows: &'static [Row<'static>], words: &str) -> Result<&'static Row<'static>, Failed> {
+    for row in rows {
+        if row.0 == words {
+            return Ok(row);
+        }
+    }
+    Err(Failed::Missing("an answer"))
+}
+
 fn outcome_of_answer(
     rt: &(impl AllocGlobal + Threads + Wait + Sync),
     words: &str,
@@ -80,12 +91,7 @@ fn outcome_of_answer(
         ("b1", second_block()),
         ("b2", third_block()),
     ];
-    for row in answers() {
-        if row.0 == words {
-            return outcome_of_row(rt, &files, row);
-        }
-    }
-    Err(Failed::Missing("an answer"))
+    outcome_of_row(rt, &files, row_of(answers(), words)?)
 }
 
 const RUN: &str = "run --workers 2 --readers 2 b0 b0 b1 k";
@@ -102,11 +108,47 @@ const SHOW: &str = "show b0 b1 b2";
 
 static ASKED: [&str; 6] = [RUN, GET, SCAN, HISTORY, DEFINITION, SHOW];
 
+const RUN_OBJECTS: &str = "run --workers 2 --readers 2 --hashes b0 b1 --json";
+
+const GET_OBJECTS: &str = "get --json --ns cc --key %22a%5C b0 b1";
+
+const SCAN_OBJECTS: &str = "scan --json --ns cc --limit 2 b0 b1";
+
+const HISTORY_OBJECTS: &str = "history --json --ns cc --key deleted b0 b1";
+
+const DEFINITION_OBJECT: &str = "definition --json --ns cc";
+
+const EXPLAIN_OBJECTS: &str = "explain --json b0 b1";
+
+const CONFLICTS_OBJECTS: &str = "conflicts --json --from 1 b0 b1";
+
+static OBJECTS_ASKED: [&str; 7] = [
+    RUN_OBJECTS,
+    GET_OBJECTS,
+    SCAN_OBJECTS,
+    HISTORY_OBJECTS,
+    DEFINITION_OBJECT,
+    EXPLAIN_OBJECTS,
+    CONFLICTS_OBJECTS,
+];
+
 pub(crate) fn outcome_of_explain(
     rt: &(impl AllocGlobal + Threads + Wait + Sync),
 ) -> Result<Outcome, Failed> {
     let row = ("explain b0 b1 b2 b3 b4 b5 b6", 0, lines(), "");
     outcome_of_row(rt, &sample(), &row)
+}
+
+fn outcome_of_graph(rt: &(impl AllocGlobal + Threads + Wait + Sync)) -> Result<Outcome, Failed> {
+    let row = ("explain --dot b0 b1 b2 b3 b4 b5 b6", 0, graph(), "");
+    outcome_of_row(rt, &sample(), &row)
+}
+
+fn outcome_of_objects(
+    rt: &(impl AllocGlobal + Threads + Wait + Sync),
+    words: &str,
+) -> Result<Outcome, Failed> {
+    outcome_of_row(rt, &odd_files(), row_of(objects(), words)?)
 }
 
 pub(crate) fn outcome_of_conflicts(
@@ -137,7 +179,7 @@ pub(crate) fn outcome_of_draft(
     rt: &(impl AllocGlobal + Threads + Wait + Sync),
 ) -> Result<Outcome, Failed> {
     let files = first_script_files();
-    let written = Cell::new(0);
+    let written = AtomicU32::new(0);
     let files = OneOut {
         files: MemoryFiles(&files),
         out: ("out", first_block()),
@@ -146,11 +188,11 @@ pub(crate) fn outcome_of_draft(
     };
     let row = ("draft s out", 0, "", "");
     begins(rt.alloc())?;
-    let first = (told(rt, &files, &row)?, written.get());
+    let first = (told(rt, &files, &row)?, written.load(Ordering::SeqCst));
     if first == (Said::All, 1) {
         return Ok(Outcome::Done);
     }
-    let again = (told(rt, &files, &row)?, written.get());
+    let again = (told(rt, &files, &row)?, written.load(Ordering::SeqCst));
     if first == (Said::Front, 0) && again == (Said::All, 1) {
         Ok(Outcome::MadeGood)
     } else {
@@ -167,7 +209,14 @@ fn each_subcommand(rt: HostRuntime) -> Result<(), Failed> {
             "{words:?}"
         );
     }
+    for words in &OBJECTS_ASKED {
+        assert!(rt;
+            outcome_of_objects(&rt, words)? == Outcome::Done,
+            "{words:?}"
+        );
+    }
     assert!(rt; outcome_of_explain(&rt)? == Outcome::Done);
+    assert!(rt; outcome_of_graph(&rt)? == Outcome::Done);
     assert!(rt; outcome_of_id(&rt)? == Outcome::Done);
     assert!(rt; outcome_of_conflicts(&rt)? == Outcome::Done);
     assert!(rt; outcome_of_draft(&rt)? == Outcome::Done);

@@ -281,7 +281,7 @@ fn helped() -> &'static [Row] {
     &HELP
 }
 
-static HELP: [Row; 17] = [
+static HELP: [Row; 19] = [
     (
         &["--version"],
         "fabcommit 0.2.0, for blocks of versions 1 and 2\n",
@@ -319,6 +319,8 @@ static HELP: [Row; 17] = [
         EXPLAIN,
     ),
     (&["help", "explain"], "\n      --ids ", EXPLAIN),
+    (&["help", "explain"], "| dot -Tsvg > block1.svg\n", EXPLAIN),
+    (&["help", "get"], "--json block0.blk block1.blk | jq ", GET),
     (&["conflicts", "-h"], "\n  fabcommit conflicts ", CONFLICTS),
     (
         &["run", "--help"],
@@ -355,19 +357,57 @@ fn ended_of(
     Ok(ended(rt, &MemoryFiles(&[]), &all))
 }
 
+fn is_refused(ended: &End, text: &str, usage: &str) -> bool {
+    ended.status == 2 && ended.out.is_empty() && says(&ended.err, "error: ", text, usage)
+}
+
 fn is_mistake(
     rt: &(impl AllocGlobal + Threads + Wait + Sync),
     row: &Row,
 ) -> Result<bool, AllocError> {
     let (words, text, usage) = *row;
     let ended = ended_of(rt, words)?;
-    Ok(ended.status == 2 && ended.out.is_empty() && says(&ended.err, "error: ", text, usage))
+    Ok(is_refused(&ended, text, usage))
 }
 
 #[test]
 fn mistakes(rt: HostRuntime) -> Result<(), AllocError> {
     for row in mistaken() {
         assert!(rt; is_mistake(&rt, row)?, "{:?}", row.0);
+    }
+    Ok(())
+}
+
+// What a graph and lines don't share.
+fn mixed() -> &'static [&'static [&'static str]] {
+    &MIXED
+}
+
+static MIXED: [&[&str]; 6] = [
+    &["--dot", "--ids"],
+    &["--dot", "--json"],
+    &["--dot", "--tx", "0"],
+    &["--all", "--dot", "--id", "x"],
+    &["--all"],
+    &["--all", "--json"],
+];
+
+// Whether explaining the block with these options is a mistake.
+fn is_mixed(
+    rt: &(impl AllocGlobal + Threads + Wait + Sync),
+    options: &[&'static str],
+) -> Result<bool, AllocError> {
+    let files = ["explain", "--channel", "c", "--keys", "k", "b"];
+    let mut words = Vec::from_slice(rt.alloc(), &files)?;
+    words.extend_from_slice(options)?;
+    let text = "--dot goes with --all, and with none of --tx, --id, --ids and --json";
+    Ok(is_refused(&ended_of(rt, &words)?, text, COMMAND))
+}
+
+#[test]
+fn graphs_and_lines_are_not_mixed(rt: HostRuntime) -> Result<(), AllocError> {
+    for options in mixed() {
+        assert!(rt; is_mixed(&rt, options)?, "{options:?}");
     }
     Ok(())
 }

@@ -1,7 +1,6 @@
 -- What was taken in of a block before its world is known. No public contract cites this.
 use Rattle.std.specs.Prelude.{◌≡◌, ℕ, List, Option, Result, IfSome, MatchResult}
 use Rattle.block.specs.declared.block.Block.{Block}
-use Rattle.block.specs.Grammar.{bytes_of}
 use Rattle.channel.specs.Configuration.{Configuration}
 use Rattle.intake.specs.declared.taking.Taken.{Taken}
 use Rattle.next_block.specs.Tentative.{AreTentativeIn}
@@ -14,12 +13,12 @@ use Rattle.rules.specs.Linked.{IsLinked, IsRefused, IsUnlinked}
 use Rattle.rules.specs.World.{World}
 use Rattle.commit.specs.declared.prepared.Prepared.{Prepared}
 
--- what was tentative of what was taken in, and the bytes that spell the block
+-- what was tentative of what was taken in of the block that these bytes spell
 pub record IsPrepared (channel : Configuration) (accepts : Accepts) (bytes : List ℕ) (p : Prepared) : Type 0 where
   pub taken : List Taken
   pub is_taken : IsTaken channel accepts bytes p.block taken
   pub tentative : AreTentativeIn taken p.tentative
-  pub kept : p.bytes ≡ bytes_of p.block
+  pub kept : p.bytes ≡ bytes
 
 -- this, or why the bytes are refused by this world
 abbrev pub IsTakenIn : Configuration → Accepts → World → List ℕ → Result Prepared Refused → Type 0

@@ -6,12 +6,13 @@ ghost use Rattle.rules.specs.Names.{HasNamesOf};
 ghost use Rattle.next_block.specs.NextDelta.{IsDeltaOfJob};
 ghost use Rattle.commit.specs.Prepared.{IsNextDeltaOr, IsNextOfHashed, IsPrepared, IsTakenIn};
 
+use crate::block_bytes::BlockBytes;
 use crate::context::Context;
 use crate::prepared::{Prepared, prepare};
 use check_workers::check_all;
 use gates::Gate;
 use key_chains::{Job, KeyWriters};
-use linking::{DecodedBlock, HashedBlock, LinkedBlock};
+use linking::{HashedBlock, LinkedBlock};
 use next_block::{NextBlock, PendingDelta, flag_duplicates, job_over, pending_delta_of};
 use policy_eval::Verify;
 use row_workers::rows_by;
@@ -25,13 +26,13 @@ use world::World;
 pub(crate) fn take_in_next<'b, R: Threads + Sync, V: Verify + Sync, G: Gate + Sync>(
     context: &Context<'_, R, V, G>,
     world: &World,
-    bytes: &'b [u8],
+    bytes: &BlockBytes<'b>,
 ) -> Result<Prepared<'b>, Refused>
     ensures { IsTakenIn context.now.channel.now (V.accepts context.now.verifier.now) world.now bytes.now result }
 {
-    let decoded = DecodedBlock::decode(context.alloc, bytes)?;
+    let decoded = bytes.decode(context.alloc)?;
     let placed = decoded.at_place(world.height(), world.header_hash())?;
-    Ok(prepare(context, placed.into_decoded())?)
+    Ok(prepare(context, placed.into_decoded(), bytes)?)
 }
 
 /// The block, where it is the next one of the world.
@@ -71,7 +72,7 @@ fn checked_delta<R: Threads + Wait + Sync, V, G: Gate + Sync>(
 pub(crate) fn next_delta<'b, R: Threads + Wait + Sync, V: Verify, G: Gate + Sync>(
     context: &Context<'_, R, V, G>,
     world: &World,
-    bytes: &[u8],
+    bytes: &BlockBytes<'_>,
     prepared: Prepared<'b>,
     spent: &mut Option<KeyWriters<'b>>,
 ) -> Result<(PendingDelta, u32), Refused>

@@ -1,29 +1,17 @@
-//! The bytes of many blocks, and the answers to them, as lists.
-ghost use Rattle.std.specs.Prelude.{◌≡◌, ◌≤◌, [], length, IfOk};
+//! The answers to many blocks, as a list.
+ghost use Rattle.std.specs.Prelude.{◌≡◌, ◌≤◌, [], length};
 ghost use Rattle.std.specs.Vec.{vec_len, vec_capacity};
 ghost use Rattle.commit.specs.Collecting.{IsCollected};
 ghost use Rattle.commit.specs.Running.{BelongsTo, RunsTo};
 
+use crate::block_bytes::BlockBytes;
 use crate::context::Context;
 use crate::published::Published;
 use crate::running::{Answer, run_all};
 use gates::Gate;
 use policy_eval::Verify;
-use std::alloc::{AllocError, Global};
 use std::sync::Wait;
 use std::thread::Threads;
-use values::{Bytes, Slice};
-
-/// The bytes of all blocks, lent.
-pub(crate) fn lent<'b>(alloc: Global, blocks: &'b [Bytes]) -> Result<Vec<Slice<'b>>, AllocError>
-    ensures { IfOk result (λ all. all.items ≡ blocks.now) }
-{
-    let mut all = Vec::with_capacity(alloc, blocks.len())?;
-    for bytes in blocks {
-        all.push(Slice::new(bytes.as_slice()))?;
-    }
-    Ok(all)
-}
 
 /// Adds an answer. Says whether there was room or memory for it.
 fn collect(answers: &mut Vec<Answer>, answer: Answer) -> bool
@@ -36,7 +24,7 @@ fn collect(answers: &mut Vec<Answer>, answer: Answer) -> bool
 pub(crate) fn collect_all<'e, R: Threads + Wait + Sync, V: Verify + Sync, G: Gate + Sync>(
     context: &'e Context<'e, R, V, G>,
     published: &mut Published,
-    blocks: &'e [Slice<'e>],
+    blocks: &'e [BlockBytes<'e>],
     answers: &mut Vec<Answer>,
 )
     requires belongs { BelongsTo context.now.channel.now published.old }

@@ -6,7 +6,8 @@ ghost use Rattle.rules.specs.World.{empty_world};
 ghost use Rattle.commit.specs.Committing.{Submits, Runs};
 ghost use Rattle.commit.specs.Telling.{RunsTelling};
 
-use crate::collecting::{collect_all, lent};
+use crate::block_bytes::{BlockBytes, all_shared};
+use crate::collecting::collect_all;
 use crate::context::Context;
 use crate::not_committed::NotCommitted;
 use crate::opening::OpenFault;
@@ -21,7 +22,7 @@ use std::alloc::{AllocError, Global};
 use std::marker::Model;
 use std::sync::Wait;
 use std::thread::Threads;
-use values::Bytes;
+use values::{Bytes, Shared};
 
 /// The committer of one channel. It takes blocks one by one, checks each by many workers, and publishes it to handles
 /// that ask from other threads. A contract sees its channel and the deltas that it has published.
@@ -113,11 +114,13 @@ impl Committer {
             alloc: self.alloc,
             channel: &self.channel,
             workers: self.workers,
+            hashes_beside: self.workers.count > 1,
             verifier,
             gate,
         };
-        let prepared = self.published.take_in_next(&context, bytes);
-        self.published.commit(&context, bytes, prepared)
+        let block = BlockBytes::lent(bytes);
+        let prepared = self.published.take_in_next(&context, &block);
+        self.published.commit(&context, &block, prepared)
     }
 
     /// Takes the bytes of blocks one after the other, and answers to each as [`Committer::submit`] would. An `Err` is
@@ -125,20 +128,21 @@ impl Committer {
     pub fn run<R: Threads + Wait + Sync, V: Verify + Sync, G: Gate + Sync>(
         &mut self,
         rt: &R,
-        blocks: &[Bytes],
+        blocks: &[Shared<Bytes>],
         verifier: &V,
         gate: &G,
     ) -> Result<Vec<Answer>, AllocError>
         ensures runs { IfOk result (λ answers. Runs (V.accepts verifier.now) self.old blocks.now answers.items self.new) }
         ensures err { OnErr result (self.new ≡ self.old) }
     {
-        let blocks = lent(self.alloc, blocks)?;
+        let blocks = all_shared(self.alloc, blocks)?;
         let mut answers = Vec::with_capacity(self.alloc, blocks.len())?;
         let context = Context {
             rt,
             alloc: self.alloc,
             channel: &self.channel,
             workers: self.workers,
+            hashes_beside: self.workers.count > 1,
             verifier,
             gate,
         };
@@ -159,8 +163,9 @@ impl Committer {
     /// workers, so that many blocks are done sooner than by as many calls of `submit`. What was taken in of a block that
     /// isn't the next one goes for nothing, as where the function ends the run.
     ///
-    /// It takes memory for what is taken in ahead: as many blocks as there are workers, each with a copy of its bytes. Where that
-    /// is refused, the block is taken in once more when its turn comes. A thread that can't be started is done without.
+    /// It takes memory for what is taken in ahead, as many blocks as there are workers. Where that is refused, the block is taken in
+    /// once more when its turn comes. A thread that can't be started is done without. Of an accepted block the committer keeps the
+    /// bytes that are shared, without a copy.
     pub fn run_telling<
         R: Threads + Wait + Sync,
         V: Verify + Sync,
@@ -169,7 +174,7 @@ impl Committer {
     >(
         &mut self,
         rt: &R,
-        blocks: &[Bytes],
+        blocks: &[Shared<Bytes>],
         verifier: &V,
         gate: &G,
         tell: &mut F,
@@ -179,12 +184,13 @@ impl Committer {
         ensures err { OnErr result ((self.new ≡ self.old) × (tell.new ≡ tell.old)) }
         ensures callable { F.IsAlwaysCallable tell.new }
     {
-        let blocks = lent(self.alloc, blocks)?;
+        let blocks = all_shared(self.alloc, blocks)?;
         let context = Context {
             rt,
             alloc: self.alloc,
             channel: &self.channel,
             workers: self.workers,
+            hashes_beside: self.workers.count > 1,
             verifier,
             gate,
         };

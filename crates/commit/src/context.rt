@@ -13,6 +13,8 @@ pub(crate) struct Context<'m, R, V, G> {
     pub(crate) alloc: Global,
     pub(crate) channel: &'m Configuration,
     pub(crate) workers: Workers,
+    /// Whether another thread makes the commit hash of a large delta.
+    pub(crate) hashes_beside: bool,
     pub(crate) verifier: &'m V,
     pub(crate) gate: &'m G,
 }
@@ -30,7 +32,7 @@ impl<'m, R, V, G> Context<'m, R, V, G> {
         }
     }
 
-    /// The context of the calling thread, without other workers.
+    /// The context of the calling thread, without other workers, but for one that makes commit hashes.
     pub(crate) fn alone(&self) -> Context<'m, R, V, G>
         ensures channel { result.channel.now ≡ self.now.channel.now }
         ensures verifier { result.verifier.now ≡ self.now.verifier.now }
@@ -40,6 +42,7 @@ impl<'m, R, V, G> Context<'m, R, V, G> {
             alloc: self.alloc,
             channel: self.channel,
             workers: Workers::one(),
+            hashes_beside: self.hashes_beside,
             verifier: self.verifier,
             gate: self.gate,
         }

@@ -50,8 +50,8 @@ fn hash_and_room<R: Threads + Wait + Sync, V, G>(
     hash
 }
 
-/// The commit hash of a delta, for which both worlds then have room. Where much is hashed and there are several
-/// workers, by [`hash_beside`].
+/// The commit hash of a delta, for which both worlds then have room. Where much is hashed and the context allows it, by
+/// [`hash_beside`].
 fn hash_of<R: Threads + Wait + Sync, V, G>(
     context: &Context<'_, R, V, G>,
     publisher: &mut Publisher,
@@ -61,7 +61,7 @@ fn hash_of<R: Threads + Wait + Sync, V, G>(
     ensures hash { IfOk result (λ hash. hash ≡ pending.now.block.commit_hash) }
     ensures same { publisher.new ≡ publisher.old }
 {
-    if context.workers.count == 1 || pending.update_len() < WORTH_A_THREAD {
+    if !context.hashes_beside || pending.update_len() < WORTH_A_THREAD {
         let room = pending.room_in(publisher.published());
         make_room(context.rt, publisher, room, spent)?;
         pending.commit_hash(context.alloc)

@@ -1,6 +1,7 @@
 //! The committer, whose workers check blocks while others query.
 #![tactic(auto)]
 
+mod block_bytes;
 mod by_workers;
 mod collecting;
 mod committer;

@@ -8,6 +8,7 @@ ghost use Rattle.rules.specs.World.{empty_world};
 ghost use Rattle.commit.specs.Prepared.{IsTakenIn, MayWait};
 ghost use Rattle.commit.specs.Running.{BelongsTo, SubmitsTo};
 
+use crate::block_bytes::BlockBytes;
 use crate::by_workers::{next_delta, take_in_next};
 use crate::context::Context;
 use crate::hashing::hashed;
@@ -84,7 +85,7 @@ impl Published {
     pub(crate) fn take_in_next<'b, R: Threads + Sync, V: Verify + Sync, G: Gate + Sync>(
         &self,
         context: &Context<'_, R, V, G>,
-        bytes: &'b [u8],
+        bytes: &BlockBytes<'b>,
     ) -> Result<Prepared<'b>, Refused>
         requires { self.now.failed ≡ false }
         ensures { IsTakenIn context.now.channel.now (V.accepts context.now.verifier.now) (published_world self.now) bytes.now result }
@@ -96,7 +97,7 @@ impl Published {
     pub(crate) fn prepared<'b, R: Threads + Sync, V: Verify + Sync, G: Gate + Sync>(
         &self,
         context: &Context<'_, R, V, G>,
-        bytes: &'b [u8],
+        bytes: &BlockBytes<'b>,
         ahead: Option<Result<Prepared<'b>, Refused>>,
     ) -> Result<Prepared<'b>, Refused>
         requires { MayWait context.now.channel.now (V.accepts context.now.verifier.now) (published_world self.now) bytes.now ahead }
@@ -114,7 +115,7 @@ impl Published {
     pub(crate) fn commit<R: Threads + Wait + Sync, V: Verify, G: Gate + Sync>(
         &mut self,
         context: &Context<'_, R, V, G>,
-        bytes: &[u8],
+        bytes: &BlockBytes<'_>,
         prepared: Result<Prepared<'_>, Refused>,
     ) -> Result<Receipt, NotCommitted>
         requires taken { IsTakenIn context.now.channel.now (V.accepts context.now.verifier.now) (published_world self.old) bytes.now prepared }

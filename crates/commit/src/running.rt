@@ -5,6 +5,7 @@ ghost use Rattle.rules.specs.World.{World};
 ghost use Rattle.commit.specs.Prepared.{MayWait};
 ghost use Rattle.commit.specs.Running.{Answer, BelongsTo, SubmitsTo, TellsTo};
 
+use crate::block_bytes::BlockBytes;
 use crate::context::Context;
 use crate::not_committed::NotCommitted;
 use crate::prepared::Prepared;
@@ -17,7 +18,6 @@ use rules::Refused;
 use std::sync::Wait;
 use std::thread;
 use std::thread::{Scope, Threads};
-use values::Slice;
 
 /// What a committer answers to a block.
 pub type Answer = Result<Receipt, NotCommitted>;
@@ -26,7 +26,7 @@ pub type Answer = Result<Receipt, NotCommitted>;
 type BlocksAhead<'s, 'e, R, V, G> = Ahead<
     's,
     'e,
-    Slice<'e>,
+    BlockBytes<'e>,
     Result<Prepared<'e>, Refused>,
     Context<'e, R, V, G>,
 >;
@@ -46,7 +46,7 @@ impl<F: FnMut(Answer) -> bool> Run<'_, '_, F> {
     fn commit_next<'b, R: Threads + Wait + Sync, V: Verify + Sync, G: Gate + Sync>(
         &mut self,
         context: &Context<'_, R, V, G>,
-        bytes: &'b [u8],
+        bytes: &BlockBytes<'b>,
         next: Option<Result<Prepared<'b>, Refused>>,
     ) -> bool
         requires waits { (w : World) → MayWait context.now.channel.now (V.accepts context.now.verifier.now) w bytes.now next }
@@ -71,7 +71,7 @@ fn commit_in_turn<
     V: Verify + Sync,
     G: Gate + Sync,
     F: FnMut(Answer) -> bool,
->(context: &Context<'_, R, V, G>, run: &mut Run<'_, '_, F>, blocks: &[Slice<'_>]) -> bool
+>(context: &Context<'_, R, V, G>, run: &mut Run<'_, '_, F>, blocks: &[BlockBytes<'_>]) -> bool
     requires belongs { BelongsTo context.now.channel.now run.old.published.now }
     requires callable { F.IsAlwaysCallable run.old.tell.now }
     ensures told { TellsTo F.step context.now.channel.now (V.accepts context.now.verifier.now)
@@ -82,7 +82,7 @@ fn commit_in_turn<
     ensures tell { run.new.tell.ghost_name ≡ run.old.tell.ghost_name }
 {
     for bytes in blocks {
-        if !run.commit_next(context, bytes.as_slice(), None) {
+        if !run.commit_next(context, bytes, None) {
             return false;
         }
     }
@@ -100,7 +100,7 @@ fn commit_taken_in<
 >(
     context: &'e Context<'e, R, V, G>,
     run: &mut Run<'_, '_, F>,
-    blocks: &'e [Slice<'e>],
+    blocks: &'e [BlockBytes<'e>],
     ahead: &mut BlocksAhead<'_, 'e, R, V, G>,
 ) -> bool
     requires blocks { ahead.old.pieces.now ≡ blocks.now }
@@ -118,7 +118,7 @@ fn commit_taken_in<
     let alone = context.alone();
     for bytes in blocks {
         let next = ahead.next(context.rt).ok();
-        if !run.commit_next(&alone, bytes.as_slice(), next) {
+        if !run.commit_next(&alone, bytes, next) {
             return false;
         }
     }
@@ -139,7 +139,7 @@ fn commit_ahead<
     scope: &'s Scope<'s, &'e ()>,
     context: &'e Context<'e, R, V, G>,
     run: Run<'p, 't, F>,
-    blocks: &'e [Slice<'e>],
+    blocks: &'e [BlockBytes<'e>],
 ) -> Run<'p, 't, F>
     requires belongs { BelongsTo context.now.channel.now run.published.now }
     requires callable { F.IsAlwaysCallable run.tell.now }
@@ -168,7 +168,7 @@ fn commit_in_scope<
 >(
     context: &'e Context<'e, R, V, G>,
     published: &'p mut Published,
-    blocks: &'e [Slice<'e>],
+    blocks: &'e [BlockBytes<'e>],
     tell: &'t mut F,
 ) -> Run<'p, 't, F>
     requires belongs { BelongsTo context.now.channel.now published.old }
@@ -213,7 +213,7 @@ pub(crate) fn run_all<
 >(
     context: &'e Context<'e, R, V, G>,
     published: &mut Published,
-    blocks: &'e [Slice<'e>],
+    blocks: &'e [BlockBytes<'e>],
     tell: &mut F,
 ) -> bool
     requires belongs { BelongsTo context.now.channel.now published.old }

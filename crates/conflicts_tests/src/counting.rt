@@ -6,6 +6,7 @@ use chain_vectors::later_blocks::later_blocks;
 use chain_vectors::{CHANNEL, Committed, SaysOk};
 use channel::Channel;
 use cli_lines::write_report;
+use cli_values::Format;
 use conflicts::Tally;
 use ledger::Ledger;
 use reasons::Reason;
@@ -33,7 +34,8 @@ fn check_report(alloc: Global, tally: &Tally, top: usize, lines: &str) -> Result
     let keys = tally.worst_keys(alloc, top)?;
     let chaincodes = tally.chaincodes(alloc)?;
     let mut text = Vec::new(alloc);
-    write_report(&mut text, tally, keys.as_slice(), chaincodes.as_slice())?;
+    let (keys, chaincodes) = (keys.as_slice(), chaincodes.as_slice());
+    write_report(&mut text, Format::Plain, tally, keys, chaincodes)?;
     check(text.as_slice() == lines.as_bytes())
 }
 

@@ -4,7 +4,8 @@
 
 ghost use Rattle.std.specs.Prelude.{◌≡◌, ◌==◌, length, All};
 
-use cli_lines::{write_accepted, write_reason, write_row};
+use cli_lines::{ReasonLine, write_accepted, write_reason, write_row};
+use cli_values::Format;
 use commit::{Channel, Committer, QueryFault, QueryHandle};
 use gates::Open;
 use ledger::Ledger;
@@ -67,7 +68,13 @@ fn commit_each<R: Threads + Wait + Sync, W: Write>(
         let receipt = committer.submit(rt, block.as_slice(), &ByLength, &Open)?;
         own.learn(&receipt);
         let flags = receipt.flags.as_slice();
-        write_accepted(out, receipt.number, &receipt.header_hash, flags)?;
+        write_accepted(
+            out,
+            Format::Plain,
+            receipt.number,
+            &receipt.header_hash,
+            flags,
+        )?;
     }
     Ok(())
 }
@@ -115,7 +122,7 @@ fn serve<R: Threads + Wait + Sync, W: Write>(
     commit_while_asked(rt, committer, &mut own, others, blocks, out)?;
     let key = KeyRef::new(b"car2");
     if let Some(row) = own.get(&NameRef::new(b"cc"), &key)?.answer {
-        write_row(alloc, out, key.as_slice(), &row)?;
+        write_row(alloc, out, Format::Plain, key.as_slice(), &row)?;
     }
     Ok(())
 }
@@ -131,7 +138,8 @@ fn explain_last<W: Write>(alloc: Global, blocks: &[Bytes], out: &mut W) -> anyho
     }
     let reasons = ledger.explain(last.as_slice(), &ByLength)?;
     for (place, reason) in reasons.as_slice().iter().enumerate() {
-        write_reason(alloc, out, before.len() as u64, place, reason, None)?;
+        let line = ReasonLine::new(before.len() as u64, place, reason, None);
+        write_reason(alloc, out, Format::Plain, &line)?;
     }
     Ok(())
 }

@@ -1,7 +1,6 @@
 //! The transactions of a block are taken in by workers, in pieces: what comes out is what one thread takes in.
 #![tactic(auto)]
 
-mod hashing;
 mod piece;
 mod taking;
 

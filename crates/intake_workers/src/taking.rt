@@ -1,22 +1,21 @@
-//! Workers take pieces of a block in, while one hashes and copies it.
+//! Workers take pieces of a block in, while one hashes it.
 ghost use Rattle.std.specs.Prelude.{◌≡◌, map, IfOk};
-ghost use Rattle.block.specs.Grammar.{bytes_of};
 ghost use Rattle.header_hash.specs.Hashes.{data_hash_of};
 ghost use Rattle.intake.specs.Place.{taken_of, shown};
 ghost use Rattle.rules.specs.Commit.{items_of};
 ghost use Rattle.intake_workers.specs.Pieces.{all_taken, items_of_piece};
 
-use crate::hashing::{HashAndBytes, hash_and_copy};
 use crate::piece::{Piece, cut};
 use channel::Configuration;
 use gates::{Gate, Phase};
+use header_hash::data_hash;
 use intake::{Taken, take_in_one};
 use linking::{DecodedBlock, HashedBlock};
 use pieces::{Crew, Work, in_pieces_beside};
 use policy_eval::Verify;
 use std::alloc::{AllocError, Global};
 use std::thread::Threads;
-use values::{Bytes, Shared};
+use values::Hash;
 
 /// By what transactions are taken in: whose rules hold, who verifies signatures, and the gate that each transaction passes first.
 #[derive(Clone, Copy)]
@@ -59,11 +58,10 @@ fn take_piece<'a, V: Verify, G: Gate>(
     Ok(all)
 }
 
-/// A block, hashed, with a copy of its bytes, to be kept, and what was taken in of its items, in order.
+/// A block, hashed, and what was taken in of its items, in order.
 #[derive(Drop)]
 pub struct TakenIn<'a> {
     pub block: HashedBlock<'a>,
-    pub bytes: Shared<Bytes>,
     pub items: Vec<Taken<'a>>,
 }
 
@@ -85,50 +83,43 @@ fn joined<'a>(
     Ok(all)
 }
 
-// The block, whose hash and bytes these are, and what was taken in of it.
-fn taken_in<'a>(block: DecodedBlock<'a>, made: HashAndBytes, items: Vec<Taken<'a>>) -> TakenIn<'a>
-    requires { made.data_hash ≡ data_hash_of block.txs }
-    ensures block { result.block ≡ block.entry }
-    ensures bytes { result.bytes ≡ made.bytes }
-    ensures items { result.items.items ≡ items.entry.items }
+/// The data hash of a block's transactions.
+fn hash_of(block: &DecodedBlock<'_>) -> Hash
+    ensures { result ≡ data_hash_of block.now.txs }
 {
-    let HashAndBytes { data_hash, bytes } = made;
-    TakenIn {
-        block: block.with_data_hash(data_hash),
-        bytes,
-        items,
-    }
+    data_hash(block.txs())
 }
 
-/// Takes in all items of a block, and makes its data hash and a copy of its bytes, by the calling thread alone. Linear in its
-/// bytes and its signatures. An `Err` is want of memory alone.
+/// Takes in all items of a block, and hashes it, by the calling thread alone. Linear in its bytes and its signatures. An `Err` is
+/// want of memory alone.
 pub fn take_in_alone<'a, V: Verify, G: Gate>(
     alloc: Global,
     rules: &IntakeRules<'_, V, G>,
     block: DecodedBlock<'a>,
 ) -> Result<TakenIn<'a>, AllocError>
     ensures block { IfOk result (λ t. t.block ≡ block.entry) }
-    ensures bytes { IfOk result (λ t. t.bytes ≡ bytes_of block.entry) }
     ensures items { IfOk result (λ t. map shown t.items.items ≡ map (taken_of rules.now.channel.now (V.accepts rules.now.verifier.now)) (items_of block.entry)) }
 {
-    let made = hash_and_copy(alloc, &block)?;
+    let hash = hash_of(&block);
     let whole = Piece {
         version: block.version(),
         start: 0,
         txs: block.txs(),
     };
     let items = take_piece(alloc, rules, &whole)?;
-    Ok(taken_in(block, made, items))
+    Ok(TakenIn {
+        block: block.with_data_hash(hash),
+        items,
+    })
 }
 
-/// What the pieces of a block come to by a crew, whose calling thread first hashes and copies the whole block.
+/// What the pieces of a block come to by a crew, whose calling thread first hashes the whole block.
 fn made_by<'a, R: Threads + Sync, V: Verify + Sync, G: Gate + Sync>(
     crew: &Crew<'_, R>,
     rules: &IntakeRules<'_, V, G>,
     block: &DecodedBlock<'a>,
-) -> Result<(HashAndBytes, Vec<Taken<'a>>), AllocError>
-    ensures hash { IfOk result (λ r. r.0.data_hash ≡ data_hash_of block.now.txs) }
-    ensures bytes { IfOk result (λ r. r.0.bytes ≡ bytes_of block.now) }
+) -> Result<(Hash, Vec<Taken<'a>>), AllocError>
+    ensures hash { IfOk result (λ r. r.0 ≡ data_hash_of block.now.txs) }
     ensures items { IfOk result (λ r. map shown r.1.items ≡ map (taken_of rules.now.channel.now (V.accepts rules.now.verifier.now)) (items_of block.now)) }
 {
     let pieces = cut(crew.alloc, block.version(), block.txs())?;
@@ -138,34 +129,37 @@ fn made_by<'a, R: Threads + Sync, V: Verify + Sync, G: Gate + Sync>(
         alloc: crew.alloc,
         workers: crew.workers.min(pieces.len().saturating_add(1)),
     };
-    let (lists, made) = in_pieces_beside(
+    let (lists, hash) = in_pieces_beside(
         &useful,
         pieces.as_slice(),
         rules,
-        &mut || { hash_and_copy(crew.alloc, block) },
+        &mut || -> Hash
+            ensures { result ≡ data_hash_of block.entry.now.txs }
+        { hash_of(block) },
     );
-    let made = made?;
     let items = joined(crew.alloc, block.txs().len(), lists?)?;
-    Ok((made, items))
+    Ok((hash, items))
 }
 
 /// Takes a block in as [`take_in_alone`] does, by a crew.
 ///
-/// The calling thread hashes and copies the whole block, and then takes pieces in as the others do, who are threads; a piece has
-/// at most 32 transactions and, where it has more than one, at most 1 MiB of them. A thread that can't be started is done
-/// without. No more are started than there are pieces, and none for fewer than 16 transactions.
+/// The calling thread hashes the whole block, and then takes pieces in as the others do, who are threads; a piece has at most 32
+/// transactions and, where it has more than one, at most 1 MiB of them. A thread that can't be started is done without. No more
+/// are started than there are pieces, and none for fewer than 16 transactions.
 pub fn take_in<'a, R: Threads + Sync, V: Verify + Sync, G: Gate + Sync>(
     crew: &Crew<'_, R>,
     rules: &IntakeRules<'_, V, G>,
     block: DecodedBlock<'a>,
 ) -> Result<TakenIn<'a>, AllocError>
     ensures block { IfOk result (λ t. t.block ≡ block.entry) }
-    ensures bytes { IfOk result (λ t. t.bytes ≡ bytes_of block.entry) }
     ensures items { IfOk result (λ t. map shown t.items.items ≡ map (taken_of rules.now.channel.now (V.accepts rules.now.verifier.now)) (items_of block.entry)) }
 {
     if crew.workers == 1 || block.txs().len() < WORTH_A_THREAD {
         return take_in_alone(crew.alloc, rules, block);
     }
-    let (made, items) = made_by(crew, rules, &block)?;
-    Ok(taken_in(block, made, items))
+    let (hash, items) = made_by(crew, rules, &block)?;
+    Ok(TakenIn {
+        block: block.with_data_hash(hash),
+        items,
+    })
 }

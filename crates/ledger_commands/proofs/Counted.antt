@@ -11,6 +11,7 @@ use Rattle.rules.specs.declared.answer.Refused.{Refused}
 use Rattle.rules.specs.World.{World, height_of}
 use Rattle.reasons.specs.declared.reason.Reason.{Reason}
 use Rattle.conflicts.specs.Tally.{Tally, Counts}
+use Rattle.cli_values.specs.declared.format.Format.{Format}
 use Rattle.cli_lines.specs.ConflictLines.{IsReport}
 use Rattle.ledger.specs.NextReasons.{AreNextReasons}
 use Rattle.ledger_commands.specs.declared.conflict_counts.CountedLedger.{CountedLedger}
@@ -55,11 +56,11 @@ module _ (accepts : Accepts) where
         λ before h. subst (λ (l : List Reason). Counts l new.tally) (append_assoc before one.1 rest.0) (rest.2 (before ++ one.1) (one.6 before h)),
       )
 
-  pub told : (channel : Configuration) (w : World) (old : CountedLedger) (blocks : List (List ℕ)) (new : CountedLedger) (top : ℕ) (from to : Option (List ℕ))
+  pub told : (format : Format) (channel : Configuration) (w : World) (old : CountedLedger) (blocks : List (List ℕ)) (new : CountedLedger) (top : ℕ) (from to : Option (List ℕ))
       → old.ledger.channel ≡ channel → old.ledger.world ≡ w → Counts [] old.tally → AreTaken (CountedTakes accepts) old blocks new
-      → ((reasons : List Reason) → Counts reasons new.tally → (text : List ℕ) × IsReport reasons top text × Appends from to text)
-      → IsTold channel accepts old.from w blocks top from to
-  told channel w old blocks new top from to at_channel at_world none taken report =
+      → ((reasons : List Reason) → Counts reasons new.tally → (text : List ℕ) × IsReport format reasons top text × Appends from to text)
+      → IsTold format channel accepts old.from w blocks top from to
+  told format channel w old blocks new top from to at_channel at_world none taken report =
       let all = all_counted old blocks new taken in
       let said = report all.0 (all.2 [] none) in
       record {

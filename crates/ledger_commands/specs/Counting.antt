@@ -10,6 +10,7 @@ use Rattle.rules.specs.World.{World, height_of}
 use Rattle.reasons.specs.declared.reason.Reason.{Reason}
 use Rattle.conflicts.specs.Tally.{Counts}
 use Rattle.ledger.specs.NextReasons.{AreNextReasons}
+use Rattle.cli_values.specs.declared.format.Format.{Format}
 use Rattle.cli_lines.specs.ConflictLines.{IsReport}
 use Rattle.ledger_commands.specs.declared.conflict_counts.CountedLedger.{CountedLedger}
 
@@ -32,12 +33,12 @@ ReasonsOfAll channel accepts from w (bytes ∷ more) reasons new =
     × AreCounted channel accepts from w bytes answer first × ReasonsOfAll channel accepts from mid more rest new × (reasons ≡ first ++ rest)
 
 -- To an output that held before, if that is known, the report of these reasons was written.
-pub record IsTold (channel : Configuration) (accepts : Accepts) (from : ℕ) (w : World) (blocks : List (List ℕ)) (top : ℕ) (before now : Option (List ℕ)) : Type 0 where
+pub record IsTold (format : Format) (channel : Configuration) (accepts : Accepts) (from : ℕ) (w : World) (blocks : List (List ℕ)) (top : ℕ) (before now : Option (List ℕ)) : Type 0 where
   pub reasons : List Reason
   pub new : World
   pub of_all : ReasonsOfAll channel accepts from w blocks reasons new
   pub text : List ℕ
-  pub report : IsReport reasons top text
+  pub report : IsReport format reasons top text
   pub written : Appends before now text
 
 -- ---- a step between these and the code

@@ -16,6 +16,7 @@ use crate::buffered::finish;
 use crate::progress::Progress;
 use crate::question::{Taker, hand_in, status_of_refused};
 use cli_lines::write_report;
+use cli_values::Format;
 use cli_words::ConflictCounts;
 use command_files::{ACCEPTED, Configuration, Fault, Files, Inputs};
 use conflicts::{ChaincodeLine, Line, Tally};
@@ -99,10 +100,16 @@ impl Report {
         Ok(Report { keys, chaincodes })
     }
 
-    fn write<'a, W: Write>(&self, out: &mut W, tally: &Tally) -> Result<(), Fault<'a>>
-        ensures { OnOk result ((reasons : List Reason) → Counts reasons tally.now → Appends (W.contents out.old) (W.contents out.new) (report_text reasons self.now.keys self.now.chaincodes)) }
+    fn write<'a, W: Write>(
+        &self,
+        out: &mut W,
+        format: Format,
+        tally: &Tally,
+    ) -> Result<(), Fault<'a>>
+        ensures { OnOk result ((reasons : List Reason) → Counts reasons tally.now → Appends (W.contents out.old) (W.contents out.new) (report_text format reasons self.now.keys self.now.chaincodes)) }
     {
-        write_report(out, tally, self.keys.as_slice(), self.chaincodes.as_slice())?;
+        let (keys, chaincodes) = (self.keys.as_slice(), self.chaincodes.as_slice());
+        write_report(out, format, tally, keys, chaincodes)?;
         Ok(())
     }
 }
@@ -111,16 +118,17 @@ impl Report {
 fn write_counted<'a, W: Write>(
     alloc: Global,
     handed: Result<u8, Fault<'a>>,
+    format: Format,
     tally: &Tally,
     top: u16,
     out: &mut W,
 ) -> Result<u8, Fault<'a>>
     ensures handed { OnOk result (IsOk handed.entry) }
-    ensures report { OnOk result ((reasons : List Reason) → Counts reasons tally.now → (text : List ℕ) × IsReport reasons top text × Appends (W.contents out.old) (W.contents out.new) text) }
+    ensures report { OnOk result ((reasons : List Reason) → Counts reasons tally.now → (text : List ℕ) × IsReport format reasons top text × Appends (W.contents out.old) (W.contents out.new) text) }
 {
     let status = handed?;
     let report = Report::of(alloc, tally, top)?;
-    report.write(out, tally)?;
+    report.write(out, format, tally)?;
     Ok(status)
 }
 
@@ -132,7 +140,7 @@ fn count_in<'a, W: Write, P: Progress>(
     out: &mut W,
     progress: &mut P,
 ) -> Result<u8, Fault<'a>>
-    ensures { OnOk result (IsTold inputs.configuration.channel (accepts inputs.configuration.keys) words.now.from (empty_world inputs.configuration.channel.definitions) inputs.blocks.items words.now.top (W.contents out.old) (W.contents out.new)) }
+    ensures { OnOk result (IsTold words.now.paths.format inputs.configuration.channel (accepts inputs.configuration.keys) words.now.from (empty_world inputs.configuration.channel.definitions) inputs.blocks.items words.now.top (W.contents out.old) (W.contents out.new)) }
 {
     let Inputs {
         configuration,
@@ -145,7 +153,8 @@ fn count_in<'a, W: Write, P: Progress>(
         from: words.from,
     };
     let handed = hand_in(&mut counted, blocks, &keys, progress);
-    write_counted(alloc, handed, &counted.tally, words.top, out)
+    let format = words.paths.format;
+    write_counted(alloc, handed, format, &counted.tally, words.top, out)
 }
 
 /// Reads the files, hands the blocks in, one by one, and writes what made transactions invalid in those from a number

@@ -1,6 +1,7 @@
 use crate::progress::Progress;
 use crate::question::{Question, answer};
 use cli_lines::write_definition;
+use cli_values::Format;
 use cli_words::DefinitionQuery;
 use command_files::{Fault, Files};
 use std::alloc::Global;
@@ -17,9 +18,11 @@ impl Question for DefinitionOf {
         &self,
         alloc: Global,
         out: &mut W,
+        format: Format,
         world: &World,
     ) -> Result<(), Fault<'a>> {
-        Ok(write_definition(alloc, out, world.definitions().of(&self.0.lend()))?)
+        let policy = world.definitions().of(&self.0.lend());
+        Ok(write_definition(alloc, out, format, policy)?)
     }
 }
 

@@ -2,10 +2,11 @@ use crate::buffered::finish;
 use crate::progress::Progress;
 use crate::question::hand_in;
 use block::{Block, decode_block};
-use cli_lines::{Refusal, write_block, write_earlier, write_reason, write_refused};
-use cli_values::{WordFault, id_of};
-use cli_words::{Explain, Explained};
+use cli_lines::{ReasonLine, Refusal, write_block, write_earlier, write_reason, write_refused};
+use cli_values::{Format, WordFault, id_of};
+use cli_words::{Explain, Explained, Told};
 use command_files::{ACCEPTED, Configuration, Fault, Files, Inputs, REFUSED};
+use dot_lines::write_graph;
 use header_hash::header_hash;
 use key_book::KeyBook;
 use ledger::Ledger;
@@ -24,8 +25,8 @@ struct Selection<'a> {
     explained: Explained<'a>,
     /// What its word spells, where an id is asked for.
     id: Option<TxId>,
-    /// Whether lines end with the id.
-    ids: bool,
+    told: Told,
+    format: Format,
 }
 
 impl<'a> Selection<'a> {
@@ -38,8 +39,14 @@ impl<'a> Selection<'a> {
         Ok(Selection {
             explained: words.explained,
             id,
-            ids: words.ids,
+            told: words.told,
+            format: words.paths.format,
         })
+    }
+
+    // Whether lines end with the id.
+    fn shows_ids(&self) -> bool {
+        self.told == Told::Lines { ids: true }
     }
 
     // Whether it asks for the transaction at this place, which has this id.
@@ -67,7 +74,7 @@ fn ids_of(
     selection: &Selection<'_>,
 ) -> Result<Vec<Option<TxId>>, AllocError> {
     let mut ids = Vec::new(alloc);
-    if selection.ids || selection.id.is_some() {
+    if selection.shows_ids() || selection.id.is_some() {
         for bytes in block.txs.as_slice() {
             ids.push(id_in(alloc, block.version, bytes.as_slice())?)?;
         }
@@ -91,8 +98,13 @@ fn write_places<'a, W: Write>(
     for (place, reason) in reasons.iter().enumerate() {
         let id = id_at(ids, place);
         if selection.asks_for(place, &id) {
-            let shown = if selection.ids { id.as_ref() } else { None };
-            write_reason(alloc, out, number, place, reason, shown)?;
+            let shown = if selection.shows_ids() {
+                id.as_ref()
+            } else {
+                None
+            };
+            let line = ReasonLine::new(number, place, reason, shown);
+            write_reason(alloc, out, selection.format, &line)?;
         }
     }
     Ok(())
@@ -122,9 +134,10 @@ fn write_other<'a, W: Write>(
         (Explained::Place(place), _) => Err(Fault::NoTransaction(place)),
         (Explained::Id(word), None) => Err(Fault::UnknownId(word)),
         (_, first) => {
-            write_block(out, block.header.number, &header_hash(&block.header))?;
+            let header = &block.header;
+            write_block(out, selection.format, header.number, &header_hash(header))?;
             if let Some(first) = first {
-                write_earlier(out, &first)?;
+                write_earlier(out, selection.format, &first)?;
             }
             Ok(())
         }
@@ -145,7 +158,7 @@ fn write_reasons<'a, W: Write>(
         return write_other(out, world, block, selection);
     }
     let header = &block.header;
-    write_block(out, header.number, &header_hash(header))?;
+    write_block(out, selection.format, header.number, &header_hash(header))?;
     write_places(
         alloc,
         out,
@@ -156,12 +169,28 @@ fn write_reasons<'a, W: Write>(
     )
 }
 
+// The lines or the graph of a block with these reasons.
+fn write_told<'a, W: Write>(
+    alloc: Global,
+    out: &mut W,
+    world: &World,
+    block: &Block<'_>,
+    reasons: &[Reason],
+    selection: &Selection<'a>,
+) -> Result<(), Fault<'a>> {
+    match selection.told {
+        Told::Lines { .. } => write_reasons(alloc, out, world, block, reasons, selection),
+        Told::Graph { all } => Ok(write_graph(alloc, out, block.header.number, reasons, all)?),
+    }
+}
+
 fn write_no_reasons<'a, W: Write>(
     out: &mut W,
+    format: Format,
     place: usize,
     refused: Refused,
 ) -> Result<u8, Fault<'a>> {
-    write_refused(out, place, Refusal::of(refused)?)?;
+    write_refused(out, format, place, Refusal::of(refused)?)?;
     Ok(REFUSED)
 }
 
@@ -186,15 +215,18 @@ fn write_lines<'a, W: Write>(
 ) -> Result<u8, Fault<'a>> {
     let block = match decode_block(alloc, bytes) {
         Ok(block) => block,
-        Err(fault) => return write_no_reasons(out, last.place, Refused::Malformed(fault)),
+        Err(fault) => {
+            let refused = Refused::Malformed(fault);
+            return write_no_reasons(out, selection.format, last.place, refused);
+        }
     };
     match last.ledger.explain(bytes, last.keys) {
         Ok(reasons) => {
             let world = last.ledger.view();
-            write_reasons(alloc, out, world, &block, reasons.as_slice(), selection)?;
+            write_told(alloc, out, world, &block, reasons.as_slice(), selection)?;
             Ok(ACCEPTED)
         }
-        Err(refused) => write_no_reasons(out, last.place, refused),
+        Err(refused) => write_no_reasons(out, selection.format, last.place, refused),
     }
 }
 

@@ -1,6 +1,7 @@
 use crate::progress::Progress;
 use crate::question::{Question, answer};
-use cli_lines::write_row;
+use cli_lines::{write_absent, write_row};
+use cli_values::Format;
 use cli_words::{KeyedQuery, NamespacedKey};
 use command_files::{Fault, Files};
 use std::alloc::Global;
@@ -16,12 +17,13 @@ impl Question for RowOf {
         &self,
         alloc: Global,
         out: &mut W,
+        format: Format,
         world: &World,
     ) -> Result<(), Fault<'a>> {
         let key = self.0.key.lend();
         match world.row(&self.0.namespace.lend(), &key) {
-            Some(row) => Ok(write_row(alloc, out, key.as_slice(), row)?),
-            None => Ok(writeln!(out, "absent")?),
+            Some(row) => Ok(write_row(alloc, out, format, key.as_slice(), row)?),
+            None => Ok(write_absent(out, format)?),
         }
     }
 }

@@ -1,6 +1,7 @@
 use crate::progress::Progress;
 use crate::question::{Question, answer};
 use cli_lines::write_entry;
+use cli_values::Format;
 use cli_words::{KeyedQuery, NamespacedKey};
 use command_files::{Fault, Files};
 use std::alloc::Global;
@@ -16,10 +17,11 @@ impl Question for HistoryOf {
         &self,
         _alloc: Global,
         out: &mut W,
+        format: Format,
         world: &World,
     ) -> Result<(), Fault<'a>> {
         for entry in world.history(&self.0.namespace.lend(), &self.0.key.lend()) {
-            write_entry(out, &entry.entry()?)?;
+            write_entry(out, format, &entry.entry()?)?;
         }
         Ok(())
     }

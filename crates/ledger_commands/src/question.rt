@@ -5,6 +5,7 @@ ghost use Rattle.ledger_commands.specs.Handing.{AreTaken, LedgerTakes};
 use crate::buffered::finish;
 use crate::progress::Progress;
 use cli_lines::{Refusal, write_height};
+use cli_values::Format;
 use cli_words::LedgerPaths;
 use command_files::{ACCEPTED, Configuration, Fault, Files, Inputs, REFUSED};
 use key_book::KeyBook;
@@ -22,6 +23,7 @@ pub(crate) trait Question {
         &self,
         alloc: Global,
         out: &mut W,
+        format: Format,
         world: &World,
     ) -> Result<(), Fault<'a>>;
 }
@@ -93,22 +95,24 @@ pub(crate) fn hand_in<'a, T: Taker, P: Progress>(
 fn write_lines<'a, Q: Question, W: Write>(
     alloc: Global,
     out: &mut W,
+    format: Format,
     world: &World,
     question: &Q,
 ) -> Result<(), Fault<'a>> {
-    write_height(out, world.height())?;
-    question.write(alloc, out, world)
+    write_height(out, format, world.height())?;
+    question.write(alloc, out, format, world)
 }
 
 // Writes the lines through a buffer.
 fn write_through_buffer<'a, Q: Question, W: Write>(
     alloc: Global,
     out: &mut W,
+    format: Format,
     world: &World,
     question: &Q,
 ) -> Result<(), Fault<'a>> {
     let mut lines = BufWriter::new(alloc, out)?;
-    let ended = write_lines(alloc, &mut lines, world, question);
+    let ended = write_lines(alloc, &mut lines, format, world, question);
     finish(lines, ended)
 }
 
@@ -116,12 +120,13 @@ fn write_through_buffer<'a, Q: Question, W: Write>(
 fn write_answer<'a, Q: Question, W: Write>(
     alloc: Global,
     handed: Result<u8, Fault<'a>>,
+    format: Format,
     world: &World,
     question: &Q,
     out: &mut W,
 ) -> Result<u8, Fault<'a>> {
     let status = handed?;
-    write_through_buffer(alloc, out, world, question)?;
+    write_through_buffer(alloc, out, format, world, question)?;
     Ok(status)
 }
 
@@ -129,6 +134,7 @@ fn write_answer<'a, Q: Question, W: Write>(
 fn answer_from<'a, Q: Question, W: Write, P: Progress>(
     alloc: Global,
     inputs: Inputs,
+    format: Format,
     question: &Q,
     out: &mut W,
     progress: &mut P,
@@ -140,7 +146,7 @@ fn answer_from<'a, Q: Question, W: Write, P: Progress>(
     let Configuration { channel, keys } = configuration;
     let mut ledger = Ledger::open(alloc, channel);
     let handed = hand_in(&mut ledger, blocks, &keys, progress);
-    write_answer(alloc, handed, ledger.view(), question, out)
+    write_answer(alloc, handed, format, ledger.view(), question, out)
 }
 
 /// Reads the files, hands the blocks in, one by one, and writes what the ledger behind them answers. Returns what the
@@ -155,5 +161,5 @@ pub(crate) fn answer<'a, F: Files, Q: Question, W: Write, P: Progress>(
     progress: &mut P,
 ) -> Result<u8, Fault<'a>> {
     let inputs = Inputs::read(alloc, files, paths)?;
-    answer_from(alloc, inputs, question, out, progress)
+    answer_from(alloc, inputs, paths.format, question, out, progress)
 }

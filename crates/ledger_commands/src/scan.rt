@@ -1,7 +1,7 @@
 use crate::progress::Progress;
 use crate::question::{Question, answer};
-use cli_lines::write_row;
-use cli_values::{bytes_of, name_of};
+use cli_lines::{write_more, write_row};
+use cli_values::{Format, bytes_of, name_of};
 use cli_words::Scan;
 use command_files::{Fault, Files};
 use std::alloc::Global;
@@ -46,6 +46,7 @@ impl Question for RowsOf {
         &self,
         alloc: Global,
         out: &mut W,
+        format: Format,
         world: &World,
     ) -> Result<(), Fault<'a>> {
         let mut left = self.limit;
@@ -62,9 +63,9 @@ impl Question for RowsOf {
                 continue;
             }
             if left == 0 {
-                return Ok(writeln!(out, "more")?);
+                return Ok(write_more(out, format)?);
             }
-            write_row(alloc, out, key.as_slice(), keyed.row())?;
+            write_row(alloc, out, format, key.as_slice(), keyed.row())?;
             left -= 1;
         }
         Ok(())

@@ -14,7 +14,7 @@ use std::alloc::Global;
 use std::sync::Wait;
 use std::thread::Threads;
 use test_support::{Failed, check};
-use values::Bytes;
+use values::{Bytes, Shared};
 
 pub const KEYS: &str = "\
 Org1:client:c0 11
@@ -59,11 +59,11 @@ fn add_taken(
     keys: &KeyBook,
     version: BlockVersion,
     block: &UpdateBlock<'_>,
-    blocks: &mut Vec<Bytes>,
+    blocks: &mut Vec<Shared<Bytes>>,
 ) -> Result<(), Failed> {
     let bytes = next_block(alloc, keys, version, ledger.view(), block.script)?;
     check_taken(alloc, ledger, keys, &bytes, block)?;
-    Ok(blocks.push(bytes)?)
+    Ok(blocks.push(Shared::new(alloc, bytes)?)?)
 }
 
 fn add_all(
@@ -72,7 +72,7 @@ fn add_all(
     keys: &KeyBook,
     version: BlockVersion,
     chain: &UpdateChain<'_>,
-    blocks: &mut Vec<Bytes>,
+    blocks: &mut Vec<Shared<Bytes>>,
 ) -> Result<(), Failed> {
     check_definition(alloc, ledger, FIRST_POLICY)?;
     for block in chain.blocks {
@@ -86,7 +86,7 @@ fn add_by_ledger(
     keys: &KeyBook,
     version: BlockVersion,
     chain: &UpdateChain<'_>,
-    blocks: &mut Vec<Bytes>,
+    blocks: &mut Vec<Shared<Bytes>>,
 ) -> Result<(), Failed> {
     let mut ledger = ledger_with(alloc, chain.line)?;
     add_all(alloc, &mut ledger, keys, version, chain, blocks)
@@ -98,7 +98,7 @@ fn taken(
     keys: &KeyBook,
     version: BlockVersion,
     chain: &UpdateChain<'_>,
-) -> Result<Vec<Bytes>, Failed> {
+) -> Result<Vec<Shared<Bytes>>, Failed> {
     let mut blocks = Vec::new(alloc);
     add_by_ledger(alloc, keys, version, chain, &mut blocks)?;
     Ok(blocks)

@@ -11,7 +11,7 @@ use std::alloc::Global;
 use std::sync::Wait;
 use std::thread::Threads;
 use test_support::{Failed, check};
-use values::{Bytes, NameRef};
+use values::{Bytes, NameRef, Shared};
 
 /// The blocks of a chain, handed in one by one or at once.
 #[derive(Clone, Copy)]
@@ -19,7 +19,7 @@ pub struct UpdatedChain<'a> {
     way: Way,
     is_run: bool,
     keys: &'a KeyBook,
-    blocks: &'a [Bytes],
+    blocks: &'a [Shared<Bytes>],
     chain: &'a UpdateChain<'a>,
 }
 
@@ -55,11 +55,11 @@ impl UpdatedChain<'_> {
         rt: &R,
         alloc: Global,
         committer: &mut Committer,
-        bytes: &Bytes,
+        bytes: &Shared<Bytes>,
         block: &UpdateBlock<'_>,
     ) -> Result<(), Failed> {
         let block = Flagged {
-            bytes: bytes.as_slice(),
+            bytes: bytes.get().as_slice(),
             keys: self.keys,
             flags: block.flags,
         };
@@ -159,7 +159,7 @@ fn check_in_each<'a, R: Threads + Wait + Sync>(
     rt: &R,
     alloc: Global,
     keys: &'a KeyBook,
-    blocks: &'a [Bytes],
+    blocks: &'a [Shared<Bytes>],
     chain: &'a UpdateChain<'a>,
     is_run: bool,
 ) -> Result<(), Failed> {
@@ -181,7 +181,7 @@ pub fn check_in_all<R: Threads + Wait + Sync>(
     rt: &R,
     alloc: Global,
     keys: &KeyBook,
-    blocks: &[Bytes],
+    blocks: &[Shared<Bytes>],
     chain: &UpdateChain<'_>,
 ) -> Result<(), Failed> {
     check_in_each(rt, alloc, keys, blocks, chain, false)?;

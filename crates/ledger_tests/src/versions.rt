@@ -14,7 +14,7 @@ use std::alloc::Global;
 use std::sync::Wait;
 use std::thread::Threads;
 use test_support::{Failed, check};
-use values::Bytes;
+use values::{Bytes, Shared};
 
 // Behind the magic, the number, and the previous hash with its length.
 const DATA_HASH: usize = 45;
@@ -89,18 +89,18 @@ fn add_answered(
     ledger: &mut Ledger,
     keys: &KeyBook,
     one: &Handed,
-    blocks: &mut Vec<Bytes>,
+    blocks: &mut Vec<Shared<Bytes>>,
 ) -> Result<(), Failed> {
     let bytes = block_of(alloc, ledger, keys, one)?;
     check(is_answered(ledger, keys, &bytes, one))?;
-    Ok(blocks.push(bytes)?)
+    Ok(blocks.push(Shared::new(alloc, bytes)?)?)
 }
 
 fn add_all(
     alloc: Global,
     ledger: &mut Ledger,
     keys: &KeyBook,
-    blocks: &mut Vec<Bytes>,
+    blocks: &mut Vec<Shared<Bytes>>,
 ) -> Result<(), Failed> {
     for one in all_handed() {
         add_answered(alloc, ledger, keys, one, blocks)?;
@@ -108,13 +108,17 @@ fn add_all(
     check(ledger.view().height() == 3)
 }
 
-fn add_by_ledger(alloc: Global, keys: &KeyBook, blocks: &mut Vec<Bytes>) -> Result<(), Failed> {
+fn add_by_ledger(
+    alloc: Global,
+    keys: &KeyBook,
+    blocks: &mut Vec<Shared<Bytes>>,
+) -> Result<(), Failed> {
     let mut ledger = ledger_with(alloc, "")?;
     add_all(alloc, &mut ledger, keys, blocks)
 }
 
 // What is handed in, which a ledger has answered.
-fn answered(alloc: Global, keys: &KeyBook) -> Result<Vec<Bytes>, Failed> {
+fn answered(alloc: Global, keys: &KeyBook) -> Result<Vec<Shared<Bytes>>, Failed> {
     let mut blocks = Vec::new(alloc);
     add_by_ledger(alloc, keys, &mut blocks)?;
     Ok(blocks)
@@ -135,7 +139,7 @@ fn old_versions_by_one_thread(rt: HostRuntime) -> Result<(), Failed> {
 #[derive(Clone, Copy)]
 pub struct HandedIn<'a> {
     keys: &'a KeyBook,
-    blocks: &'a [Bytes],
+    blocks: &'a [Shared<Bytes>],
     is_run: bool,
 }
 
@@ -166,7 +170,7 @@ impl HandedIn<'_> {
         committer: &mut Committer,
     ) -> bool {
         for (bytes, one) in self.blocks.iter().zip(all_handed()) {
-            if refusal_of(rt, committer, bytes.as_slice(), self.keys) != not_committed(one) {
+            if refusal_of(rt, committer, bytes.get().as_slice(), self.keys) != not_committed(one) {
                 return false;
             }
         }
@@ -210,7 +214,7 @@ fn check_by_each<R: Threads + Wait + Sync>(
     rt: &R,
     alloc: Global,
     keys: &KeyBook,
-    blocks: &[Bytes],
+    blocks: &[Shared<Bytes>],
     is_run: bool,
 ) -> Result<(), Failed> {
     let blocks = HandedIn {

@@ -6,7 +6,7 @@ use commit::{Accepted, Refused};
 use rules::NewUse;
 use std::alloc::{AllocError, Global};
 use test_support::{Failed, Random, check};
-use values::Bytes;
+use values::{Bytes, Shared};
 
 #[derive(Drop)]
 pub struct Story {
@@ -14,7 +14,7 @@ pub struct Story {
     /// Its ledger stands behind the last block.
     pub drafter: Drafter,
     pub random: Random,
-    pub blocks: Vec<Bytes>,
+    pub blocks: Vec<Shared<Bytes>>,
     /// What the ledger answered to each.
     pub answers: Vec<Result<Accepted, Refused>>,
     /// The last block at random that wasn't spoiled.
@@ -47,14 +47,14 @@ impl Story {
     }
 
     /// The blocks from this number on.
-    pub fn blocks_from(&self, number: usize) -> &[Bytes] {
+    pub fn blocks_from(&self, number: usize) -> &[Shared<Bytes>] {
         self.blocks.get(number..).unwrap_or(&[])
     }
 
     /// The bytes of this block, or none.
     pub fn bytes(&self, number: usize) -> &[u8] {
         match self.blocks.get(number) {
-            Some(bytes) => bytes.as_slice(),
+            Some(bytes) => bytes.get().as_slice(),
             None => &[],
         }
     }
@@ -63,7 +63,7 @@ impl Story {
     pub fn add(&mut self, bytes: Bytes) -> Result<(), AllocError> {
         let answer = self.drafter.submit(&bytes);
         self.answers.push(answer)?;
-        self.blocks.push(bytes)?;
+        self.blocks.push(Shared::new(self.alloc, bytes)?)?;
         Ok(())
     }
 

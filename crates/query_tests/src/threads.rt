@@ -287,7 +287,7 @@ fn submit_all<R: Threads + Wait + Sync>(
     watched.wait_for_readers();
     let keys = story.drafter.keys();
     for bytes in story.blocks_from(0) {
-        last = Some(submit_next(rt, committer, keys, bytes.as_slice(), &Open)?);
+        last = Some(submit_next(rt, committer, keys, bytes.get().as_slice(), &Open)?);
         watched.wait_behind_block();
     }
     Ok(last)

@@ -1,15 +1,14 @@
 -- A listed verdict is on its request.
-use Rattle.std.proofs.Common.{◌≡◌, ℕ, ◌+◌, ◌-◌, ◌==◌, Bool, true, cond, ◌||◌, List, [], ◌∷◌, ◌++◌, length, take, drop, refl, sym, ap, ◌∙◌, arith}
-use Rattle.std.specs.Prelude.{◌&&◌, nat_le}
+use Rattle.std.proofs.Common.{◌≡◌, ℕ, ◌+◌, ◌==◌, Bool, ◌||◌, List, [], ◌∷◌, ◌++◌, length, refl, sym, ap, ◌∙◌}
+use Rattle.std.specs.Prelude.{◌&&◌}
 use Rattle.std.specs.List.{list_any}
 use Rattle.std.specs.Str.{bytes_eq}
-use Rattle.std.proofs.lemmas.Bool.{le-leb}
 use Rattle.std.proofs.lemmas.List.{length-append, append_assoc}
-use Rattle.std.proofs.Math.Seq.{drop-append_seam, take-append_seam}
 use Rattle.transaction.specs.Grammar.{role_byte}
 use Rattle.signature_requests.specs.declared.request.Request.{Request}
 use Rattle.verdicts.specs.declared.verdict.Verdict.{Verdict}
 use Rattle.verdicts.specs.Said.{piece, is_on, says}
+use Rattle.verdicts.proofs.Pieces.{cut}
 use Rattle.verdict_lists.specs.Listed.{pooled_bytes, pool_of, verdict_at, verdicts_from}
 
 -- whether a request asks what is asked
@@ -18,18 +17,6 @@ asks r asked =
     bytes_eq asked.signature r.signature
     && ((role_byte asked.identity.role == role_byte r.identity.role)
     && (bytes_eq asked.identity.org r.identity.org && (bytes_eq asked.identity.label r.identity.label && bytes_eq asked.message r.message)))
-
-both_true : (a b : Bool) → a ≡ true → b ≡ true → (a && b) ≡ true
-both_true a b p q = (λ i. p i && b) ∙ q
-
--- the piece between two lists is what stands there
-cut : (pool front x rest : List ℕ) (n : ℕ) → pool ≡ front ++ (x ++ rest) → n ≡ length front → piece pool (record { at = n; len = length x }) ≡ x
-cut pool front x rest n whole at =
-    let size : length pool ≡ length front + (length x + length rest) = ap length whole ∙ length-append front (x ++ rest) ∙ ap (λ m. length front + m) (length-append x rest) in
-    let inside : (nat_le n (length pool) && nat_le (length x) (length pool - n)) ≡ true =
-    both_true (nat_le n (length pool)) (nat_le (length x) (length pool - n)) (le-leb n (length pool) (omega (arith, size, at))) (le-leb (length x) (length pool - n) (omega (arith, size, at))) in
-    let behind : drop n pool ≡ x ++ rest = (λ i. drop (at i) (whole i)) ∙ drop-append_seam front (x ++ rest) in
-    ap (λ (b : Bool). cond b (take (length x) (drop n pool)) []) inside ∙ ap (take (length x)) behind ∙ take-append_seam x rest
 
 -- the four pieces of a request
 module _ (pool front rest : List ℕ) (n : ℕ) (r : Request) (b : Bool) (whole : pool ≡ front ++ (pooled_bytes r ++ rest)) (at : n ≡ length front) where

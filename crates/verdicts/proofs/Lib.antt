@@ -1,2 +1,3 @@
 mod Putting
 mod Worked
+pub mod Pieces

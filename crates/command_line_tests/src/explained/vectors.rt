@@ -202,6 +202,74 @@ block 6 8a789cd576e3ddbe999daa46eb5af17df3f7bdebd04de980e932642975fe60c5
 11 25 INVALID_CHAINCODE undefined parts
 ";
 
+pub(crate) fn objects() -> &'static str {
+    OBJECTS
+}
+
+static OBJECTS: &str = "\
+{\"kind\":\"block\",\"number\":6,\"hash\":\"8a789cd576e3ddbe999daa46eb5af17df3f7bdebd04de980e932642975fe60c5\"}
+{\"kind\":\"reason\",\"tx\":0,\"flag\":0,\"name\":\"VALID\"}
+{\"kind\":\"reason\",\"tx\":1,\"flag\":2,\"name\":\"BAD_PAYLOAD\"}
+{\"kind\":\"reason\",\"tx\":2,\"flag\":4,\"name\":\"BAD_CREATOR_SIGNATURE\",\"reason\":\"creator\",\"creator\":{\"org\":\"Org1\",\"role\":\"client\",\"label\":\"c0\"}}
+{\"kind\":\"reason\",\"tx\":3,\"flag\":6,\"name\":\"INVALID_CONFIG_TRANSACTION\",\"reason\":\"not-alone\"}
+{\"kind\":\"reason\",\"tx\":4,\"flag\":8,\"name\":\"BAD_PROPOSAL_TXID\",\"reason\":\"wanted\",\"wanted\":\"fc72a154647f39ba60c7503b7c2debd18c99608711ac5adadee2152d196b82d3\"}
+{\"kind\":\"reason\",\"tx\":5,\"flag\":9,\"name\":\"DUPLICATE_TXID\",\"reason\":\"used\",\"used\":{\"block\":0,\"tx\":0,\"flag\":0,\"name\":\"VALID\"}}
+{\"kind\":\"reason\",\"tx\":6,\"flag\":10,\"name\":\"ENDORSEMENT_POLICY_FAILURE\",\"reason\":\"key\",\"namespace\":\"cc\",\"key\":\"car2\",\"policy\":\"AND('Org1.peer','Org2.peer')\",\"signers\":[{\"org\":\"Org1\",\"role\":\"peer\",\"label\":\"p0\"}],\"missing\":\"Org2.peer\"}
+{\"kind\":\"reason\",\"tx\":7,\"flag\":11,\"name\":\"MVCC_READ_CONFLICT\",\"reason\":\"read\",\"namespace\":\"cc\",\"key\":\"car5\",\"was\":null,\"is\":{\"block\":6,\"tx\":0},\"by\":0}
+{\"kind\":\"reason\",\"tx\":8,\"flag\":12,\"name\":\"PHANTOM_READ_CONFLICT\",\"reason\":\"range\",\"namespace\":\"cc\",\"start\":\"car1\",\"end\":\"car9\",\"key\":\"car5\",\"was\":null,\"is\":{\"block\":6,\"tx\":0},\"extent\":\"all\",\"by\":0}
+{\"kind\":\"reason\",\"tx\":9,\"flag\":14,\"name\":\"TARGET_CHAIN_NOT_FOUND\",\"reason\":\"channel\",\"channel\":\"other\"}
+{\"kind\":\"reason\",\"tx\":10,\"flag\":22,\"name\":\"BAD_RWSET\",\"reason\":\"repeated\",\"namespace\":\"cc\",\"list\":\"reads\",\"key\":\"car2\"}
+{\"kind\":\"reason\",\"tx\":11,\"flag\":25,\"name\":\"INVALID_CHAINCODE\",\"reason\":\"undefined\",\"chaincode\":\"parts\"}
+";
+
+pub(crate) fn graph() -> &'static str {
+    GRAPH
+}
+
+static GRAPH: &str = "\
+digraph \"block 6\" {
+  rankdir=RL
+  node [fontname=\"sans-serif\", fontsize=12, style=filled]
+  edge [fontname=\"sans-serif\", fontsize=10]
+  t0 [label=\"0\\n0 VALID\", shape=ellipse, fillcolor=\"#dcefdc\"]
+  t5 [label=\"5\\n9 DUPLICATE_TXID\", shape=trapezium, fillcolor=\"#cfe2f7\"]
+  b0_0 [label=\"0 0\", shape=plain, style=\"\", fontsize=10]
+  t5 -> b0_0 [label=\"id\"]
+  t7 [label=\"7\\n11 MVCC_READ_CONFLICT\", shape=octagon, fillcolor=\"#f8c9c4\"]
+  t7 -> t0 [label=\"cc car5\"]
+  t8 [label=\"8\\n12 PHANTOM_READ_CONFLICT\", shape=hexagon, fillcolor=\"#e3cdf2\"]
+  t8 -> t0 [label=\"cc car5\"]
+}
+";
+
+pub(crate) fn whole_graph() -> &'static str {
+    WHOLE_GRAPH
+}
+
+static WHOLE_GRAPH: &str = "\
+digraph \"block 6\" {
+  rankdir=RL
+  node [fontname=\"sans-serif\", fontsize=12, style=filled]
+  edge [fontname=\"sans-serif\", fontsize=10]
+  t0 [label=\"0\\n0 VALID\", shape=ellipse, fillcolor=\"#dcefdc\"]
+  t1 [label=\"1\\n2 BAD_PAYLOAD\", shape=box, fillcolor=\"#e6e6e6\"]
+  t2 [label=\"2\\n4 BAD_CREATOR_SIGNATURE\", shape=box, fillcolor=\"#e6e6e6\"]
+  t3 [label=\"3\\n6 INVALID_CONFIG_TRANSACTION\", shape=box, fillcolor=\"#e6e6e6\"]
+  t4 [label=\"4\\n8 BAD_PROPOSAL_TXID\", shape=box, fillcolor=\"#e6e6e6\"]
+  t5 [label=\"5\\n9 DUPLICATE_TXID\", shape=trapezium, fillcolor=\"#cfe2f7\"]
+  b0_0 [label=\"0 0\", shape=plain, style=\"\", fontsize=10]
+  t5 -> b0_0 [label=\"id\"]
+  t6 [label=\"6\\n10 ENDORSEMENT_POLICY_FAILURE\", shape=house, fillcolor=\"#fbe3b6\"]
+  t7 [label=\"7\\n11 MVCC_READ_CONFLICT\", shape=octagon, fillcolor=\"#f8c9c4\"]
+  t7 -> t0 [label=\"cc car5\"]
+  t8 [label=\"8\\n12 PHANTOM_READ_CONFLICT\", shape=hexagon, fillcolor=\"#e3cdf2\"]
+  t8 -> t0 [label=\"cc car5\"]
+  t9 [label=\"9\\n14 TARGET_CHAIN_NOT_FOUND\", shape=box, fillcolor=\"#e6e6e6\"]
+  t10 [label=\"10\\n22 BAD_RWSET\", shape=box, fillcolor=\"#e6e6e6\"]
+  t11 [label=\"11\\n25 INVALID_CHAINCODE\", shape=box, fillcolor=\"#e6e6e6\"]
+}
+";
+
 pub(crate) fn counts() -> &'static str {
     COUNTS
 }

@@ -5,4 +5,4 @@ use Rattle.cli_lines.specs.ConflictLines.{chaincode_line}
 use Rattle.cli_lines.proofs.conflict_lines.write_chaincodes.Given as goal
 
 abbrev pub invariant-loop-line : goal.invariant-loop-line
-invariant-loop-line g l = Appends (g.W.Write.contents l.fn.out) (g.W.Write.contents l.out) (flat_map chaincode_line (take l.line-index l.lines))
+invariant-loop-line g l = Appends (g.W.Write.contents l.fn.out) (g.W.Write.contents l.out) (flat_map (chaincode_line l.format) (take l.line-index l.lines))

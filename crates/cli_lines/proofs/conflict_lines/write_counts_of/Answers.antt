@@ -12,8 +12,8 @@ loop-flag-preserved g c = λ reasons counts.
     let flags = c.args.flags.now in
     let flag = get_or flags i Valid in
     then_whole (g.W.Write.contents c.args.out.now) (g.W.Write.contents c.loop-flag.out) (g.W.Write.contents c.write_counted.new.out)
-    (lines_of reasons (take i flags)) (counted_line reasons flag) (lines_of reasons (take (i + 1) flags))
+    (lines_of c.args.format reasons (take i flags)) (counted_line c.args.format reasons flag) (lines_of c.args.format reasons (take (i + 1) flags))
     (c.loop-flag.invariant reasons counts) (c.in_ok-write_counted.ensures reasons counts)
-    (ap (λ l. lines_of reasons (take i flags) ++ l) (sym (append-nil (counted_line reasons flag)))
-    ∙ sym (flat_map-append (counted_line reasons) (take i flags) (flag ∷ []))
-    ∙ ap (lines_of reasons) (sym (take_more flags i Valid c.loop-flag-test.true)))
+    (ap (λ l. lines_of c.args.format reasons (take i flags) ++ l) (sym (append-nil (counted_line c.args.format reasons flag)))
+    ∙ sym (flat_map-append (counted_line c.args.format reasons) (take i flags) (flag ∷ []))
+    ∙ ap (lines_of c.args.format reasons) (sym (take_more flags i Valid c.loop-flag-test.true)))

@@ -7,4 +7,4 @@ use Rattle.cli_lines.proofs.conflict_lines.write_counts_of.Given as goal
 
 abbrev pub invariant-loop-flag : goal.invariant-loop-flag
 invariant-loop-flag g l = (reasons : List Reason) → Counts reasons l.tally
-    → Appends (g.W.Write.contents l.fn.out) (g.W.Write.contents l.out) (lines_of reasons (take l.flag-index l.flags))
+    → Appends (g.W.Write.contents l.fn.out) (g.W.Write.contents l.out) (lines_of l.format reasons (take l.flag-index l.flags))

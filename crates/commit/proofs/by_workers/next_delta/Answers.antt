@@ -1,7 +1,6 @@
 use Rattle.std.proofs.Common.{◌≤◌, length, sym, ap, subst, ◌∙◌}
 use Rattle.std.proofs.lemmas.Result.{MatchResult-weaker}
 use Rattle.block.specs.declared.block.Block.{Block}
-use Rattle.block.specs.Grammar.{bytes_of}
 use Rattle.block.specs.Limits.{max_txs}
 use Rattle.next_block.proofs.NextDeltas.{count-job, is_next}
 use Rattle.next_block.proofs.Taken.{as_many, few, few-tentative}
@@ -52,6 +51,6 @@ returns g c =
     subst (λ (x : Block). IsTaken channel accepts bytes x prepared.taken) (sym next.0) prepared.is_taken in
     let marked = c.in_ok-key_writers.ensures in
     MatchResult-weaker c.checked_delta-delta.result c.checked_delta-delta.ensures
-    (λ r delta. is_next channel accepts w bytes c.args.prepared.bytes b c.job_over-job.result c.as_slice.result.now c.commit_hash.result r.0 (prepared.kept ∙ (ap bytes_of (sym next.0) ∙ sym is.spelled.fields)) is.spelled next.1
+    (λ r delta. is_next channel accepts w bytes c.args.prepared.bytes b c.job_over-job.result c.as_slice.result.now c.commit_hash.result r.0 prepared.kept is.spelled next.1
     (c.job_over-job.ensures ∙ marked.job channel prepared.taken prepared.tentative c.requires.names accepts (items_of b) is.taken) (c.as_slice.ensures.value ∙ marked.ids channel prepared.taken prepared.tentative accepts (items_of b) is.taken) c.commit_hash.ensures delta)
     (λ refused memory. subst (λ (r : Refused). IsRefused w bytes r) (sym memory) tt)

@@ -1,5 +1,5 @@
-use Rattle.std.proofs.Common.{Bool, List, ℕ, subst, arith, ◌∙◌}
-use Rattle.commit.specs.Running.{committing, SubmitsTo}
+use Rattle.std.proofs.Common.{Bool, subst, arith, ◌∙◌}
+use Rattle.commit.specs.Running.{committing}
 use Rattle.commit.proofs.Telling.{IsRun-more, IsEndedRun-at}
 use Rattle.commit.proofs.running.commit_in_turn.Goals as goal
 
@@ -11,10 +11,9 @@ returns-then-not-commit_next-clause-told g c =
     let step = c.commit_next.ensures.submits in
     let old_run = c.loop-bytes.run in
     let new_run = c.commit_next.new.self in
-    let submits = subst (λ (b : List ℕ). SubmitsTo channel accepts old_run.published.now b step.0 new_run.published.now) c.as_slice.ensures step.1 in
     let ends = subst (λ (asks : Bool). goal.F-step g old_run.tell.now step.0 asks new_run.tell.now) c.if-not-commit_next.true step.2 in
     IsEndedRun-at (goal.F-step g) accepts (committing channel c.args.run.now.published.now) (committing channel old_run.published.now) (committing channel new_run.published.now) c.args.blocks.now c.loop-bytes.bytes-index item c.args.run.now.tell.now old_run.tell.now new_run.tell.now step.0
-    (omega (arith, c.loop-bytes-test.true)) c.bytes-item.is c.loop-bytes.invariant.run submits ends
+    (omega (arith, c.loop-bytes-test.true)) c.bytes-item.is c.loop-bytes.invariant.run step.1 ends
 
 pub loop-bytes-preserved : goal.loop-bytes-preserved
 loop-bytes-preserved g c =
@@ -25,11 +24,10 @@ loop-bytes-preserved g c =
     let step = c.commit_next.ensures.submits in
     let old_run = c.loop-bytes.run in
     let new_run = c.commit_next.new.self in
-    let submits = subst (λ (b : List ℕ). SubmitsTo channel accepts old_run.published.now b step.0 new_run.published.now) c.as_slice.ensures step.1 in
     let asks = subst (λ (asks : Bool). goal.F-step g old_run.tell.now step.0 asks new_run.tell.now) c.if-not-commit_next.false step.2 in
     record {
       run = IsRun-more (goal.F-step g) accepts (committing channel c.args.run.now.published.now) (committing channel old_run.published.now) (committing channel new_run.published.now) c.args.blocks.now c.loop-bytes.bytes-index item c.args.run.now.tell.now old_run.tell.now new_run.tell.now step.0
-          (omega (arith, c.loop-bytes-test.true)) c.bytes-item.is before.run submits asks;
+          (omega (arith, c.loop-bytes-test.true)) c.bytes-item.is before.run step.1 asks;
       belongs = c.commit_next.ensures.belongs;
       callable = c.commit_next.ensures.callable;
       lent = c.commit_next.ensures.lent ∙ before.lent;

@@ -1,4 +1,4 @@
-use Rattle.std.proofs.Common.{Bool, List, ℕ, ◌+◌, ◌∙◌, ap, sym, subst, arith, slice_index_or}
+use Rattle.std.proofs.Common.{Bool, ◌+◌, ◌∙◌, ap, sym, subst, arith, slice_index_or}
 use Rattle.std.proofs.lemmas.Result.{IfOk-weaker}
 use Rattle.channel.specs.Configuration.{Configuration}
 use Rattle.commit.specs.Prepared.{MayBeTakenIn}
@@ -18,11 +18,10 @@ commit_next-requires-clause-waits g c κs within w =
     let alone = c.alone-alone in
     let item = c.bytes-item.result in
     let at = c.bytes-item.is ∙ (λ i. slice_index_or (sym before.blocks i) (sym before.taken i) item) in
-    waits alone.result.channel.now (accepts alone.result.verifier.now) c.as_slice.result.now c.next.result c.ok-next.result w c.ok-next.ensures.value
+    waits alone.result.channel.now (accepts alone.result.verifier.now) item c.next.result c.ok-next.result w c.ok-next.ensures.value
     (IfOk-weaker c.next.result _ _
-    (λ taken made. subst (λ (b : List ℕ). MayBeTakenIn alone.result.channel.now (accepts alone.result.verifier.now) b taken) (sym c.as_slice.ensures)
-    (subst (λ x. x) (λ i. MayBeTakenIn (sym alone.ensures.channel i) (accepts (sym alone.ensures.verifier i)) item taken)
-    (subst (λ context. MayBeTakenIn context.channel.now (accepts context.verifier.now) item taken) before.context (made.1 item at))))
+    (λ taken made. subst (λ x. x) (λ i. MayBeTakenIn (sym alone.ensures.channel i) (accepts (sym alone.ensures.verifier i)) item taken)
+    (subst (λ context. MayBeTakenIn context.channel.now (accepts context.verifier.now) item taken) before.context (made.1 item at)))
     c.next.ensures.made)
 
 pub returns-then-not-commit_next-clause-told : goal.returns-then-not-commit_next-clause-told
@@ -34,7 +33,7 @@ returns-then-not-commit_next-clause-told g c =
     let step = c.commit_next.ensures.submits in
     let old_run = c.loop-bytes.run in
     let new_run = c.commit_next.new.self in
-    let submits = subst (λ x. x) (λ i. SubmitsTo (alone.ensures.channel i) (accepts (alone.ensures.verifier i)) old_run.published.now (c.as_slice.ensures i) step.0 new_run.published.now) step.1 in
+    let submits = subst (λ x. x) (λ i. SubmitsTo (alone.ensures.channel i) (accepts (alone.ensures.verifier i)) old_run.published.now item step.0 new_run.published.now) step.1 in
     let ends = subst (λ (asks : Bool). goal.F-step g old_run.tell.now step.0 asks new_run.tell.now) c.if-not-commit_next.true step.2 in
     IsEndedRun-at (goal.F-step g) (accepts c.args.context.now.verifier.now) (committing channel c.args.run.now.published.now) (committing channel old_run.published.now) (committing channel new_run.published.now) c.args.blocks.now c.loop-bytes.bytes-index item c.args.run.now.tell.now old_run.tell.now new_run.tell.now step.0
     (omega (arith, c.loop-bytes-test.true)) c.bytes-item.is c.loop-bytes.invariant.run submits ends
@@ -53,7 +52,7 @@ loop-bytes-preserved g c =
     let step = c.commit_next.ensures.submits in
     let old_run = c.loop-bytes.run in
     let new_run = c.commit_next.new.self in
-    let submits = subst (λ x. x) (λ i. SubmitsTo (alone.ensures.channel i) (accepts (alone.ensures.verifier i)) old_run.published.now (c.as_slice.ensures i) step.0 new_run.published.now) step.1 in
+    let submits = subst (λ x. x) (λ i. SubmitsTo (alone.ensures.channel i) (accepts (alone.ensures.verifier i)) old_run.published.now item step.0 new_run.published.now) step.1 in
     let asks = subst (λ (asks : Bool). goal.F-step g old_run.tell.now step.0 asks new_run.tell.now) c.if-not-commit_next.false step.2 in
     record {
       run = IsRun-more (goal.F-step g) (accepts c.args.context.now.verifier.now) (committing channel c.args.run.now.published.now) (committing channel old_run.published.now) (committing channel new_run.published.now) c.args.blocks.now c.loop-bytes.bytes-index item c.args.run.now.tell.now old_run.tell.now new_run.tell.now step.0

@@ -21,7 +21,7 @@ returns g c =
     let after = g.W.Write.contents c.write_counted.new.out in
     let old : CountedLedger = record { ledger = c.open.result; tally = c.new.result; from = c.args.words.now.from } in
     let new = c.hand_in-handed.new.taker in
-    both (IsOk c.hand_in-handed.result) ((reasons : List Reason) → Counts reasons new.tally → (text : List ℕ) × IsReport reasons top text × Appends before after text)
-    (IsTold channel accepting old.from (empty_world channel.definitions) _ top before after) c.write_counted.result c.write_counted.ensures.handed c.write_counted.ensures.report
-    (λ ok report. told accepting channel (empty_world channel.definitions) old _ new top before after c.open.ensures.channel c.open.ensures.world c.new.ensures
+    both (IsOk c.hand_in-handed.result) ((reasons : List Reason) → Counts reasons new.tally → (text : List ℕ) × IsReport c.args.words.now.paths.format reasons top text × Appends before after text)
+    (IsTold c.args.words.now.paths.format channel accepting old.from (empty_world channel.definitions) _ top before after) c.write_counted.result c.write_counted.ensures.handed c.write_counted.ensures.report
+    (λ ok report. told accepting c.args.words.now.paths.format channel (empty_world channel.definitions) old _ new top before after c.open.ensures.channel c.open.ensures.world c.new.ensures
     (where_ok (AreTaken (CountedTakes accepting) old _ new) c.hand_in-handed.result ok c.hand_in-handed.ensures) report)

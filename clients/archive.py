@@ -1,0 +1,57 @@
+"""The static library, proved and built over the libraries that `rt ci` has left, or else by `rt lib`."""
+import pathlib
+import subprocess
+import sys
+
+TOP = pathlib.Path(__file__).resolve().parent.parent
+sys.path.append(str(TOP / "launch"))
+
+import sources
+
+CRATE = "fabcommit_c"
+ARCHIVE = TOP / "crates" / CRATE / "out" / f"lib{CRATE}.a"
+
+
+def library(name):
+    return TOP / "crates" / name / "out" / "rlib" / f"{name}.rlib"
+
+
+def newest_source(crates):
+    files = (file for name in crates for part in ("src", "specs", "proofs") for file in (TOP / "crates" / name / part).rglob("*"))
+    return max(file.stat().st_mtime for file in files)
+
+
+def build(kit, crates):
+    """The prover's own call, over libraries that are there."""
+    words = [kit / "bin" / "rattle", "build", "--crate-name", CRATE, "--crate-type", "staticlib", "src/lib.rt"]
+    for name in sources.of_kit(CRATE, crates):
+        words += ["--extern", f"{name}={kit}/rlibs/{name}.rlib"]
+    words += ["-L", f"dependency={kit}/rlibs"]
+    for name in crates[CRATE]:
+        if name in crates:
+            words += ["--extern", f"{name}={library(name)}"]
+    for name in sources.all_below(CRATE, crates):
+        words += ["-L", f"dependency={library(name).parent}"]
+    words += ["--antt-project", kit / "rattle" / "logic" / "antt-project.json", "--logic-built", kit / "logic_built"]
+    words += ["--jobs", "2", "--links", f"{CRATE}=", "--toolchain", kit / "toolchain", "-o", ARCHIVE]
+    ARCHIVE.parent.mkdir(exist_ok=True)
+    built = subprocess.run([str(word) for word in words], cwd=TOP / "crates" / CRATE, capture_output=True, text=True)
+    if built.returncode:
+        sys.exit(f"archive: {CRATE} isn't built:\n{(built.stdout + built.stderr)[-3000:]}")
+
+
+def missing():
+    """The libraries below the crate that `rt ci` hasn't left."""
+    return [name for name in sources.all_below(CRATE, sources.crates_below(CRATE)) if not library(name).exists()]
+
+
+def archives():
+    """That of the crate, which is built unless it is newer than all sources, and the kit's, by which it allocates."""
+    kit, crates = sources.kit(), sources.crates_below(CRATE)
+    if not ARCHIVE.exists() or ARCHIVE.stat().st_mtime < newest_source(crates):
+        print("archive: builds the library", flush=True)
+        if not missing():
+            build(kit, crates)
+        elif subprocess.run(["rt", "lib"], cwd=TOP / "crates" / CRATE, stdout=subprocess.DEVNULL).returncode:
+            sys.exit(f"archive: rt lib doesn't build {CRATE}")
+    return [ARCHIVE, kit / "c" / "liblibc_c.a"]

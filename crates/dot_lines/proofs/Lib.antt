@@ -1,0 +1,3 @@
+mod Marking
+mod Quoting
+mod Worked

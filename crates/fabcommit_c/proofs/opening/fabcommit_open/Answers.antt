@@ -1,5 +1,0 @@
-use Rattle.fabcommit_c.proofs.Refusing.{not_opened}
-use Rattle.fabcommit_c.proofs.opening.fabcommit_open.Goals as goal
-
-pub returns-in-Err-clause-opened : goal.returns-in-Err-clause-opened
-returns-in-Err-clause-opened c = λ ok. absurd (not_opened c.args.channel.now c.args.keys.now c.in-Err.code c.in-Err.ensures.code ok)

@@ -1,0 +1,3 @@
+mod Pieces
+mod AllSaid
+mod Worked
