@@ -297,7 +297,6 @@ class EachWord:
         for names in ("b0 b1", last):
             yield row(names)
             yield row(names, ids=True)
-            yield self.as_objects(names)
         # one place, also of bytes that are no transaction, and none
         yield row("b0 b1", 22)
         yield row("b0 b1", 0, ids=True)
@@ -308,7 +307,6 @@ class EachWord:
         yield row("b0 b1", id=id_of("n5"), ids=True)
         yield row("b0 b1", id=id_of("n1"))
         yield row("b0 b1", id=ODD_WORD)
-        yield self.as_objects("b0 b1", id=ODD_WORD, ids=True)
         yield row("b0 b1", id=OTHER_WORD, ids=True)
         yield row("b0", id=id_of("n1"))
         yield row(last, id=id_of("n25"), ids=True)
@@ -316,7 +314,6 @@ class EachWord:
         for nonce in ("n1", "n2", "n6"):
             yield row(last, id=id_of(nonce))
         yield row(last, id=id_of("n6"), ids=True)
-        yield self.as_objects(last, id=id_of("n6"))
         # ids that came and weren't used, one of a refused block, and one that never came
         yield row(last, id=tx_id(b"n3", identity("Org1:peer:p1")).decode())
         yield row(last, id=OTHER_WORD)
@@ -329,26 +326,39 @@ class EachWord:
         yield row("b0 k b1", id=id_of("n2"))
         yield row("b0 b0 b1 b2", id=id_of("n2"))
 
+    def object_rows(self):
+        yield self.as_objects("b0 b1")
+        yield self.as_objects("b0 b1 b2")
+        yield self.as_objects("b0 b1", id=ODD_WORD, ids=True)
+        yield self.as_objects("b0 b1 b2", id=id_of("n6"))
+
 
 def rust_row(words, status, out, err):
     lines = rust_lines(out) if out.count("\n") > 1 else rust_text(out)
     return rust_text(words), str(status), lines, rust_text(err)
 
 
+def rust_table(name, comment, rows):
+    rows = [rust_row(*row) for row in rows]
+    yield f"/// {comment}"
+    yield f"pub(crate) fn {name}() -> &'static [Row<'static>] {{\n    &{name.upper()}\n}}\n"
+    yield f"static {name.upper()}: [Row<'static>; {len(rows)}] = ["
+    yield from rust_tuples(rows)
+
+
 def rust_each_word():
     chain = EachWord()
     chain.check()
-    rows = [rust_row(*row) for row in chain.rows()]
     yield "//! A chain that has each word of a reason, and what is answered of it, made by vectors/explained.py.\n"
     yield "use crate::fixture::Row;\n"
     yield from rust_bytes("channel", GATES.encode())
     yield from rust_bytes("keys", KEYS.encode())
     for name, place in (("first", "b0"), ("second", "b1"), ("third", "b2")):
         yield from rust_bytes(f"{name}_block", chain.files[place])
-    yield "/// Words behind those of the channel and the keys."
-    yield "pub(crate) fn answers() -> &'static [Row<'static>] {\n    &ANSWERS\n}\n"
-    yield f"static ANSWERS: [Row<'static>; {len(rows)}] = ["
-    yield from rust_tuples(rows)
+    yield from rust_table("answers", "Words behind those of the channel and the keys.", chain.rows())
+    yield "];\n"
+    # a table of its own, since a proof reads each whole
+    yield from rust_table("objects", "Words that ask for objects.", chain.object_rows())
     yield "];"
 
 
