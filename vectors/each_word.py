@@ -344,6 +344,14 @@ def rust_table(name, comment, rows):
     yield f"pub(crate) fn {name}() -> &'static [Row<'static>] {{\n    &{name.upper()}\n}}\n"
     yield f"static {name.upper()}: [Row<'static>; {len(rows)}] = ["
     yield from rust_tuples(rows)
+    yield "];"
+
+
+# a file of its own, since a proof reads a table whole
+def rust_objects():
+    yield "//! What is answered of that chain in objects, made by vectors/explained.py.\n"
+    yield "use crate::fixture::Row;\n"
+    yield from rust_table("objects", "Words behind those of the channel and the keys.", EachWord().object_rows())
 
 
 def rust_each_word():
@@ -356,11 +364,8 @@ def rust_each_word():
     for name, place in (("first", "b0"), ("second", "b1"), ("third", "b2")):
         yield from rust_bytes(f"{name}_block", chain.files[place])
     yield from rust_table("answers", "Words behind those of the channel and the keys.", chain.rows())
-    yield "];\n"
-    # a table of its own, since a proof reads each whole
-    yield from rust_table("objects", "Words that ask for objects.", chain.object_rows())
-    yield "];"
 
 
 def files():
     yield "vectors.rt", rust_file(rust_each_word())
+    yield "objects.rt", rust_file(rust_objects())

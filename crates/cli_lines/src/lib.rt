@@ -11,13 +11,15 @@ mod members;
 mod reason_lines;
 mod refusal;
 mod row_lines;
+mod signers;
 
 pub use block_lines::{write_accepted, write_block, write_commit, write_hash, write_refused};
 pub use conflict_lines::write_report;
 pub use flag_name::name_of;
 pub use line_fault::LineFault;
-pub use reason_lines::{ReasonLine, write_earlier, write_identity, write_reason};
+pub use reason_lines::{ReasonLine, write_earlier, write_reason};
 pub use refusal::Refusal;
 pub use row_lines::{
     write_absent, write_definition, write_entry, write_height, write_more, write_reader, write_row,
 };
+pub use signers::write_identity;

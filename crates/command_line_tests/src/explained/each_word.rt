@@ -1,12 +1,14 @@
 //! A chain whose last two blocks have each word of a reason, and ids that are asked for.
 
+use crate::explained::each_word::objects::objects;
 use crate::explained::each_word::vectors::{
-    answers, channel, first_block, keys, objects, second_block, third_block,
+    answers, channel, first_block, keys, second_block, third_block,
 };
 use crate::files::{File, MemoryFiles};
 use crate::fixture::unlike;
 use std::alloc::AllocError;
 
+mod objects;
 mod vectors;
 
 fn files() -> [File<'static>; 5] {
