@@ -14,9 +14,9 @@ use transaction::{
 };
 use values::{Name, NameRef, Slice};
 
-// What transactions and updates have alike.
+// What a transaction and an update have alike: all fields but what they change.
 #[derive(Clone, Copy)]
-struct Parts<'i, 'a> {
+struct Envelope<'i, 'a> {
     channel: &'i NameRef<'a>,
     id: &'i TxId,
     creator: &'i Identity<'a>,
@@ -25,9 +25,9 @@ struct Parts<'i, 'a> {
     signature: &'i Slice<'a>,
 }
 
-fn parts_of<'i, 'a>(item: &'i Item<'a>) -> Parts<'i, 'a> {
+fn envelope_of<'i, 'a>(item: &'i Item<'a>) -> Envelope<'i, 'a> {
     match item {
-        Item::Tx(tx) => Parts {
+        Item::Tx(tx) => Envelope {
             channel: &tx.channel,
             id: &tx.id,
             creator: &tx.creator,
@@ -35,7 +35,7 @@ fn parts_of<'i, 'a>(item: &'i Item<'a>) -> Parts<'i, 'a> {
             endorsements: tx.endorsements.as_slice(),
             signature: &tx.signature,
         },
-        Item::Update(update) => Parts {
+        Item::Update(update) => Envelope {
             channel: &update.channel,
             id: &update.id,
             creator: &update.creator,
@@ -133,15 +133,15 @@ fn write_text_reasons<W: Write>(out: &mut W, item: &Item<'_>) -> io::Result<()> 
 fn write_opening_reasons<W: Write>(
     out: &mut W,
     channel: &Name,
-    parts: &Parts<'_, '_>,
+    envelope: &Envelope<'_, '_>,
     creator: &[u8],
 ) -> io::Result<()> {
-    if parts.channel.as_slice() != channel.as_slice() {
-        let other = Word(parts.channel.as_slice());
+    if envelope.channel.as_slice() != channel.as_slice() {
+        let other = Word(envelope.channel.as_slice());
         writeln!(out, "# raw, for it is of channel {other}")?;
     }
-    let id = tx_id(parts.nonce.as_slice(), creator);
-    if id.as_slice() != parts.id.as_slice() {
+    let id = tx_id(envelope.nonce.as_slice(), creator);
+    if id.as_slice() != envelope.id.as_slice() {
         let id = Word(&id);
         writeln!(out, "# raw, for its nonce and creator give the id {id}")?;
     }
@@ -158,11 +158,11 @@ pub(crate) fn write_raw_reasons<W: Write>(
 ) -> Result<(), LineFault> {
     let Signing { channel, keys } = *signing;
     let item = spelled.item();
-    let parts = parts_of(item);
-    write_opening_reasons(out, channel, &parts, spelled.creator_bytes())?;
+    let envelope = envelope_of(item);
+    write_opening_reasons(out, channel, &envelope, spelled.creator_bytes())?;
     write_text_reasons(out, item)?;
-    write_endorser_reasons(alloc, out, keys, spelled.body(), parts.endorsements)?;
-    let (message, signature) = (spelled.creator_message(), parts.signature.as_slice());
-    write_signer_reason(out, keys, "creator", parts.creator, message, signature)?;
+    write_endorser_reasons(alloc, out, keys, spelled.body(), envelope.endorsements)?;
+    let (message, signature) = (spelled.creator_message(), envelope.signature.as_slice());
+    write_signer_reason(out, keys, "creator", envelope.creator, message, signature)?;
     Ok(())
 }

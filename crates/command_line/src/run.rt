@@ -136,7 +136,8 @@ pub(crate) fn run_blocks<
         },
     };
     let ended = write_through_buffer(&mut committer, handles, &handing, out, progress);
-    committer.close(rt);
+    // the process ends behind this
+    committer.leak(rt);
     // Where want of memory ended it, the line is still there.
     progress.clear();
     ended

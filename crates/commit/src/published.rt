@@ -157,4 +157,15 @@ impl Published {
         } = self;
         publisher.close(rt)
     }
+
+    /// Ends it as [`Publisher::leak`] does, and answers what was published last.
+    pub(crate) fn leak<R: Wait>(self, rt: &R) -> Front
+        ensures { result ≡ record { book = self.book; list = self.list } }
+    {
+        let Published {
+            publisher,
+            gathered: _,
+        } = self;
+        publisher.leak(rt)
+    }
 }

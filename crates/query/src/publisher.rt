@@ -12,7 +12,8 @@ ghost use Rattle.world.specs.Applied.{AreBehind};
 use crate::fault::PublishFault;
 use crate::front::{Counter, Front};
 use crate::receipt::Receipt;
-use crate::shown::{Entry, Operation, Sees, ShownWriter};
+use crate::shown::{Entry, Operation, Sees, Shown, ShownWriter};
+use core::mem;
 use core::mem::replace_with;
 use policy::Definitions;
 use rules::{Delta, Flag};
@@ -332,10 +333,9 @@ impl Publisher {
         })
     }
 
-    /// Ends the publisher, and answers what was published last: all that it had published, and nothing more. It waits for
-    /// queries that have begun, and handles get no entry from then on; no clause says either.
-    pub fn close<R: Wait>(self, rt: &R) -> Front
-        ensures { result ≡ record { book = self.book; list = self.list } }
+    // What was published last, behind which nothing is published.
+    fn ended<R: Wait>(self, rt: &R) -> Box<Shown>
+        ensures { result.value.front ≡ record { book = self.book; list = self.list } }
     {
         let Publisher {
             alloc: _,
@@ -344,7 +344,25 @@ impl Publisher {
             writer,
             failed: _,
         } = self;
-        let last = writer.take(rt);
-        last.front.again()
+        writer.take(rt)
+    }
+
+    /// Ends the publisher, and answers what was published last: all that it had published, and nothing more. It waits for
+    /// queries that have begun, and handles get no entry from then on; no clause says either.
+    pub fn close<R: Wait>(self, rt: &R) -> Front
+        ensures { result ≡ record { book = self.book; list = self.list } }
+    {
+        self.ended(rt).front.again()
+    }
+
+    /// Ends the publisher as [`Publisher::close`] does, but doesn't give back the memory of the last world: for a process
+    /// that ends now, whose memory goes back at once.
+    pub fn leak<R: Wait>(self, rt: &R) -> Front
+        ensures { result ≡ record { book = self.book; list = self.list } }
+    {
+        let last = self.ended(rt);
+        let front = last.front.again();
+        mem::forget(last);
+        front
     }
 }

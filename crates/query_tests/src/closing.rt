@@ -158,21 +158,39 @@ fn is_so_of(
     }
 }
 
-fn is_so_by<R: Threads + Wait + Sync>(rt: &R, story: &mut Story) -> Result<bool, Failed> {
+/// How a committer ends.
+#[derive(Clone, Copy)]
+enum End {
+    Close,
+    Leak,
+}
+
+impl End {
+    fn of<R: Wait>(self, rt: &R, committer: Committer) {
+        match self {
+            End::Close => committer.close(rt),
+            End::Leak => committer.leak(rt),
+        };
+    }
+}
+
+fn is_so_by<R: Threads + Wait + Sync>(rt: &R, story: &mut Story, end: End) -> Result<bool, Failed> {
     story.take(BlockVersion::V1, SCRIPT)?;
     let (mut committer, mut handles) = opened(rt, story.alloc, 2, 1)?;
     let seen = seen_by(rt, &mut committer, &mut handles, story);
-    committer.close(rt);
+    end.of(rt, committer);
     is_so_of(story, &seen, &mut handles)
 }
 
-fn is_so<R: Threads + Wait + Sync>(rt: &R, alloc: Global) -> Result<bool, Failed> {
+fn is_so<R: Threads + Wait + Sync>(rt: &R, alloc: Global, end: End) -> Result<bool, Failed> {
     let mut story = Story::open(alloc, 0)?;
-    is_so_by(rt, &mut story)
+    is_so_by(rt, &mut story, end)
 }
 
 #[test]
 fn no_entry_behind_the_end(rt: HostRuntime) -> Result<(), Failed> {
-    assert!(rt; is_so(&rt, rt.alloc())?);
+    for end in [End::Close, End::Leak] {
+        assert!(rt; is_so(&rt, rt.alloc(), end)?);
+    }
     Ok(())
 }
