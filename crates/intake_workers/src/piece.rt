@@ -14,7 +14,8 @@ pub struct Piece<'t, 'a> {
     pub txs: &'t [Slice<'a>],
 }
 
-const MOST_TXS: usize = 32;
+/// The most transactions of a piece.
+pub(crate) const MOST_TXS: usize = 32;
 
 // So that few large transactions are spread over workers too.
 const MOST_BYTES: usize = 1 << 20;

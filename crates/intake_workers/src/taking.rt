@@ -5,7 +5,7 @@ ghost use Rattle.intake.specs.Place.{taken_of, shown};
 ghost use Rattle.rules.specs.Commit.{items_of};
 ghost use Rattle.intake_workers.specs.Pieces.{all_taken, items_of_piece};
 
-use crate::piece::{Piece, cut};
+use crate::piece::{MOST_TXS, Piece, cut};
 use channel::Configuration;
 use gates::{Gate, Phase};
 use header_hash::data_hash;
@@ -14,6 +14,7 @@ use linking::{DecodedBlock, HashedBlock};
 use pieces::{Crew, Work, in_pieces_beside};
 use policy_eval::Verify;
 use std::alloc::{AllocError, Global};
+use std::thread;
 use std::thread::Threads;
 use values::Hash;
 
@@ -54,6 +55,10 @@ fn take_piece<'a, V: Verify, G: Gate>(
             bytes.as_slice(),
         )?)?;
         index = index.wrapping_add(1);
+        // threads at work may be more than processors, and who commits isn't to wait for one until the block is taken in
+        if index % MOST_TXS == 0 {
+            thread::yield_now();
+        }
     }
     Ok(all)
 }
