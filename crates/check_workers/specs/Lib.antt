@@ -1,6 +1,1 @@
 pub mod Limits
-pub mod Cells
-pub mod Words
-pub mod Board
-pub mod Seats
-pub mod Laws

@@ -1,12 +1,8 @@
-ghost use Rattle.std.specs.Prelude.{◌≡◌, ◌<◌, ◌*◌, ◌≤◌, [], length, replicate, IfOk};
+ghost use Rattle.std.specs.Prelude.{◌≡◌, ◌<◌, ◌*◌, ◌≤◌, length, IfOk};
 ghost use Rattle.rules.specs.Fold as fold;
 ghost use Rattle.check_workers.specs.Limits.{max_workers};
-ghost use Rattle.check_workers.specs.Words.{fresh};
 
 use crate::gathering::gather;
-use crate::lent::Lent;
-use crate::rule::{Steps, TableSeat, Words};
-use crate::seat::VerdictSeat;
 use crate::turns::Turns;
 use crate::workers::run;
 use gates::Gate;
@@ -16,6 +12,7 @@ use std::alloc::{AllocError, Global};
 use std::marker::Brand;
 use std::sync::Wait;
 use std::thread::Threads;
+use verdict_words::{Lent, Steps, VerdictSeat, open};
 
 /// What the workers found.
 #[derive(Drop)]
@@ -24,23 +21,6 @@ pub struct Checked {
     pub flags: Vec<Flag>,
     /// How many verdicts no worker had found, out of two for each candidate. No clause says it.
     pub gathered: u32,
-}
-
-fn zero_words(alloc: Global, count: usize) -> Result<Vec<u64>, AllocError>
-    ensures { IfOk result (λ words. words.items ≡ replicate count 0) }
-{
-    vec![in alloc; 0; count]
-}
-
-/// The words of a job, all unknown, and the first seat.
-fn open<'a>(alloc: Global, lent: &Lent<'a>) -> Result<(Words<'a>, TableSeat), AllocError>
-    ensures key { IfOk result (λ t. t.0.shared.key ≡ lent.now) }
-    ensures words { IfOk result (λ t. t.0.shared.table_id.words ≡ 2 * length lent.now.candidates) }
-    ensures table { IfOk result (λ t. t.1.table_id ≡ t.0.shared.table_id) }
-    ensures fresh { IfOk result (λ t. t.1.me ≡ (fresh lent.now, [])) }
-{
-    let zeros = zero_words(alloc, 2 * lent.job().len() as usize)?;
-    Words::of_words(alloc, zeros.as_slice(), lent)
 }
 
 /// Runs so many workers over the words of a job, until nothing is left for them.

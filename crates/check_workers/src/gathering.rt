@@ -1,14 +1,14 @@
 //! What is left once the workers have ended.
 ghost use Rattle.std.specs.Prelude.{◌≡◌, ◌*◌, ◌+◌, ◌<◌, ◌≤◌, ◌^◌, ℕ, length, IfOk};
 ghost use Rattle.rules.specs.Fold as fold;
-ghost use Rattle.check_workers.specs.Cells.{IsKnown};
-ghost use Rattle.check_workers.specs.Seats.{Moves};
+ghost use Rattle.verdict_words.specs.Cells.{IsKnown};
+ghost use Rattle.verdict_words.specs.Seats.{Moves};
 
 use crate::checking::Checked;
-use crate::seat::VerdictSeat;
 use key_chains::{Decision, Job};
 use rules::Flag;
 use std::alloc::{AllocError, Global};
+use verdict_words::VerdictSeat;
 
 /// Settles a task where it is unknown, and counts it. All that it may wait for is known.
 fn gather_one(job: &Job<'_, '_>, seat: &mut VerdictSeat<'_, '_>, task: u32) -> u32

@@ -1,9 +1,6 @@
 ghost use Rattle.std.specs.Prelude.{◌≡◌, ◌*◌, ◌<◌, ◌≤◌, All, length};
 
 use crate::deques::{Owner, Tasks, Thief, deques, pop, steal};
-use crate::lent::Lent;
-use crate::rule::Steps;
-use crate::seat::VerdictSeat;
 use crate::turns::{Hands, Kept, MOST, Settled, Settlings, Turn, Turns};
 use gates::{Gate, Phase};
 use key_chains::Job;
@@ -12,6 +9,7 @@ use std::sync::Wait;
 use std::thread;
 use std::thread::Threads;
 use task_desk::Task;
+use verdict_words::{Lent, Steps, VerdictSeat};
 
 fn phase_of(task: Task) -> Phase {
     if task % 2 == 0 {

@@ -1,7 +1,7 @@
 use Rattle.std.proofs.Common.{◌≡◌, ◌<◌, ◌≤◌, ◌*◌, ℕ, map}
 use Rattle.std.specs.List.{range_with_len}
 use Rattle.rules.specs.Fold.{flag}
-use Rattle.check_workers.specs.Cells.{IsKnown}
+use Rattle.verdict_words.specs.Cells.{IsKnown}
 use Rattle.check_workers.proofs.gathering.gather.Given as goal
 
 abbrev pub invariant-loop-i : goal.invariant-loop-i

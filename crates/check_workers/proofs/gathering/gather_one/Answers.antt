@@ -1,6 +1,6 @@
-use Rattle.check_workers.specs.Laws.{goes_on}
-use Rattle.check_workers.proofs.Words.{stays_known}
-use Rattle.check_workers.proofs.Steps.{waits_for_smaller}
+use Rattle.verdict_words.specs.Laws.{goes_on}
+use Rattle.verdict_words.proofs.Words.{stays_known}
+use Rattle.verdict_words.proofs.Steps.{waits_for_smaller}
 use Rattle.check_workers.proofs.gathering.gather_one.Goals as goal
 
 pub unreachable-requires : goal.unreachable-requires

@@ -1,5 +1,0 @@
-use Rattle.check_workers.proofs.Steps.{sits_fresh}
-use Rattle.check_workers.proofs.seat.VerdictSeat.first.Goals as goal
-
-pub invariant_of-result : goal.invariant_of-result
-invariant_of-result c = (c.requires.table, sits_fresh c.args.steps.now.key c.args.steps.now.table_id.words c.args.own.me c.requires.words c.requires.fresh)

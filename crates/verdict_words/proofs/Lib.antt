@@ -1,0 +1,4 @@
+pub mod Words
+mod Found
+mod Sounding
+pub mod Steps
