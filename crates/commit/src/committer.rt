@@ -161,7 +161,8 @@ impl Committer {
     ///
     /// While the calling thread commits a block, threads take in those behind it, one each and as many as there are
     /// workers, so that many blocks are done sooner than by as many calls of `submit`. What was taken in of a block that
-    /// isn't the next one goes for nothing, as where the function ends the run.
+    /// isn't the next one goes for nothing, as where the function ends the run. One or two blocks are taken in by all
+    /// workers, each when its turn comes.
     ///
     /// It takes memory for what is taken in ahead, as many blocks as there are workers. Where that is refused, the block is taken in
     /// once more when its turn comes. A thread that can't be started is done without. Of an accepted block the committer keeps the
@@ -197,10 +198,10 @@ impl Committer {
         Ok(run_all(&context, &mut self.published, blocks.as_slice(), tell))
     }
 
-    /// Ends the committer, and answers what was published last: all that it had published, and nothing more. It waits for
-    /// queries that have begun, and its handles get no entry from then on; no clause says either.
-    pub fn close<R: Wait>(self, rt: &R) -> Front
-        ensures { result ≡ record { book = self.book; list = self.list } }
+    /// What it has published; its other parts are given back.
+    fn into_published(self) -> Published
+        ensures book { result.book ≡ self.book }
+        ensures list { result.list ≡ self.list }
     {
         let Committer {
             alloc: _,
@@ -208,7 +209,15 @@ impl Committer {
             workers: _,
             published,
         } = self;
-        published.close(rt)
+        published
+    }
+
+    /// Ends the committer, and answers what was published last: all that it had published, and nothing more. It waits for
+    /// queries that have begun, and its handles get no entry from then on; no clause says either.
+    pub fn close<R: Wait>(self, rt: &R) -> Front
+        ensures { result ≡ record { book = self.book; list = self.list } }
+    {
+        self.into_published().close(rt)
     }
 
     /// Ends the committer as [`Committer::close`] does, but doesn't give back the memory of the ledger: for a process that ends
@@ -216,12 +225,6 @@ impl Committer {
     pub fn leak<R: Wait>(self, rt: &R) -> Front
         ensures { result ≡ record { book = self.book; list = self.list } }
     {
-        let Committer {
-            alloc: _,
-            channel: _channel,
-            workers: _,
-            published,
-        } = self;
-        published.leak(rt)
+        self.into_published().leak(rt)
     }
 }

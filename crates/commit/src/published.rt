@@ -147,25 +147,27 @@ impl Published {
         }
     }
 
-    /// Ends it as [`Publisher::close`] does, and answers what was published last.
-    pub(crate) fn close<R: Wait>(self, rt: &R) -> Front
-        ensures { result ≡ record { book = self.book; list = self.list } }
+    fn into_publisher(self) -> Publisher
+        ensures { result ≡ self }
     {
         let Published {
             publisher,
             gathered: _,
         } = self;
-        publisher.close(rt)
+        publisher
+    }
+
+    /// Ends it as [`Publisher::close`] does, and answers what was published last.
+    pub(crate) fn close<R: Wait>(self, rt: &R) -> Front
+        ensures { result ≡ record { book = self.book; list = self.list } }
+    {
+        self.into_publisher().close(rt)
     }
 
     /// Ends it as [`Publisher::leak`] does, and answers what was published last.
     pub(crate) fn leak<R: Wait>(self, rt: &R) -> Front
         ensures { result ≡ record { book = self.book; list = self.list } }
     {
-        let Published {
-            publisher,
-            gathered: _,
-        } = self;
-        publisher.leak(rt)
+        self.into_publisher().leak(rt)
     }
 }

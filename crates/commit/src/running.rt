@@ -223,8 +223,7 @@ pub(crate) fn run_all<
     ensures belongs { BelongsTo context.now.channel.now published.new }
     ensures callable { F.IsAlwaysCallable tell.new }
 {
-    // one block alone is taken in and checked by all workers
-    if context.workers.count == 1 || blocks.len() == 1 {
+    if !context.workers.take_in_ahead(blocks.len()) {
         let mut run = Run {
             published,
             tell,

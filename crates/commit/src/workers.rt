@@ -11,6 +11,9 @@ const MANY_PAGES: usize = 256;
 // Over such a state a thread more is worth so many look-ups.
 const WORTH_A_LOOKER: usize = 256;
 
+// With fewer blocks, most workers would have none to take in.
+const WORTH_TAKING_AHEAD: usize = 3;
+
 /// How many workers are at work.
 #[derive(Clone, Copy)]
 pub(crate) struct Workers {
@@ -35,6 +38,11 @@ impl Workers {
         ensures { result.count ≡ 1 }
     {
         Workers { count: 1 }
+    }
+
+    /// Whether so many blocks are taken in by a thread each. Fewer are done sooner one after the other, by all workers.
+    pub(crate) fn take_in_ahead(self, blocks: usize) -> bool {
+        self.count > 1 && blocks >= WORTH_TAKING_AHEAD
     }
 
     /// How many threads look up the rows of so many keys, over a state of so many pages.
