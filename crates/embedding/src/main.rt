@@ -127,9 +127,27 @@ fn serve<R: Threads + Wait + Sync, W: Write>(
     Ok(())
 }
 
-/// Why each transaction of the last block has its flag, by a ledger behind the blocks before it.
-fn explain_last<W: Write>(alloc: Global, blocks: &[Bytes], out: &mut W) -> anyhow::Result<()> {
-    let mut ledger = Ledger::open(alloc, Channel::read(alloc, CHANNEL)?);
+/// Commits all blocks while others ask.
+fn commit_all<R: Threads + Wait + Sync, W: Write>(
+    rt: &R,
+    alloc: Global,
+    blocks: &[Bytes],
+    out: &mut W,
+) -> anyhow::Result<()> {
+    let channel = Channel::read(alloc, CHANNEL)?;
+    let (mut committer, handles) = Committer::open(alloc, rt, channel, 2, 3)?;
+    let ended = serve(rt, alloc, &mut committer, handles, blocks, out);
+    committer.close(rt);
+    ended
+}
+
+/// Why each transaction of the last block has its flag, behind the blocks before it.
+fn explain_behind<W: Write>(
+    alloc: Global,
+    ledger: &mut Ledger,
+    blocks: &[Bytes],
+    out: &mut W,
+) -> anyhow::Result<()> {
     let Some((last, before)) = blocks.split_last() else {
         return Ok(());
     };
@@ -144,14 +162,15 @@ fn explain_last<W: Write>(alloc: Global, blocks: &[Bytes], out: &mut W) -> anyho
     Ok(())
 }
 
+/// The same committed once more by a ledger, which tells reasons.
+fn explain_last<W: Write>(alloc: Global, blocks: &[Bytes], out: &mut W) -> anyhow::Result<()> {
+    let mut ledger = Ledger::open(alloc, Channel::read(alloc, CHANNEL)?);
+    explain_behind(alloc, &mut ledger, blocks, out)
+}
+
 fn main(rt: HostRuntime) -> anyhow::Result<()> {
     let (alloc, mut out) = (rt.alloc(), rt.stdout());
     let blocks = read_blocks(&rt, alloc)?;
-    let channel = Channel::read(alloc, CHANNEL)?;
-    let (mut committer, handles) = Committer::open(alloc, &rt, channel, 2, 3)?;
-    let blocks = blocks.as_slice();
-    let ended = serve(&rt, alloc, &mut committer, handles, blocks, &mut out);
-    committer.close(&rt);
-    ended?;
-    explain_last(alloc, blocks, &mut out)
+    commit_all(&rt, alloc, blocks.as_slice(), &mut out)?;
+    explain_last(alloc, blocks.as_slice(), &mut out)
 }
