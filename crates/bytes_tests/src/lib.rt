@@ -10,6 +10,8 @@ mod fields;
 #[cfg(test)]
 mod header_hashes;
 #[cfg(test)]
+mod parts;
+#[cfg(test)]
 mod told;
 #[cfg(test)]
 mod too_large;

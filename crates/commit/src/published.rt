@@ -147,6 +147,7 @@ impl Published {
         }
     }
 
+    /// Takes it apart: what was gathered is for the next block, and none comes.
     fn into_publisher(self) -> Publisher
         ensures { result ≡ self }
     {

@@ -223,7 +223,7 @@ pub(crate) fn run_all<
     ensures belongs { BelongsTo context.now.channel.now published.new }
     ensures callable { F.IsAlwaysCallable tell.new }
 {
-    if !context.workers.take_in_ahead(blocks.len()) {
+    if !context.workers.should_take_in_ahead(blocks.len()) {
         let mut run = Run {
             published,
             tell,

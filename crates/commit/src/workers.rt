@@ -41,7 +41,7 @@ impl Workers {
     }
 
     /// Whether so many blocks are taken in by a thread each. Fewer are done sooner one after the other, by all workers.
-    pub(crate) fn take_in_ahead(self, blocks: usize) -> bool {
+    pub(crate) fn should_take_in_ahead(self, blocks: usize) -> bool {
         self.count > 1 && blocks >= WORTH_TAKING_AHEAD
     }
 

@@ -11,7 +11,7 @@ fn zero_words(alloc: Global, count: usize) -> Result<Vec<u64>, AllocError>
     vec![in alloc; 0; count]
 }
 
-/// The words of a job, all unknown, and the first seat. Takes two words for each candidate.
+/// The words of a job, all unknown, and the first seat. Takes two words for each candidate; an `Err` is want of memory.
 pub fn open<'a>(alloc: Global, lent: &Lent<'a>) -> Result<(Words<'a>, TableSeat), AllocError>
     ensures key { IfOk result (λ t. t.0.shared.key ≡ lent.now) }
     ensures words { IfOk result (λ t. t.0.shared.table_id.words ≡ 2 * length lent.now.candidates) }

@@ -1,5 +1,6 @@
 //! What a transaction's parts can be, up to their limits, written and read again.
 
+use crate::parts::{key, letters, name};
 use crate::too_large::TooLarge::{Body, Nothing, Signed, Whole};
 use crate::too_large::{Faults, TooLarge};
 use std::alloc::{AllocError, Global};
@@ -8,7 +9,7 @@ use transaction::{
     Endorsement, Identity, NsSet, Role, Tx, Write, decode_tx, encode_body, encode_identity,
     encode_signed, encode_tx,
 };
-use values::{Items, KeyRef, NameRef, Slice, is_key, is_name};
+use values::{Items, Slice};
 
 #[derive(Clone, Copy)]
 struct Sizes {
@@ -47,20 +48,6 @@ fn sizes_with(part: Part, size: usize) -> Sizes {
         Part::Signature => sizes.signature = size,
     }
     sizes
-}
-
-fn letters(filler: &[u8], len: usize) -> Slice<'_> {
-    Slice::new(filler.get(..len).unwrap_or_default())
-}
-
-fn name(rt: &impl Abort, bytes: &'static [u8]) -> NameRef<'static> {
-    assert!(rt; is_name(bytes));
-    NameRef::new(bytes)
-}
-
-fn key(rt: &impl Abort, bytes: &'static [u8]) -> KeyRef<'static> {
-    assert!(rt; is_key(bytes));
-    KeyRef::new(bytes)
 }
 
 fn identity<'a>(rt: &impl Abort, org: &'static [u8], role: Role, label: Slice<'a>) -> Identity<'a> {

@@ -2,6 +2,7 @@
 
 use super::{fault_of, update_of};
 use crate::fields::with_field;
+use crate::parts::{letters, name};
 use crate::too_large::TooLarge::{Body, Nothing, Signed, Whole};
 use crate::too_large::{Faults, TooLarge};
 use std::alloc::{AllocError, Global};
@@ -10,7 +11,7 @@ use transaction::{
     EncodeFault, Endorsement, Identity, Role, TxFault, Update, encode_update, encode_update_body,
     encode_update_signed,
 };
-use values::{Bytes, Items, NameRef, Slice, is_name};
+use values::{Bytes, Items, Slice};
 
 #[derive(Clone, Copy)]
 struct Sizes {
@@ -64,15 +65,6 @@ fn sizes_with(part: Part, size: usize) -> Sizes {
         }
     }
     sizes
-}
-
-fn letters(filler: &[u8], len: usize) -> Slice<'_> {
-    Slice::new(filler.get(..len).unwrap_or_default())
-}
-
-fn name(rt: &impl Abort, bytes: &'static [u8]) -> NameRef<'static> {
-    assert!(rt; is_name(bytes));
-    NameRef::new(bytes)
 }
 
 fn admin<'a>(rt: &impl Abort, org: &'static [u8], label: Slice<'a>) -> Identity<'a> {
