@@ -12,6 +12,7 @@ series, `--workers` other numbers, and `--blocks` how many blocks there are behi
 - `run`: 100 blocks of 500 mixed transactions over 100,000 keys.
 - `tens`, `hundreds`, `thousands`: 2,000 blocks of 10, 400 of 100, 12 of 4,096 of the same.
 - `fewkeys`, `manykeys`: 100 blocks of 500 over 1,000 keys, and 40 over 1,000,000.
+- `varied`: 100 blocks of 50, 250, 500, 750 or 950, by chance, over 100,000 keys.
 - `waiting`: 20 blocks of 500 transactions, each of which reads what the one before it wrote.
 - `large`: 12 blocks of 8 MiB, of 512 transactions that write 16 KiB each.
 - `alone`: one block, number 0, of 4,096 transactions that write two keys each.
@@ -164,6 +165,12 @@ def large(blocks, count, size):
         blocks.add([blocks.tx(writes=[peer.key(n)], value=b"v" * (1 << 14)) for n in range(size)])
 
 
+def varied(blocks, count, size):
+    blocks.fill()
+    for _ in range(count):
+        blocks.mixed(size * blocks.random.choice([1, 5, 10, 15, 19]) // 10)
+
+
 def alone(blocks, count, size):
     """There is no state, and one block."""
     blocks.add([blocks.tx(writes=[peer.key(2 * n), peer.key(2 * n + 1)]) for n in range(size)])
@@ -183,6 +190,7 @@ WORKLOADS = {
     "thousands": (100_000, peer.mixed, 12, 4096),
     "fewkeys": (1000, peer.mixed, 100, 500),
     "manykeys": (1_000_000, peer.mixed, 40, 500),
+    "varied": (100_000, varied, 100, 500),
     "waiting": (10, peer.chain, 20, 500),
     "large": (10, large, 12, 512),
     "alone": (10, alone, 1, 4096),

@@ -16,6 +16,7 @@ use crate::running::{Answer, run_all};
 use crate::workers::Workers;
 use channel::{Channel, Configuration};
 use gates::Gate;
+use lookahead::AtOnce;
 use policy_eval::Verify;
 use query::{Front, QueryHandle, Receipt};
 use std::alloc::{AllocError, Global};
@@ -146,11 +147,13 @@ impl Committer {
             verifier,
             gate,
         };
+        let at_once = AtOnce::new(self.workers.count);
         collect_all(
             &context,
             &mut self.published,
             blocks.as_slice(),
             &mut answers,
+            &at_once,
         );
         Ok(answers)
     }
@@ -159,14 +162,14 @@ impl Committer {
     /// each answer as soon as the block is done. Where that says `false`, the run ends, and no other block is handed in. Answers
     /// whether it never did. An `Err` is want of memory for the list of blocks; no block was handed in then.
     ///
-    /// While the calling thread commits a block, threads take in those behind it, one each and as many as there are
+    /// While the calling thread commits a block, threads take in those behind it, one each and as many at once as there are
     /// workers, so that many blocks are done sooner than by as many calls of `submit`. What was taken in of a block that
     /// isn't the next one goes for nothing, as where the function ends the run. One or two blocks are taken in by all
     /// workers, each when its turn comes.
     ///
-    /// It takes memory for what is taken in ahead, as many blocks as there are workers. Where that is refused, the block is taken in
-    /// once more when its turn comes. A thread that can't be started is done without. Of an accepted block the committer keeps the
-    /// bytes that are shared, without a copy.
+    /// It takes memory for what is taken in ahead, at most twice as many blocks as there are workers. Where that is refused, the
+    /// block is taken in once more when its turn comes. A thread that can't be started is done without. Of an accepted block
+    /// the committer keeps the bytes that are shared, without a copy.
     pub fn run_telling<
         R: Threads + Wait + Sync,
         V: Verify + Sync,
@@ -195,7 +198,14 @@ impl Committer {
             verifier,
             gate,
         };
-        Ok(run_all(&context, &mut self.published, blocks.as_slice(), tell))
+        let at_once = AtOnce::new(self.workers.count);
+        Ok(run_all(
+            &context,
+            &mut self.published,
+            blocks.as_slice(),
+            tell,
+            &at_once,
+        ))
     }
 
     /// What it has published; its other parts are given back.

@@ -11,7 +11,7 @@ use crate::not_committed::NotCommitted;
 use crate::prepared::Prepared;
 use crate::published::Published;
 use gates::Gate;
-use lookahead::Ahead;
+use lookahead::{Ahead, AtOnce};
 use policy_eval::Verify;
 use query::Receipt;
 use rules::Refused;
@@ -26,6 +26,7 @@ pub type Answer = Result<Receipt, NotCommitted>;
 type BlocksAhead<'s, 'e, R, V, G> = Ahead<
     's,
     'e,
+    R,
     BlockBytes<'e>,
     Result<Prepared<'e>, Refused>,
     Context<'e, R, V, G>,
@@ -117,7 +118,7 @@ fn commit_taken_in<
 {
     let alone = context.alone();
     for bytes in blocks {
-        let next = ahead.next(context.rt).ok();
+        let next = ahead.next().ok();
         if !run.commit_next(&alone, bytes, next) {
             return false;
         }
@@ -125,7 +126,8 @@ fn commit_taken_in<
     true
 }
 
-/// Commits blocks, each of which a thread of its own takes in, as many at once as there are workers.
+/// Commits blocks, each of which a thread of its own takes in, as many at once as there are workers. When the function asks for
+/// no more, no other block is taken in.
 fn commit_ahead<
     'p,
     't,
@@ -140,6 +142,7 @@ fn commit_ahead<
     context: &'e Context<'e, R, V, G>,
     run: Run<'p, 't, F>,
     blocks: &'e [BlockBytes<'e>],
+    at_once: &'e AtOnce,
 ) -> Run<'p, 't, F>
     requires belongs { BelongsTo context.now.channel.now run.published.now }
     requires callable { F.IsAlwaysCallable run.tell.now }
@@ -151,8 +154,9 @@ fn commit_ahead<
     ensures tell { result.tell.ghost_name ≡ run.entry.tell.ghost_name }
 {
     let mut run = run;
-    let mut ahead = Ahead::new(scope, context.alloc, blocks, context, context.workers.count);
+    let mut ahead = Ahead::new(scope, context.rt, context.alloc, blocks, context, at_once);
     run.asks = commit_taken_in(context, &mut run, blocks, &mut ahead);
+    ahead.close();
     run
 }
 
@@ -170,6 +174,7 @@ fn commit_in_scope<
     published: &'p mut Published,
     blocks: &'e [BlockBytes<'e>],
     tell: &'t mut F,
+    at_once: &'e AtOnce,
 ) -> Run<'p, 't, F>
     requires belongs { BelongsTo context.now.channel.now published.old }
     requires callable { F.IsAlwaysCallable tell.old }
@@ -198,7 +203,7 @@ fn commit_in_scope<
             ensures callable { F.IsAlwaysCallable result.tell.now }
             ensures lent { result.published.ghost_name ≡ run.entry.published.ghost_name }
             ensures tell { result.tell.ghost_name ≡ run.entry.tell.ghost_name }
-        { commit_ahead(scope, context, run, blocks) },
+        { commit_ahead(scope, context, run, blocks, at_once) },
     )
 }
 
@@ -215,6 +220,7 @@ pub(crate) fn run_all<
     published: &mut Published,
     blocks: &'e [BlockBytes<'e>],
     tell: &mut F,
+    at_once: &'e AtOnce,
 ) -> bool
     requires belongs { BelongsTo context.now.channel.now published.old }
     requires callable { F.IsAlwaysCallable tell.old }
@@ -231,6 +237,6 @@ pub(crate) fn run_all<
         };
         return commit_in_turn(context, &mut run, blocks);
     }
-    let run = commit_in_scope(context, published, blocks, tell);
+    let run = commit_in_scope(context, published, blocks, tell, at_once);
     run.asks
 }

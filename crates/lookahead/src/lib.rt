@@ -2,6 +2,8 @@
 #![tactic(auto)]
 
 mod ahead;
+mod at_once;
 mod making;
 
 pub use ahead::Ahead;
+pub use at_once::AtOnce;

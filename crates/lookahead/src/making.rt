@@ -2,11 +2,13 @@
 ghost use Rattle.std.specs.Prelude.{◌≡◌, ◌<◌, length, IfOk, IfSome};
 ghost use Rattle.pieces.specs.Pieces.{IsMade};
 
+use crate::at_once::AtOnce;
 use pieces::Work;
 use std::alloc::{AllocError, Global};
+use std::sync::Wait;
 use std::thread::{Promise, PromisedHandle, Scope};
 
-/// What a thread promises: what it makes may be made of the piece at a place.
+/// A piece and its work. A thread promises that what it makes may be made of it.
 #[derive(Drop)]
 pub struct OfPiece<'e, P, W> {
     pub pieces: &'e [P],
@@ -34,23 +36,48 @@ pub(crate) fn made_of<P, X, W: Work<P, X>>(
     work.make(alloc, &pieces[place])
 }
 
-/// Starts a thread that makes it, if one can be started.
-pub(crate) fn start<'s, 'e, P: Sync + 's, X: Send + Drop + 's, W: Work<P, X> + Sync + 's>(
-    scope: &Scope<'s, &'e ()>,
+/// Makes it when the piece may begin. An `Err` is want of memory, or that the piece doesn't begin.
+fn made_in_turn<P, X, W: Work<P, X>, R: Wait>(
+    rt: &R,
     alloc: Global,
-    pieces: &'e [P],
-    work: &'e W,
+    at_once: &AtOnce,
+    pieces: &[P],
+    work: &W,
     place: usize,
-) -> Option<Making<'e, P, X, W>>
+) -> Result<X, AllocError>
     requires { place < length pieces.now }
-    ensures { IfSome result (λ making. making.promise ≡ record { pieces = pieces.entry; work = work.entry; place = place }) }
+    ensures { IfOk result (λ made. IsMade (W.gives work.now) pieces.now place made) }
 {
-    let promise = OfPiece {
-        pieces,
-        work,
-        place,
-    };
+    if !at_once.begin(rt, place) {
+        return Err(AllocError);
+    }
+    let made = made_of(alloc, pieces, work, place);
+    at_once.end(rt);
+    made
+}
+
+/// Starts a thread that makes it, if one can be started.
+pub(crate) fn start<
+    's,
+    'e,
+    P: Sync + 's,
+    X: Send + Drop + 's,
+    W: Work<P, X> + Sync + 's,
+    R: Wait + Sync + 's,
+>(
+    scope: &Scope<'s, &'e ()>,
+    rt: &'e R,
+    alloc: Global,
+    at_once: &'e AtOnce,
+    piece: OfPiece<'e, P, W>,
+) -> Option<Making<'e, P, X, W>>
+    requires { piece.place < length piece.pieces.now }
+    ensures { IfSome result (λ making. making.promise ≡ piece.entry) }
+{
+    let (pieces, work, place) = (piece.pieces, piece.work, piece.place);
     scope
-        .spawn_with(promise, move || made_of(alloc, pieces, work, place))
+        .spawn_with(piece, move || {
+            made_in_turn(rt, alloc, at_once, pieces, work, place)
+        })
         .ok()
 }
