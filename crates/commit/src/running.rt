@@ -127,7 +127,7 @@ fn commit_taken_in<
 }
 
 /// Commits blocks, each of which a thread of its own takes in, as many at once as there are workers. When the function asks for
-/// no more, no other block is taken in.
+/// no more, no other block begins.
 fn commit_ahead<
     'p,
     't,
