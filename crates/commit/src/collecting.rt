@@ -9,7 +9,6 @@ use crate::context::Context;
 use crate::published::Published;
 use crate::running::{Answer, run_all};
 use gates::Gate;
-use lookahead::AtOnce;
 use policy_eval::Verify;
 use std::sync::Wait;
 use std::thread::Threads;
@@ -27,7 +26,6 @@ pub(crate) fn collect_all<'e, R: Threads + Wait + Sync, V: Verify + Sync, G: Gat
     published: &mut Published,
     blocks: &'e [BlockBytes<'e>],
     answers: &mut Vec<Answer>,
-    at_once: &'e AtOnce,
 )
     requires belongs { BelongsTo context.now.channel.now published.old }
     requires none { answers.old.items ≡ [] }
@@ -41,6 +39,5 @@ pub(crate) fn collect_all<'e, R: Threads + Wait + Sync, V: Verify + Sync, G: Gat
         published,
         blocks,
         &mut |answer| { collect(answers, answer) },
-        at_once,
     );
 }

@@ -16,7 +16,6 @@ use crate::running::{Answer, run_all};
 use crate::workers::Workers;
 use channel::{Channel, Configuration};
 use gates::Gate;
-use lookahead::AtOnce;
 use policy_eval::Verify;
 use query::{Front, QueryHandle, Receipt};
 use std::alloc::{AllocError, Global};
@@ -147,13 +146,11 @@ impl Committer {
             verifier,
             gate,
         };
-        let at_once = AtOnce::new(self.workers.count);
         collect_all(
             &context,
             &mut self.published,
             blocks.as_slice(),
             &mut answers,
-            &at_once,
         );
         Ok(answers)
     }
@@ -162,10 +159,10 @@ impl Committer {
     /// each answer as soon as the block is done. Where that says `false`, the run ends, and no other block is handed in. Answers
     /// whether it never did. An `Err` is want of memory for the list of blocks; no block was handed in then.
     ///
-    /// While the calling thread commits a block, threads take in those behind it, one each and as many at once as there are
-    /// workers, so that many blocks are done sooner than by as many calls of `submit`. What was taken in of a block that
-    /// isn't the next one goes for nothing, as where the function ends the run. One or two blocks are taken in by all
-    /// workers, each when its turn comes.
+    /// While the calling thread commits a block, the other workers take in those behind it, each a block of its own, and so does
+    /// the calling thread while the next block isn't taken in: many blocks are done sooner than by as many calls of `submit`. What
+    /// was taken in of a block that isn't the next one goes for nothing, as where the function ends the run. One or two blocks
+    /// are taken in by all workers, each when its turn comes.
     ///
     /// It takes memory for what is taken in ahead, at most twice as many blocks as there are workers. Where that is refused, the
     /// block is taken in once more when its turn comes. A thread that can't be started is done without. Of an accepted block
@@ -198,14 +195,7 @@ impl Committer {
             verifier,
             gate,
         };
-        let at_once = AtOnce::new(self.workers.count);
-        Ok(run_all(
-            &context,
-            &mut self.published,
-            blocks.as_slice(),
-            tell,
-            &at_once,
-        ))
+        Ok(run_all(&context, &mut self.published, blocks.as_slice(), tell))
     }
 
     /// What it has published; its other parts are given back.

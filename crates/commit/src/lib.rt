@@ -2,6 +2,7 @@
 #![tactic(auto)]
 
 mod block_bytes;
+mod blocks_ahead;
 mod by_workers;
 mod collecting;
 mod committer;

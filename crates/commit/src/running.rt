@@ -1,36 +1,29 @@
-//! Blocks one after the other, which threads take in ahead, and whose answers are told as they come.
+//! Blocks one after the other, which workers take in ahead, and whose answers are told as they come.
 ghost use Rattle.std.specs.Prelude.{◌≡◌};
 ghost use Rattle.std.specs.Thread.{IsSync};
 ghost use Rattle.rules.specs.World.{World};
-ghost use Rattle.commit.specs.Prepared.{MayWait};
+ghost use Rattle.lookahead.specs.Picked.{IsPicked};
+ghost use Rattle.commit.specs.Prepared.{MayBeTakenIn, MayWait};
 ghost use Rattle.commit.specs.Running.{Answer, BelongsTo, SubmitsTo, TellsTo};
 
 use crate::block_bytes::BlockBytes;
+use crate::blocks_ahead::{BlocksAhead, Intake};
 use crate::context::Context;
 use crate::not_committed::NotCommitted;
 use crate::prepared::Prepared;
 use crate::published::Published;
 use gates::Gate;
-use lookahead::{Ahead, AtOnce};
+use lookahead::Ahead;
 use policy_eval::Verify;
 use query::Receipt;
 use rules::Refused;
+use std::marker::Brand;
 use std::sync::Wait;
 use std::thread;
 use std::thread::{Scope, Threads};
 
 /// What a committer answers to a block.
 pub type Answer = Result<Receipt, NotCommitted>;
-
-/// Blocks that threads take in ahead.
-type BlocksAhead<'s, 'e, R, V, G> = Ahead<
-    's,
-    'e,
-    R,
-    BlockBytes<'e>,
-    Result<Prepared<'e>, Refused>,
-    Context<'e, R, V, G>,
->;
 
 /// What is published, and the function that is told of each answer.
 #[derive(Drop)]
@@ -90,10 +83,11 @@ fn commit_in_turn<
     true
 }
 
-/// Commits blocks that threads take in ahead. They have the processors, so each block is checked by this one alone.
+/// Commits blocks that workers take in ahead. They have the processors, so each block is checked by this one alone.
 /// Says whether the function always asked for more.
 fn commit_taken_in<
     'e,
+    J: Intake,
     R: Threads + Wait + Sync,
     V: Verify + Sync,
     G: Gate + Sync,
@@ -102,8 +96,9 @@ fn commit_taken_in<
     context: &'e Context<'e, R, V, G>,
     run: &mut Run<'_, '_, F>,
     blocks: &'e [BlockBytes<'e>],
-    ahead: &mut BlocksAhead<'_, 'e, R, V, G>,
+    ahead: &mut BlocksAhead<'_, 'e, J, R, V, G>,
 ) -> bool
+    requires picked { IsPicked J.may_be (MayBeTakenIn context.now.channel.now (V.accepts context.now.verifier.now)) blocks.now }
     requires blocks { ahead.old.pieces.now ≡ blocks.now }
     requires context { ahead.old.work.now ≡ context.now }
     requires none { ahead.old.taken ≡ 0 }
@@ -126,13 +121,14 @@ fn commit_taken_in<
     true
 }
 
-/// Commits blocks, each of which a thread of its own takes in, as many at once as there are workers. When the function asks for
-/// no more, no other block begins.
+/// Commits blocks that workers take in ahead, of whom the calling thread is one. When the function asks for no more, no other
+/// block is taken in.
 fn commit_ahead<
     'p,
     't,
     's,
     'e,
+    J: Intake + Send + Sync + 's,
     R: Threads + Wait + Sync,
     V: Verify + Sync,
     G: Gate + Sync,
@@ -142,8 +138,8 @@ fn commit_ahead<
     context: &'e Context<'e, R, V, G>,
     run: Run<'p, 't, F>,
     blocks: &'e [BlockBytes<'e>],
-    at_once: &'e AtOnce,
 ) -> Run<'p, 't, F>
+    requires picked { IsPicked J.may_be (MayBeTakenIn context.now.channel.now (V.accepts context.now.verifier.now)) blocks.now }
     requires belongs { BelongsTo context.now.channel.now run.published.now }
     requires callable { F.IsAlwaysCallable run.tell.now }
     ensures told { TellsTo F.step context.now.channel.now (V.accepts context.now.verifier.now)
@@ -154,17 +150,25 @@ fn commit_ahead<
     ensures tell { result.tell.ghost_name ≡ run.entry.tell.ghost_name }
 {
     let mut run = run;
-    let mut ahead = Ahead::new(scope, context.rt, context.alloc, blocks, context, at_once);
-    run.asks = commit_taken_in(context, &mut run, blocks, &mut ahead);
+    let mut ahead = Ahead::new(
+        scope,
+        context.rt,
+        context.alloc,
+        blocks,
+        context,
+        context.workers.count,
+    );
+    run.asks = commit_taken_in::<J, R, V, G, F>(context, &mut run, blocks, &mut ahead);
     ahead.close();
     run
 }
 
-/// Commits blocks that threads of a scope take in ahead.
+/// Commits blocks that workers take in ahead, in threads that end with it.
 fn commit_in_scope<
     'p,
     't,
     'e,
+    J: Intake + Send + Sync,
     R: Threads + Wait + Sync,
     V: Verify + Sync,
     G: Gate + Sync,
@@ -174,8 +178,8 @@ fn commit_in_scope<
     published: &'p mut Published,
     blocks: &'e [BlockBytes<'e>],
     tell: &'t mut F,
-    at_once: &'e AtOnce,
 ) -> Run<'p, 't, F>
+    requires picked { IsPicked J.may_be (MayBeTakenIn context.now.channel.now (V.accepts context.now.verifier.now)) blocks.now }
     requires belongs { BelongsTo context.now.channel.now published.old }
     requires callable { F.IsAlwaysCallable tell.old }
     ensures told { TellsTo F.step context.now.channel.now (V.accepts context.now.verifier.now)
@@ -195,6 +199,7 @@ fn commit_in_scope<
         context.rt,
         move |scope| -> Run<F>
             requires { IsSync R.row × IsSync V.row × IsSync G.row
+                × IsPicked J.may_be (MayBeTakenIn context.now.channel.now (V.accepts context.now.verifier.now)) blocks.now
                 × BelongsTo context.now.channel.now run.published.now
                 × F.IsAlwaysCallable run.tell.now }
             ensures told { TellsTo F.step context.entry.now.channel.now (V.accepts context.entry.now.verifier.now)
@@ -203,7 +208,7 @@ fn commit_in_scope<
             ensures callable { F.IsAlwaysCallable result.tell.now }
             ensures lent { result.published.ghost_name ≡ run.entry.published.ghost_name }
             ensures tell { result.tell.ghost_name ≡ run.entry.tell.ghost_name }
-        { commit_ahead(scope, context, run, blocks, at_once) },
+        { commit_ahead::<J, R, V, G, F>(scope, context, run, blocks) },
     )
 }
 
@@ -220,7 +225,6 @@ pub(crate) fn run_all<
     published: &mut Published,
     blocks: &'e [BlockBytes<'e>],
     tell: &mut F,
-    at_once: &'e AtOnce,
 ) -> bool
     requires belongs { BelongsTo context.now.channel.now published.old }
     requires callable { F.IsAlwaysCallable tell.old }
@@ -237,6 +241,6 @@ pub(crate) fn run_all<
         };
         return commit_in_turn(context, &mut run, blocks);
     }
-    let run = commit_in_scope(context, published, blocks, tell, at_once);
+    let run = commit_in_scope::<Brand, R, V, G, F>(context, published, blocks, tell);
     run.asks
 }

@@ -40,7 +40,7 @@ impl Workers {
         Workers { count: 1 }
     }
 
-    /// Whether so many blocks are taken in by a thread each. Fewer are done sooner one after the other, by all workers.
+    /// Whether so many blocks are taken in ahead, each by one worker. Fewer are done sooner one after the other, by all workers.
     pub(crate) fn should_take_in_ahead(self, blocks: usize) -> bool {
         self.count > 1 && blocks >= WORTH_TAKING_AHEAD
     }

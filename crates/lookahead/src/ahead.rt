@@ -1,18 +1,21 @@
-ghost use Rattle.std.specs.Prelude.{◌≡◌, ◌+◌, ◌<◌, ◌≤◌, ℕ, length, slice_index_or, IfOk, IfSome};
+ghost use Rattle.std.specs.Prelude.{◌≡◌, ◌+◌, ◌<◌, length, IfOk, IfSome};
 ghost use Rattle.pieces.specs.Pieces.{IsMade};
+ghost use Rattle.lookahead.specs.Picked.{IsPicked};
 
-use crate::at_once::AtOnce;
-use crate::making::{Making, OfPiece, made_of, start};
+use crate::made::{Made, Makeable};
+use crate::window::Window;
 use pieces::Work;
 use std::alloc::{AllocError, Global};
-use std::collections::VecDeque;
-use std::sync::Wait;
+use std::sync::{Arc, Wait};
 use std::thread::{Scope, Threads};
 
-/// Pieces that are taken one by one, in their order, and of the next of which threads make what is to be made meanwhile, a thread a
-/// piece.
+/// For each worker so many pieces are made and not taken at most: enough that the others go on behind one that takes long.
+const AHEAD_OF_EACH: usize = 2;
+
+/// Pieces that are taken one by one, in their order. Threads make the next ones meanwhile, and so does the taker while the one that
+/// it takes isn't made.
 #[derive(Drop)]
-pub struct Ahead<'s, 'e, R, P, X, W: Work<P, X>> {
+pub struct Ahead<'s, 'e, J: Makeable<X>, R, P, X: Drop, W: Work<P, X>> {
     pub pieces: &'e [P],
     pub work: &'e W,
     /// How many were taken.
@@ -20,133 +23,175 @@ pub struct Ahead<'s, 'e, R, P, X, W: Work<P, X>> {
     scope: &'s Scope<'s, &'e ()>,
     rt: &'e R,
     alloc: Global,
-    at_once: &'e AtOnce,
-    most: usize,
-    making: VecDeque<Making<'e, P, X, W>>,
-    ghost within: { taken + length making.items ≤ length pieces.now },
-    ghost in_order: { (k : ℕ) (d : _) → k < length making.items → (slice_index_or making.items k d).promise ≡ record { pieces = pieces; work = work; place = taken + k } },
+    window: Option<Arc<Window<J, X>>>,
+}
+
+// Makes what is to be made of the piece at a place.
+fn make<J: Makeable<X>, P, X: Drop, W: Work<P, X>>(
+    alloc: Global,
+    pieces: &[P],
+    work: &W,
+    place: usize,
+) -> Made<J, X>
+    requires place { place < length pieces.now }
+    requires picked { IsPicked J.may_be (W.gives work.now) pieces.now }
+    ensures { result ≡ place }
+{
+    Made::new(place, work.make(alloc, &pieces[place]))
+}
+
+// Makes pieces until none is left, or no more is taken.
+fn make_ahead<J: Makeable<X>, R: Wait, P, X: Drop, W: Work<P, X>>(
+    rt: &R,
+    alloc: Global,
+    window: &Window<J, X>,
+    pieces: &[P],
+    work: &W,
+)
+    requires picked { IsPicked J.may_be (W.gives work.now) pieces.now }
+{
+    for _ in 0..pieces.len() {
+        let Some(place) = window.draw(rt, pieces.len()) else {
+            break;
+        };
+        window.put(rt, make(alloc, pieces, work, place));
+    }
 }
 
 impl<
     's,
     'e,
+    J: Makeable<X> + Send + Sync + 's,
     R: Threads + Wait + Sync + 's,
     P: Sync + 's,
     X: Send + Drop + 's,
     W: Work<P, X> + Sync + 's,
-> Ahead<'s, 'e, R, P, X, W> {
-    /// Starts threads for the first pieces, of which none is taken. One that can't be started is done without: its piece is made
-    /// when it is taken. Let `at_once` be new.
+> Ahead<'s, 'e, J, R, P, X, W> {
+    /// Starts threads for pieces of which none is taken: one for each worker but the taker. One that can't be started is done
+    /// without, and so are all where memory for what they make is refused: the taker makes what nobody else does. Call `close`
+    /// at the end; threads may wait for it.
     pub fn new(
         scope: &'s Scope<'s, &'e ()>,
         rt: &'e R,
         alloc: Global,
         pieces: &'e [P],
         work: &'e W,
-        at_once: &'e AtOnce,
-    ) -> Ahead<'s, 'e, R, P, X, W>
+        workers: usize,
+    ) -> Ahead<'s, 'e, J, R, P, X, W>
+        requires picked { IsPicked J.may_be (W.gives work.now) pieces.now }
         ensures pieces { result.pieces.now ≡ pieces.entry.now }
         ensures work { result.work.now ≡ work.entry.now }
         ensures taken { result.taken ≡ 0 }
     {
-        let most = at_once.ahead();
-        let (making, most) = match VecDeque::with_capacity(alloc, most) {
-            Ok(making) => (making, most),
-            Err(AllocError) => (VecDeque::new(alloc), 0),
-        };
-        let mut ahead = Ahead {
+        let ahead = Ahead {
             pieces,
             work,
             taken: 0,
             scope,
             rt,
             alloc,
-            at_once,
-            most,
-            making,
+            window: shared_window(alloc, workers.saturating_mul(AHEAD_OF_EACH)),
         };
-        ahead.start_more();
+        ahead.start_others(workers);
         ahead
     }
 
-    /// Starts a thread for the first piece that has none. Says whether it did.
-    fn start_one(&mut self) -> bool
-        ensures pieces { self.new.pieces.now ≡ self.old.pieces.now }
-        ensures work { self.new.work.now ≡ self.old.work.now }
-        ensures taken { self.new.taken ≡ self.old.taken }
+    fn start_others(&self, workers: usize)
+        requires picked { IsPicked J.may_be (W.gives self.now.work.now) self.now.pieces.now }
     {
-        let place = self.taken + self.making.len();
-        if self.making.len() == self.most || place == self.pieces.len() {
-            return false;
-        }
-        let piece = OfPiece {
-            pieces: self.pieces,
-            work: self.work,
-            place,
-        };
-        match start(self.scope, self.rt, self.alloc, self.at_once, piece) {
-            Some(making) => self.making.push_back(making).is_ok(),
-            None => false,
-        }
-    }
-
-    fn start_more(&mut self)
-        ensures pieces { self.new.pieces.now ≡ self.old.pieces.now }
-        ensures work { self.new.work.now ≡ self.old.work.now }
-        ensures taken { self.new.taken ≡ self.old.taken }
-    {
-        for _ in 0..self.most {
+        for _ in 1..workers {
             if !self.start_one() {
                 break;
             }
         }
     }
 
-    /// The thread of the next piece, if it has one; that piece is taken.
-    fn take_first(&mut self) -> Option<Making<'e, P, X, W>>
-        requires { self.old.taken < length self.old.pieces.now }
-        ensures first { IfSome result (λ making. making.promise ≡ record { pieces = self.old.pieces; work = self.old.work; place = self.old.taken }) }
-        ensures pieces { self.new.pieces.now ≡ self.old.pieces.now }
-        ensures work { self.new.work.now ≡ self.old.work.now }
-        ensures taken { self.new.taken ≡ self.old.taken + 1 }
+    /// Starts a thread that makes pieces. Says whether it did.
+    fn start_one(&self) -> bool
+        requires picked { IsPicked J.may_be (W.gives self.now.work.now) self.now.pieces.now }
     {
-        let first = self.making.pop_front();
-        self.taken += 1;
-        first
+        let Some(window) = &self.window else {
+            return false;
+        };
+        let Ok(theirs) = Arc::try_clone(window) else {
+            return false;
+        };
+        let (rt, alloc, pieces, work) = (self.rt, self.alloc, self.pieces, self.work);
+        self.scope
+            .spawn(
+                move ||
+                    requires { IsPicked J.may_be (W.gives work.now) pieces.now }
+                { make_ahead(rt, alloc, &theirs, pieces, work) },
+            )
+            .is_ok()
     }
+}
 
-    /// Makes what is to be made of a piece that has no thread.
-    fn make(&self, place: usize) -> Result<X, AllocError>
-        requires { place < length self.now.pieces.now }
+fn shared_window<J: Makeable<X>, X: Drop>(alloc: Global, most: usize) -> Option<Arc<Window<J, X>>> {
+    Arc::new(alloc, Window::new(alloc, most).ok()?).ok()
+}
+
+// What some worker made of the next piece, the one at this place. Makes pieces until it is made or none is left, and waits then.
+fn made_by_all<J: Makeable<X>, R: Wait, P, X: Drop, W: Work<P, X>>(
+    rt: &R,
+    alloc: Global,
+    window: &Window<J, X>,
+    pieces: &[P],
+    work: &W,
+    place: usize,
+) -> Option<Made<J, X>>
+    requires picked { IsPicked J.may_be (W.gives work.now) pieces.now }
+    ensures { IfSome result (λ made. made ≡ place) }
+{
+    for _ in 0..pieces.len() {
+        let Some(other) = window.draw_meanwhile(rt, pieces.len()) else {
+            break;
+        };
+        window.put(rt, make(alloc, pieces, work, other));
+    }
+    window.take(rt, place)
+}
+
+impl<'s, 'e, J: Makeable<X>, R: Wait, P, X: Drop, W: Work<P, X>> Ahead<'s, 'e, J, R, P, X, W> {
+    /// What is made of the next piece, the one at this place.
+    fn made(&self, place: usize) -> Result<X, AllocError>
+        requires place { place < length self.now.pieces.now }
+        requires picked { IsPicked J.may_be (W.gives self.now.work.now) self.now.pieces.now }
         ensures { IfOk result (λ made. IsMade (W.gives self.now.work.now) self.now.pieces.now place made) }
     {
-        let made = made_of(self.alloc, self.pieces, self.work, place);
-        self.at_once.end(self.rt);
-        made
+        if let Some(window) = &self.window {
+            if let Some(made) = made_by_all(
+                self.rt,
+                self.alloc,
+                window,
+                self.pieces,
+                self.work,
+                place,
+            ) {
+                return made.into_item();
+            }
+        }
+        self.work.make(self.alloc, &self.pieces[place])
     }
 
-    /// What is made of the next piece. Waits for its thread, or makes it where it has none; then starts a thread for another
-    /// one. An `Err` is want of memory alone; the piece counts as taken.
+    /// What is made of the next piece, which is taken. An `Err` is want of memory alone; the piece counts as taken.
     pub fn next(&mut self) -> Result<X, AllocError>
-        requires { self.old.taken < length self.old.pieces.now }
+        requires left { self.old.taken < length self.old.pieces.now }
+        requires picked { IsPicked J.may_be (W.gives self.old.work.now) self.old.pieces.now }
         ensures made { IfOk result (λ made. IsMade (W.gives self.old.work.now) self.old.pieces.now self.old.taken made) }
         ensures pieces { self.new.pieces.now ≡ self.old.pieces.now }
         ensures work { self.new.work.now ≡ self.old.work.now }
         ensures taken { self.new.taken ≡ self.old.taken + 1 }
     {
         let place = self.taken;
-        let made = match self.take_first() {
-            Some(making) => making.join(self.rt),
-            None => self.make(place),
-        };
-        self.start_more();
-        made
+        self.taken += 1;
+        self.made(place)
     }
-}
 
-impl<'s, 'e, R: Wait, P, X: Drop, W: Work<P, X>> Ahead<'s, 'e, R, P, X, W> {
-    /// Takes no more: threads that have begun go on, and no other one begins.
+    /// Takes no more: threads make what they have begun, and no other piece.
     pub fn close(self) {
-        self.at_once.close(self.rt);
+        if let Some(window) = &self.window {
+            window.close(self.rt);
+        }
     }
 }

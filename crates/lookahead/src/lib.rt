@@ -1,9 +1,10 @@
-//! What threads make of the next pieces of a list, ahead of the caller, who takes it in the pieces' order.
+//! Pieces that are taken in their order, by a caller who makes them together with threads that go ahead.
 #![tactic(auto)]
 
 mod ahead;
-mod at_once;
-mod making;
+mod made;
+mod shelf;
+mod window;
 
 pub use ahead::Ahead;
-pub use at_once::AtOnce;
+pub use made::Makeable;

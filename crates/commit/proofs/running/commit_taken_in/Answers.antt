@@ -3,13 +3,9 @@ use Rattle.std.proofs.lemmas.Result.{IfOk-weaker}
 use Rattle.channel.specs.Configuration.{Configuration}
 use Rattle.commit.specs.Prepared.{MayBeTakenIn}
 use Rattle.commit.specs.Running.{BelongsTo, committing, SubmitsTo}
-use Rattle.commit.proofs.Crossing.{crossing, prepared_send}
 use Rattle.commit.proofs.TakenAhead.{waits}
 use Rattle.commit.proofs.Telling.{IsRun-more, IsEndedRun-at}
 use Rattle.commit.proofs.running.commit_taken_in.Goals as goal
-
-pub next-requires-send-X : goal.next-requires-send-X
-next-requires-send-X g c κs within = search (crossing, prepared_send) depth 40 fits 100000
 
 pub commit_next-requires-clause-waits : goal.commit_next-requires-clause-waits
 commit_next-requires-clause-waits g c κs within w =

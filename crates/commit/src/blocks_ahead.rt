@@ -1,0 +1,41 @@
+//! Blocks that workers take in ahead of the one that is committed.
+
+use crate::block_bytes::BlockBytes;
+use crate::context::Context;
+use crate::prepared::Prepared;
+use lookahead::{Ahead, Makeable};
+use rules::Refused;
+use std::marker::{Brand, PhantomData};
+
+/// What may be taken in of the block at a place. A run picks it.
+pub(crate) trait Intake {
+    ghost use Rattle.std.specs.Prelude.{ℕ, Result};
+    ghost use Rattle.rules.specs.declared.answer.Refused.{Refused};
+    ghost use Rattle.commit.specs.declared.prepared.Prepared.{Prepared};
+
+    ghost may_be: { ℕ → Result Prepared Refused → Type 0 };
+}
+
+impl Intake for Brand {
+    ghost may_be = { λ place taken. Unit {0} };
+}
+
+/// What is made ahead of blocks is what is taken in of them.
+pub(crate) struct OfBlocks<J> {
+    of: PhantomData<J>,
+}
+
+impl<'b, J: Intake> Makeable<Result<Prepared<'b>, Refused>> for OfBlocks<J> {
+    ghost may_be = { J.may_be };
+}
+
+/// The blocks of a run, of which workers take in the next ones.
+pub(crate) type BlocksAhead<'s, 'e, J, R, V, G> = Ahead<
+    's,
+    'e,
+    OfBlocks<J>,
+    R,
+    BlockBytes<'e>,
+    Result<Prepared<'e>, Refused>,
+    Context<'e, R, V, G>,
+>;
