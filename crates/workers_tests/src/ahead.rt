@@ -97,7 +97,7 @@ impl Work<u32, u32> for Watched {
 }
 
 // Whether the first pieces, so many, came in their order. No more is taken then.
-fn are_taken_as<'s, 'e, J: Makeable<u32> + Send + Sync + 'static, R: Threads + Wait + Sync>(
+fn are_taken<'s, 'e, J: Makeable<u32> + Send + Sync + 's, R: Threads + Wait + Sync>(
     scope: &'s Scope<'s, &'e ()>,
     rt: &'e R,
     alloc: Global,
@@ -122,19 +122,26 @@ fn are_taken_as<'s, 'e, J: Makeable<u32> + Send + Sync + 'static, R: Threads + W
     are_right
 }
 
-fn are_taken<'s, 'e, R: Threads + Wait + Sync>(
-    scope: &'s Scope<'s, &'e ()>,
+fn are_taken_in_scope<'e, J: Makeable<u32> + Send + Sync, R: Threads + Wait + Sync>(
     rt: &'e R,
     alloc: Global,
     pieces: &'e [u32],
     watched: &'e Watched,
     workers: usize,
     count: usize,
-) -> bool {
-    are_taken_as::<Brand, R>(scope, rt, alloc, pieces, watched, workers, count)
+) -> bool
+    requires picked { IsPicked J.may_be (λ piece made. made ≡ piece) pieces.now }
+{
+    thread::scope(
+        thread::scope_env(),
+        rt,
+        |scope| -> bool
+            requires { IsSync R.row × IsPicked J.may_be (λ piece made. made ≡ piece) pieces.now }
+        { are_taken::<J, R>(scope, rt, alloc, pieces, watched, workers, count) },
+    )
 }
 
-fn are_taken_in_scope<R: Threads + Wait + Sync>(
+fn do_come<R: Threads + Wait + Sync>(
     rt: &R,
     alloc: Global,
     pieces: &[u32],
@@ -142,19 +149,13 @@ fn are_taken_in_scope<R: Threads + Wait + Sync>(
     workers: usize,
     count: usize,
 ) -> bool {
-    thread::scope(
-        thread::scope_env(),
-        rt,
-        |scope| -> bool
-            requires { IsSync R.row }
-        { are_taken(scope, rt, alloc, pieces, watched, workers, count) },
-    )
+    are_taken_in_scope::<Brand, R>(rt, alloc, pieces, watched, workers, count)
 }
 
 #[test]
 fn others_are_made_behind_one_that_takes_long(rt: HostRuntime) -> Result<(), Failed> {
     let watched = Watched::new(true);
-    check(are_taken_in_scope(
+    check(do_come(
         &rt,
         rt.alloc(),
         &PIECES,
@@ -170,7 +171,7 @@ fn others_are_made_behind_one_that_takes_long(rt: HostRuntime) -> Result<(), Fai
 #[test]
 fn none_begins_when_no_more_is_taken(rt: HostRuntime) -> Result<(), Failed> {
     let watched = Watched::new(false);
-    check(are_taken_in_scope(&rt, rt.alloc(), &PIECES, &watched, WORKERS as usize, 3))?;
+    check(do_come(&rt, rt.alloc(), &PIECES, &watched, WORKERS as usize, 3))?;
     check(!watched.are_too_many.load(Ordering::SeqCst))?;
     check(watched.made.load(Ordering::SeqCst) <= 3 + WINDOW)
 }
@@ -178,6 +179,6 @@ fn none_begins_when_no_more_is_taken(rt: HostRuntime) -> Result<(), Failed> {
 #[test]
 fn one_worker_makes_all(rt: HostRuntime) -> Result<(), Failed> {
     let watched = Watched::new(false);
-    check(are_taken_in_scope(&rt, rt.alloc(), &PIECES, &watched, 1, PIECES.len()))?;
+    check(do_come(&rt, rt.alloc(), &PIECES, &watched, 1, PIECES.len()))?;
     check(watched.made.load(Ordering::SeqCst) == 40)
 }
