@@ -122,7 +122,7 @@ fn commit_taken_in<
 }
 
 /// Commits blocks that workers take in ahead, of whom the calling thread is one. When the function asks for no more, no other
-/// block is taken in.
+/// block begins.
 fn commit_ahead<
     'p,
     't,

@@ -67,9 +67,9 @@ impl<
     X: Send + Drop + 's,
     W: Work<P, X> + Sync + 's,
 > Ahead<'s, 'e, J, R, P, X, W> {
-    /// Starts threads for pieces of which none is taken: one for each worker but the taker. One that can't be started is done
-    /// without, and so are all where memory for what they make is refused: the taker makes what nobody else does. Call `close`
-    /// at the end; threads may wait for it.
+    /// Starts threads for pieces of which none is taken: one for each worker but the taker, and no more than there are pieces.
+    /// One that can't be started is done without, and so are all where memory for what they make is refused: the taker makes
+    /// what nobody else does. Call `close` at the end; threads may wait for it.
     pub fn new(
         scope: &'s Scope<'s, &'e ()>,
         rt: &'e R,
@@ -92,7 +92,7 @@ impl<
             alloc,
             window: shared_window(alloc, workers.saturating_mul(AHEAD_OF_EACH)),
         };
-        ahead.start_others(workers);
+        ahead.start_others(workers.min(pieces.len()));
         ahead
     }
 

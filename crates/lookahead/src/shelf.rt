@@ -78,7 +78,8 @@ impl<J: Makeable<X>, X: Drop> Shelf<J, X> {
         self.draw(len, most)
     }
 
-    /// A piece that was drawn is made. There is room for it: no more than fit are drawn and not taken.
+    /// A piece that was drawn is made. There is room for it, since no more than fit are drawn and not taken; one that were refused
+    /// room would be made again.
     pub(crate) fn put(&mut self, made: Made<J, X>) {
         let _ = self.made.push(made);
         self.making = self.making.saturating_sub(1);
