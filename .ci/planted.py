@@ -1,9 +1,9 @@
 #!/usr/bin/env python3
 """Wrong bodies that the prover refused, and that needn't be tried again while all that refuses them stays as it is.
 
-An edit of `crates/NAME/planted/` has the form of one of `must-fail/`. Whether the prover refuses it depends on the crate and on those
-below it. So `.ci/planted.txt` has a digest of their texts, over which all edits of the crate were refused, and the merge gate tries
-those of each crate that has another one.
+An edit of `crates/NAME/planted/` has the form of one of `must-fail/`. Whether the prover refuses it depends on the crate, on those
+below it, and on the prover's logic. So `.ci/planted.txt` has a digest of these, with which all edits of the crate were refused, and the
+merge gate tries those of each crate that has another one.
 
 planted.py            says for which crates that is, and fails where an edit can't be applied
 planted.py --place    gives `rt ci` what it has to try: copies the edits of these crates, with `--all` of each, into `must-fail/`
@@ -11,6 +11,7 @@ planted.py --take     takes all of them away again
 planted.py NAME ..    tries the edits of these crates, and writes their digests where all are refused
 """
 
+import functools
 import hashlib
 import pathlib
 import shutil
@@ -45,11 +46,18 @@ def without_comments(file):
     return b"\n".join(line for line in file.read_bytes().split(b"\n") if not line.lstrip().startswith((b"//", b"--")))
 
 
+@functools.cache
+def logic():
+    """Of the kit on this machine: the part of its version that changes with what its prover takes for proved."""
+    version = subprocess.run(["rt", "version"], capture_output=True, text=True, check=True).stdout
+    return version.split("logic ")[1].split()[0]
+
+
 def digest_of(crate):
-    """Of the names and texts of all files that an edit's answer may depend on."""
+    """Of all that an edit's answer may depend on: the names and texts of files, and the logic."""
     below = [TOP / "crates" / name for name in sources.crates_below(crate.name) if name != crate.name]
     files = files_of(crate, OWN) + [file for it in sorted(below) for file in files_of(it, BELOW)]
-    digest = hashlib.sha256()
+    digest = hashlib.sha256(f"{logic()}\n".encode())
     for file in files:
         digest.update(f"{file.relative_to(TOP).as_posix()} {hashlib.sha256(without_comments(file)).hexdigest()}\n".encode())
     return digest.hexdigest()
