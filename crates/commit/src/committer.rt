@@ -164,7 +164,7 @@ impl Committer {
     /// was taken in of a block that isn't the next one goes for nothing, as where the function ends the run. One or two blocks
     /// are taken in by all workers, each when its turn comes.
     ///
-    /// It takes memory for what is taken in ahead, at most twice as many blocks as there are workers. Where that is refused, the
+    /// It takes memory for what is taken in ahead, of at most four blocks for each worker. Where that is refused, the
     /// block is taken in once more when its turn comes. A thread that can't be started is done without. Of an accepted block
     /// the committer keeps the bytes that are shared, without a copy.
     pub fn run_telling<

@@ -9,8 +9,9 @@ use std::alloc::{AllocError, Global};
 use std::sync::{Arc, Wait};
 use std::thread::{Scope, Threads};
 
-/// For each worker so many pieces are made and not taken at most: enough that the others go on behind one that takes long.
-const AHEAD_OF_EACH: usize = 2;
+/// For each worker so many pieces are made and not taken at most: enough that the others go on behind one that takes long, also
+/// where pieces differ in size.
+const AHEAD_OF_EACH: usize = 4;
 
 /// Pieces that are taken one by one, in their order. Threads make the next ones meanwhile, and so does the taker while the one that
 /// it takes isn't made.

@@ -17,7 +17,7 @@ use test_support::{Failed, check};
 const WORKERS: u32 = 3;
 
 /// How many pieces at most are begun and not taken.
-const WINDOW: u32 = 6;
+const WINDOW: u32 = 12;
 
 /// How often a worker that is held looks whether it may go on.
 const TURNS: u32 = 2_000_000;
