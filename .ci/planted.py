@@ -8,6 +8,7 @@ merge gate tries those of each crate that has another one.
 planted.py            says for which crates that is, and fails where an edit can't be applied
 planted.py --place    gives `rt ci` what it has to try: copies the edits of these crates, with `--all` of each, into `must-fail/`
 planted.py --take     takes all of them away again
+planted.py --write    writes the digests of all crates, behind a gate that passed over these sources
 planted.py NAME ..    tries the edits of these crates, and writes their digests where all are refused
 """
 
@@ -132,8 +133,9 @@ def is_refused(crate):
         take([crate])
 
 
-def write(crate):
-    tried = {**digests(), crate.name: digest_of(crate)}
+def write(refused):
+    """The digests of crates whose edits were all refused."""
+    tried = digests() | {crate.name: digest_of(crate) for crate in refused}
     known = {crate.name for crate in crates()}
     DIGESTS.write_text("".join(f"{name} {tried[name]}\n" for name in sorted(tried) if name in known))
 
@@ -148,6 +150,8 @@ def main(words):
         place(crates() if words[1:] == ["--all"] else changed())
     elif words == ["--take"]:
         take(crates())
+    elif words == ["--write"]:
+        write(crates())
     elif words:
         named = [TOP / "crates" / word for word in words]
         unknown = [crate.name for crate in named if not edits_of(crate)]
@@ -155,8 +159,7 @@ def main(words):
             print(f"no planted edits: {' '.join(unknown)}")
             return 2
         refused = [crate for crate in named if is_refused(crate)]
-        for crate in refused:
-            write(crate)
+        write(refused)
         return 0 if len(refused) == len(named) else 1
     names = [crate.name for crate in changed()]
     print(f"planted edits: {sum(len(edits_of(crate)) for crate in crates())} in {len(crates())} crates; changed: {' '.join(names) or 'none'}")
