@@ -183,7 +183,7 @@ def copied(folder):
     """The sources of all crates, and what names them."""
     shutil.copy(TOP / "crates.txt", folder)
     shutil.copy(TOP / "HANDLES", folder)
-    without = shutil.ignore_patterns("out", "must-fail", "planted")
+    without = shutil.ignore_patterns("out", "must-fail")
     shutil.copytree(TOP / "crates", folder / "crates", ignore=without)
     # what the copies are made of anew before each build
     shutil.copytree(folder / "crates", folder / "originals")
