@@ -1,8 +1,11 @@
 -- What was taken in of a block before its world is known. No public contract cites this.
 use Rattle.std.specs.Prelude.{◌≡◌, ℕ, List, Option, Result, IfSome, MatchResult}
 use Rattle.block.specs.declared.block.Block.{Block}
+use Rattle.block.specs.Grammar.{Spells}
 use Rattle.channel.specs.Configuration.{Configuration}
 use Rattle.intake.specs.declared.taking.Taken.{Taken}
+use Rattle.intake_workers.specs.declared.part.TakenPart.{TakenPart}
+use Rattle.intake_workers.specs.Parts.{IsTakenPart}
 use Rattle.next_block.specs.Tentative.{AreTentativeIn}
 use Rattle.next_block.specs.NextDelta.{IsNextDelta}
 use Rattle.next_block.specs.Taken.{IsTaken}
@@ -27,6 +30,10 @@ IsTakenIn channel accepts w bytes r = MatchResult r (IsPrepared channel accepts 
 -- by every world
 pub record MayBeTakenIn (channel : Configuration) (accepts : Accepts) (bytes : List ℕ) (r : Result Prepared Refused) : Type 0 where
   pub by : (w : World) → IsTakenIn channel accepts w bytes r
+
+-- of a part of the block that these bytes spell, where they spell one
+pub record MayBeTakenInPart (channel : Configuration) (accepts : Accepts) (bytes : List ℕ) (count number : ℕ) (part : TakenPart) : Type 0 where
+  pub of : (b : Block) → Spells bytes b → IsTakenPart channel accepts b count number part
 
 -- this, where it was taken in
 abbrev pub MayWait : Configuration → Accepts → World → List ℕ → Option (Result Prepared Refused) → Type 0

@@ -44,6 +44,11 @@ impl<'b> BlockBytes<'b> {
         }
     }
 
+    /// How many they are.
+    pub(crate) fn len(&self) -> usize {
+        self.bytes.len()
+    }
+
     /// The block that they spell, or why they spell none.
     pub(crate) fn decode(&self, alloc: Global) -> Result<DecodedBlock<'b>, Refused>
         ensures { IsDecoded self.now result }

@@ -2,15 +2,16 @@
 ghost use Rattle.std.specs.Prelude.{◌≡◌, IfOk};
 ghost use Rattle.block.specs.Grammar.{Spells};
 ghost use Rattle.next_block.specs.Tentative.{AreTentativeIn};
-ghost use Rattle.commit.specs.Prepared.{IsPrepared, MayBeTakenIn};
+ghost use Rattle.lookahead.specs.Parts.{AreParts};
+ghost use Rattle.commit.specs.Prepared.{IsPrepared, MayBeTakenIn, MayBeTakenInPart};
 
 use crate::block_bytes::BlockBytes;
 use crate::context::Context;
 use gates::Gate;
-use intake_workers::{Crew, TakenIn, take_in, take_in_alone};
+use intake_workers::{Crew, TakenIn, TakenPart, join_parts, take_in, take_in_part};
 use linking::{DecodedBlock, HashedBlock};
+use lookahead::PartedWork;
 use next_block::{TentativeJob, tentative_job_of};
-use pieces::Work;
 use policy_eval::Verify;
 use rules::Refused;
 use std::alloc::{AllocError, Global};
@@ -60,41 +61,92 @@ pub(crate) fn prepare<'b, R: Threads + Sync, V: Verify + Sync, G: Gate + Sync>(
     prepared_of(context.alloc, taken_in, bytes)
 }
 
-/// Takes the block of these bytes in by the calling thread. An `Err` is want of memory.
-fn prepare_alone<'b, R, V: Verify, G: Gate>(
+// A part of about so many bytes is worth drawing: several hundred microseconds of work.
+const BYTES_OF_A_PART: usize = 1 << 16;
+
+// More parts would cost more than they spread: each decodes the block.
+const PARTS_OF_EACH: usize = 4;
+
+/// Takes in one of so many parts of the block of these bytes, or nothing where they spell none. An `Err` is want of memory.
+fn take_in_part_of<'b, R, V: Verify, G: Gate>(
+    context: &Context<'_, R, V, G>,
+    bytes: &BlockBytes<'b>,
+    count: usize,
+    number: usize,
+) -> Result<TakenPart<'b>, AllocError>
+    ensures { IfOk result (MayBeTakenInPart context.now.channel.now (V.accepts context.now.verifier.now) bytes.now count number) }
+{
+    block::one_reading();
+    match bytes.decode(context.alloc) {
+        Ok(block) => take_in_part(context.alloc, &context.rules(), &block, count, number),
+        Err(Refused::Malformed(_)) => Ok(TakenPart::nothing(context.alloc)),
+        Err(_) => Err(AllocError),
+    }
+}
+
+/// The block of these bytes, prepared, of all its parts. An `Err` is want of memory.
+fn prepare_parts<'b, R, V: Verify, G: Gate>(
     context: &Context<'_, R, V, G>,
     block: DecodedBlock<'b>,
     bytes: &BlockBytes<'b>,
+    parts: Vec<TakenPart<'b>>,
 ) -> Result<Prepared<'b>, AllocError>
-    ensures { IfOk result (λ prepared. Spells bytes.now block.entry → IsPrepared context.now.channel.now (V.accepts context.now.verifier.now) bytes.now prepared) }
+    requires spelled { Spells bytes.now block }
+    requires parts { AreParts (MayBeTakenInPart context.now.channel.now (V.accepts context.now.verifier.now) bytes.now) parts.items }
+    ensures { IfOk result (λ prepared. IsPrepared context.now.channel.now (V.accepts context.now.verifier.now) bytes.now prepared) }
 {
-    let taken_in = take_in_alone(context.alloc, &context.rules(), block)?;
+    let taken_in = join_parts(context.alloc, &context.rules(), block, parts)?;
     prepared_of(context.alloc, taken_in, bytes)
 }
 
-/// The block of these bytes, taken in by the calling thread, or why any world refuses them. An `Err` is want of memory.
-fn take_in_ahead<'b, R, V: Verify, G: Gate>(
+/// The block of these bytes, of all its parts, or why any world refuses them. An `Err` is want of memory.
+fn joined<'b, R, V: Verify, G: Gate>(
     context: &Context<'_, R, V, G>,
     bytes: &BlockBytes<'b>,
+    parts: Vec<TakenPart<'b>>,
 ) -> Result<Result<Prepared<'b>, Refused>, AllocError>
+    requires { AreParts (MayBeTakenInPart context.now.channel.now (V.accepts context.now.verifier.now) bytes.now) parts.items }
     ensures { IfOk result (MayBeTakenIn context.now.channel.now (V.accepts context.now.verifier.now) bytes.now) }
 {
     match bytes.decode(context.alloc) {
-        Ok(block) => Ok(Ok(prepare_alone(context, block, bytes)?)),
+        Ok(block) => Ok(Ok(prepare_parts(context, block, bytes, parts)?)),
         Err(Refused::Memory) => Err(AllocError),
         Err(refused) => Ok(Err(refused)),
     }
 }
 
-impl<'b, R, V: Verify, G: Gate> Work<BlockBytes<'b>, Result<Prepared<'b>, Refused>>
-    for Context<'_, R, V, G> {
+impl<'b, R, V: Verify, G: Gate> PartedWork<
+    BlockBytes<'b>,
+    TakenPart<'b>,
+    Result<Prepared<'b>, Refused>,
+> for Context<'_, R, V, G> {
     ghost gives = { λ context bytes taken. MayBeTakenIn context.channel.now (V.accepts context.verifier.now) bytes taken };
 
-    fn make(
+    ghost gives_part = { λ context bytes count number part. MayBeTakenInPart context.channel.now (V.accepts context.verifier.now) bytes count number part };
+
+    fn parts(&self, bytes: &BlockBytes<'b>) -> usize {
+        (bytes.len() / BYTES_OF_A_PART).min(self.workers.count * PARTS_OF_EACH)
+    }
+
+    fn make_part(
         &self,
         _alloc: Global,
         bytes: &BlockBytes<'b>,
-    ) -> Result<Result<Prepared<'b>, Refused>, AllocError> {
-        take_in_ahead(self, bytes)
+        count: usize,
+        number: usize,
+    ) -> Result<TakenPart<'b>, AllocError> {
+        take_in_part_of(self, bytes, count, number)
+    }
+
+    fn join(
+        &self,
+        _alloc: Global,
+        bytes: &BlockBytes<'b>,
+        parts: Vec<TakenPart<'b>>,
+    ) -> Result<Result<Prepared<'b>, Refused>, AllocError>
+        requires { AreParts (MayBeTakenInPart self.now.channel.now (V.accepts self.now.verifier.now) bytes.now) parts.items }
+        ensures { IfOk result (MayBeTakenIn self.now.channel.now (V.accepts self.now.verifier.now) bytes.now) }
+    {
+        joined(self, bytes, parts)
     }
 }

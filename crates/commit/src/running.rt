@@ -3,7 +3,7 @@ ghost use Rattle.std.specs.Prelude.{◌≡◌};
 ghost use Rattle.std.specs.Thread.{IsSync};
 ghost use Rattle.rules.specs.World.{World};
 ghost use Rattle.lookahead.specs.Picked.{IsPicked};
-ghost use Rattle.commit.specs.Prepared.{MayBeTakenIn, MayWait};
+ghost use Rattle.commit.specs.Prepared.{MayBeTakenIn, MayBeTakenInPart, MayWait};
 ghost use Rattle.commit.specs.Running.{Answer, BelongsTo, SubmitsTo, TellsTo};
 
 use crate::block_bytes::BlockBytes;
@@ -98,7 +98,7 @@ fn commit_taken_in<
     blocks: &'e [BlockBytes<'e>],
     ahead: &mut BlocksAhead<'_, 'e, J, R, V, G>,
 ) -> bool
-    requires picked { IsPicked J.may_be (MayBeTakenIn context.now.channel.now (V.accepts context.now.verifier.now)) blocks.now }
+    requires picked { IsPicked J.may_be J.may_be_part (MayBeTakenIn context.now.channel.now (V.accepts context.now.verifier.now)) (MayBeTakenInPart context.now.channel.now (V.accepts context.now.verifier.now)) blocks.now }
     requires blocks { ahead.old.pieces.now ≡ blocks.now }
     requires context { ahead.old.work.now ≡ context.now }
     requires none { ahead.old.taken ≡ 0 }
@@ -139,7 +139,7 @@ fn commit_ahead<
     run: Run<'p, 't, F>,
     blocks: &'e [BlockBytes<'e>],
 ) -> Run<'p, 't, F>
-    requires picked { IsPicked J.may_be (MayBeTakenIn context.now.channel.now (V.accepts context.now.verifier.now)) blocks.now }
+    requires picked { IsPicked J.may_be J.may_be_part (MayBeTakenIn context.now.channel.now (V.accepts context.now.verifier.now)) (MayBeTakenInPart context.now.channel.now (V.accepts context.now.verifier.now)) blocks.now }
     requires belongs { BelongsTo context.now.channel.now run.published.now }
     requires callable { F.IsAlwaysCallable run.tell.now }
     ensures told { TellsTo F.step context.now.channel.now (V.accepts context.now.verifier.now)
@@ -179,7 +179,7 @@ fn commit_in_scope<
     blocks: &'e [BlockBytes<'e>],
     tell: &'t mut F,
 ) -> Run<'p, 't, F>
-    requires picked { IsPicked J.may_be (MayBeTakenIn context.now.channel.now (V.accepts context.now.verifier.now)) blocks.now }
+    requires picked { IsPicked J.may_be J.may_be_part (MayBeTakenIn context.now.channel.now (V.accepts context.now.verifier.now)) (MayBeTakenInPart context.now.channel.now (V.accepts context.now.verifier.now)) blocks.now }
     requires belongs { BelongsTo context.now.channel.now published.old }
     requires callable { F.IsAlwaysCallable tell.old }
     ensures told { TellsTo F.step context.now.channel.now (V.accepts context.now.verifier.now)
@@ -199,7 +199,7 @@ fn commit_in_scope<
         context.rt,
         move |scope| -> Run<F>
             requires { IsSync R.row × IsSync V.row × IsSync G.row
-                × IsPicked J.may_be (MayBeTakenIn context.now.channel.now (V.accepts context.now.verifier.now)) blocks.now
+                × IsPicked J.may_be J.may_be_part (MayBeTakenIn context.now.channel.now (V.accepts context.now.verifier.now)) (MayBeTakenInPart context.now.channel.now (V.accepts context.now.verifier.now)) blocks.now
                 × BelongsTo context.now.channel.now run.published.now
                 × F.IsAlwaysCallable run.tell.now }
             ensures told { TellsTo F.step context.entry.now.channel.now (V.accepts context.entry.now.verifier.now)

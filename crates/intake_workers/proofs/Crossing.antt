@@ -15,6 +15,7 @@ use Rattle.rules.proofs.Crossing.{policy_send, policy_sync, definitions_sync}
 use Rattle.state_keys.proofs.state_key.StateKey.TheSendSync as state_key
 use Rattle.candidates.specs.contracts.candidate.Candidate as candidate
 use Rattle.intake.specs.contracts.taking.Taken as taken
+use Rattle.intake_workers.specs.contracts.part.TakenPart as part
 
 pub ruleset crossing = (
   rules.crossing,
@@ -47,3 +48,6 @@ taken_send ℓ = recorded_send _ _ _ ((taken.the_type ℓ).to_one) (struct_send 
   search crossing depth 20,
   (candidate_send ℓ, tt),
 ))
+
+pub part_send : (ℓ : NamedLft) → IsSend (part.the_row ℓ)
+part_send ℓ = search (crossing, taken_send) depth 40 fits 100000

@@ -34,7 +34,7 @@ impl<'t, 'a, 's, V: Verify, G: Gate> Work<Piece<'t, 'a>, Vec<Taken<'a>>> for Int
     }
 }
 
-fn take_piece<'a, V: Verify, G: Gate>(
+pub(crate) fn take_piece<'a, V: Verify, G: Gate>(
     alloc: Global,
     rules: &IntakeRules<'_, V, G>,
     piece: &Piece<'_, 'a>,
@@ -74,7 +74,7 @@ pub struct TakenIn<'a> {
 const WORTH_A_THREAD: usize = 16;
 
 /// What was taken in of pieces, one list behind the other, of so many items in all.
-fn joined<'a>(
+pub(crate) fn joined<'a>(
     alloc: Global,
     items: usize,
     lists: Vec<Vec<Taken<'a>>>,
@@ -89,7 +89,7 @@ fn joined<'a>(
 }
 
 /// The data hash of a block's transactions.
-fn hash_of(block: &DecodedBlock<'_>) -> Hash
+pub(crate) fn hash_of(block: &DecodedBlock<'_>) -> Hash
     ensures { result ≡ data_hash_of block.now.txs }
 {
     data_hash(block.txs())

@@ -2,9 +2,12 @@ ghost use Rattle.std.specs.Prelude.{◌≡◌, ◌+◌, ◌<◌, length, IfOk, I
 ghost use Rattle.pieces.specs.Pieces.{IsMade};
 ghost use Rattle.lookahead.specs.Picked.{IsPicked};
 
-use crate::made::{Made, Makeable};
+use crate::joining::{join, make_alone};
+use crate::made::{Made, MadePart, Makeable};
+use crate::part::Part;
+use crate::parted_work::PartedWork;
+use crate::shelf::MOST_PARTS;
 use crate::window::Window;
-use pieces::Work;
 use std::alloc::{AllocError, Global};
 use std::sync::{Arc, Wait};
 use std::thread::{Scope, Threads};
@@ -16,7 +19,7 @@ const AHEAD_OF_EACH: usize = 4;
 /// Pieces that are taken one by one, in their order. Threads make the next ones meanwhile, and so does the taker while the one that
 /// it takes isn't made.
 #[derive(Drop)]
-pub struct Ahead<'s, 'e, J: Makeable<X>, R, P, X: Drop, W: Work<P, X>> {
+pub struct Ahead<'s, 'e, J: Makeable<Y, X>, R, P, Y: Drop, X: Drop, W: PartedWork<P, Y, X>> {
     pub pieces: &'e [P],
     pub work: &'e W,
     /// How many were taken.
@@ -24,51 +27,57 @@ pub struct Ahead<'s, 'e, J: Makeable<X>, R, P, X: Drop, W: Work<P, X>> {
     scope: &'s Scope<'s, &'e ()>,
     rt: &'e R,
     alloc: Global,
-    window: Option<Arc<Window<J, X>>>,
+    window: Option<Arc<Window<J, Y, X>>>,
 }
 
-// Makes what is to be made of the piece at a place.
-fn make<J: Makeable<X>, P, X: Drop, W: Work<P, X>>(
-    alloc: Global,
-    pieces: &[P],
-    work: &W,
-    place: usize,
-) -> Made<J, X>
-    requires place { place < length pieces.now }
-    requires picked { IsPicked J.may_be (W.gives work.now) pieces.now }
-    ensures { result ≡ place }
-{
-    Made::new(place, work.make(alloc, &pieces[place]))
-}
-
-// Makes pieces until none is left, or no more is taken.
-fn make_ahead<J: Makeable<X>, R: Wait, P, X: Drop, W: Work<P, X>>(
+// Makes a part, and its piece where it is the last one.
+fn make<J: Makeable<Y, X>, R: Wait, P, Y: Drop, X: Drop, W: PartedWork<P, Y, X>>(
     rt: &R,
     alloc: Global,
-    window: &Window<J, X>,
+    window: &Window<J, Y, X>,
+    pieces: &[P],
+    work: &W,
+    part: Part,
+)
+    requires place { part.place < length pieces.now }
+    requires number { part.number < part.count }
+    requires picked { IsPicked J.may_be J.may_be_part (W.gives work.now) (W.gives_part work.now) pieces.now }
+{
+    let item = work.make_part(alloc, &pieces[part.place], part.count, part.number);
+    if let Some(parts) = window.put_part(rt, MadePart::new(part, item)) {
+        window.put(rt, join(alloc, pieces, work, part, parts));
+    }
+}
+
+// Makes parts until none is left, or no more is taken.
+fn make_ahead<J: Makeable<Y, X>, R: Wait, P, Y: Drop, X: Drop, W: PartedWork<P, Y, X>>(
+    rt: &R,
+    alloc: Global,
+    window: &Window<J, Y, X>,
     pieces: &[P],
     work: &W,
 )
-    requires picked { IsPicked J.may_be (W.gives work.now) pieces.now }
+    requires picked { IsPicked J.may_be J.may_be_part (W.gives work.now) (W.gives_part work.now) pieces.now }
 {
-    for _ in 0..pieces.len() {
-        let Some(place) = window.draw(rt, pieces.len()) else {
+    for _ in 0..pieces.len().saturating_mul(MOST_PARTS) {
+        let Some(part) = window.draw(rt, pieces, work) else {
             break;
         };
-        window.put(rt, make(alloc, pieces, work, place));
+        make(rt, alloc, window, pieces, work, part);
     }
 }
 
 impl<
     's,
     'e,
-    J: Makeable<X> + Send + Sync + 's,
+    J: Makeable<Y, X> + Send + Sync + 's,
     R: Threads + Wait + Sync + 's,
     P: Sync + 's,
+    Y: Send + Drop + 's,
     X: Send + Drop + 's,
-    W: Work<P, X> + Sync + 's,
-> Ahead<'s, 'e, J, R, P, X, W> {
-    /// Starts threads for pieces of which none is taken: one for each worker but the taker, and no more than there are pieces.
+    W: PartedWork<P, Y, X> + Sync + 's,
+> Ahead<'s, 'e, J, R, P, Y, X, W> {
+    /// Starts threads for pieces of which none is taken: one for each worker but the taker, and no more than there are parts.
     /// One that can't be started is done without, and so are all where memory for what they make is refused: the taker makes
     /// what nobody else does. Call `close` at the end; threads may wait for it.
     pub fn new(
@@ -78,8 +87,8 @@ impl<
         pieces: &'e [P],
         work: &'e W,
         workers: usize,
-    ) -> Ahead<'s, 'e, J, R, P, X, W>
-        requires picked { IsPicked J.may_be (W.gives work.now) pieces.now }
+    ) -> Ahead<'s, 'e, J, R, P, Y, X, W>
+        requires picked { IsPicked J.may_be J.may_be_part (W.gives work.now) (W.gives_part work.now) pieces.now }
         ensures pieces { result.pieces.now ≡ pieces.entry.now }
         ensures work { result.work.now ≡ work.entry.now }
         ensures taken { result.taken ≡ 0 }
@@ -93,12 +102,24 @@ impl<
             alloc,
             window: shared_window(alloc, workers.saturating_mul(AHEAD_OF_EACH)),
         };
-        ahead.start_others(workers.min(pieces.len()));
+        ahead.start_others(ahead.useful(workers));
         ahead
     }
 
+    // How many of so many workers have a part to make.
+    fn useful(&self, workers: usize) -> usize {
+        let mut parts = 0usize;
+        for piece in self.pieces {
+            if parts >= workers {
+                break;
+            }
+            parts = parts.saturating_add(self.work.parts(piece).max(1));
+        }
+        parts.min(workers)
+    }
+
     fn start_others(&self, workers: usize)
-        requires picked { IsPicked J.may_be (W.gives self.now.work.now) self.now.pieces.now }
+        requires picked { IsPicked J.may_be J.may_be_part (W.gives self.now.work.now) (W.gives_part self.now.work.now) self.now.pieces.now }
     {
         for _ in 1..workers {
             if !self.start_one() {
@@ -109,7 +130,7 @@ impl<
 
     /// Starts a thread that makes pieces. Says whether it did.
     fn start_one(&self) -> bool
-        requires picked { IsPicked J.may_be (W.gives self.now.work.now) self.now.pieces.now }
+        requires picked { IsPicked J.may_be J.may_be_part (W.gives self.now.work.now) (W.gives_part self.now.work.now) self.now.pieces.now }
     {
         let Some(window) = &self.window else {
             return false;
@@ -121,43 +142,55 @@ impl<
         self.scope
             .spawn(
                 move ||
-                    requires { IsPicked J.may_be (W.gives work.now) pieces.now }
+                    requires { IsPicked J.may_be J.may_be_part (W.gives work.now) (W.gives_part work.now) pieces.now }
                 { make_ahead(rt, alloc, &theirs, pieces, work) },
             )
             .is_ok()
     }
 }
 
-fn shared_window<J: Makeable<X>, X: Drop>(alloc: Global, most: usize) -> Option<Arc<Window<J, X>>> {
+fn shared_window<J: Makeable<Y, X>, Y: Drop, X: Drop>(
+    alloc: Global,
+    most: usize,
+) -> Option<Arc<Window<J, Y, X>>> {
     Arc::new(alloc, Window::new(alloc, most).ok()?).ok()
 }
 
-// What some worker made of the next piece, the one at this place. Makes pieces until it is made or none is left, and waits then.
-fn made_by_all<J: Makeable<X>, R: Wait, P, X: Drop, W: Work<P, X>>(
+// What some worker made of the next piece, the one at this place. Makes parts until it is made or none is left, and waits then.
+fn made_by_all<J: Makeable<Y, X>, R: Wait, P, Y: Drop, X: Drop, W: PartedWork<P, Y, X>>(
     rt: &R,
     alloc: Global,
-    window: &Window<J, X>,
+    window: &Window<J, Y, X>,
     pieces: &[P],
     work: &W,
     place: usize,
-) -> Option<Made<J, X>>
-    requires picked { IsPicked J.may_be (W.gives work.now) pieces.now }
+) -> Option<Made<J, Y, X>>
+    requires picked { IsPicked J.may_be J.may_be_part (W.gives work.now) (W.gives_part work.now) pieces.now }
     ensures { IfSome result (λ made. made ≡ place) }
 {
-    for _ in 0..pieces.len() {
-        let Some(other) = window.draw_meanwhile(rt, pieces.len()) else {
+    for _ in 0..pieces.len().saturating_mul(MOST_PARTS) {
+        let Some(part) = window.draw_meanwhile(rt, pieces, work) else {
             break;
         };
-        window.put(rt, make(alloc, pieces, work, other));
+        make(rt, alloc, window, pieces, work, part);
     }
     window.take(rt, place)
 }
 
-impl<'s, 'e, J: Makeable<X>, R: Wait, P, X: Drop, W: Work<P, X>> Ahead<'s, 'e, J, R, P, X, W> {
+impl<'s, 'e, J: Makeable<Y, X>, R: Wait, P, Y: Drop, X: Drop, W: PartedWork<P, Y, X>> Ahead<
+    's,
+    'e,
+    J,
+    R,
+    P,
+    Y,
+    X,
+    W,
+> {
     /// What is made of the next piece, the one at this place.
     fn made(&self, place: usize) -> Result<X, AllocError>
         requires place { place < length self.now.pieces.now }
-        requires picked { IsPicked J.may_be (W.gives self.now.work.now) self.now.pieces.now }
+        requires picked { IsPicked J.may_be J.may_be_part (W.gives self.now.work.now) (W.gives_part self.now.work.now) self.now.pieces.now }
         ensures { IfOk result (λ made. IsMade (W.gives self.now.work.now) self.now.pieces.now place made) }
     {
         if let Some(window) = &self.window {
@@ -172,13 +205,13 @@ impl<'s, 'e, J: Makeable<X>, R: Wait, P, X: Drop, W: Work<P, X>> Ahead<'s, 'e, J
                 return made.into_item();
             }
         }
-        self.work.make(self.alloc, &self.pieces[place])
+        make_alone(self.alloc, &self.pieces[place], self.work)
     }
 
     /// What is made of the next piece, which is taken. An `Err` is want of memory alone; the piece counts as taken.
     pub fn next(&mut self) -> Result<X, AllocError>
         requires left { self.old.taken < length self.old.pieces.now }
-        requires picked { IsPicked J.may_be (W.gives self.old.work.now) self.old.pieces.now }
+        requires picked { IsPicked J.may_be J.may_be_part (W.gives self.old.work.now) (W.gives_part self.old.work.now) self.old.pieces.now }
         ensures made { IfOk result (λ made. IsMade (W.gives self.old.work.now) self.old.pieces.now self.old.taken made) }
         ensures pieces { self.new.pieces.now ≡ self.old.pieces.now }
         ensures work { self.new.work.now ≡ self.old.work.now }

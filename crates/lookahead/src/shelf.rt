@@ -1,29 +1,41 @@
 //! What is made and isn't taken, and how far pieces are drawn and taken.
 ghost use Rattle.std.specs.Prelude.{◌≡◌, ◌<◌, length, slice_index_or, IfSome, IfOk};
 
-use crate::made::{Made, Makeable};
+use crate::made::{Made, MadePart, Makeable};
+use crate::part::Part;
+use crate::parted_work::PartedWork;
 use std::alloc::{AllocError, Global};
+
+/// The most parts of a piece.
+pub(crate) const MOST_PARTS: usize = 64;
 
 /// Lies under a lock.
 #[derive(Drop)]
-pub(crate) struct Shelf<J: Makeable<X>, X: Drop> {
+pub(crate) struct Shelf<J: Makeable<Y, X>, Y: Drop, X: Drop> {
+    alloc: Global,
     /// In no order.
-    made: Vec<Made<J, X>>,
-    /// The first place that nobody has drawn.
+    made: Vec<Made<J, Y, X>>,
+    /// Parts of pieces of which others lack, in no order.
+    parts: Vec<MadePart<J, Y, X>>,
+    /// The first place of which not all parts are drawn, and how many are.
     drawn: usize,
-    /// How many pieces are drawn and not yet made.
+    drawn_parts: usize,
+    /// How many parts are drawn and not yet made, or the last ones of their piece, which is being joined.
     making: usize,
     /// The place of the piece that is taken next.
     taken: usize,
     is_closed: bool,
 }
 
-impl<J: Makeable<X>, X: Drop> Shelf<J, X> {
+impl<J: Makeable<Y, X>, Y: Drop, X: Drop> Shelf<J, Y, X> {
     /// Nothing is drawn. There is room for so many.
-    pub(crate) fn new(alloc: Global, most: usize) -> Result<Shelf<J, X>, AllocError> {
+    pub(crate) fn new(alloc: Global, most: usize) -> Result<Shelf<J, Y, X>, AllocError> {
         Ok(Shelf {
+            alloc,
             made: Vec::with_capacity(alloc, most)?,
+            parts: Vec::new(alloc),
             drawn: 0,
+            drawn_parts: 0,
             making: 0,
             taken: 0,
             is_closed: false,
@@ -45,7 +57,7 @@ impl<J: Makeable<X>, X: Drop> Shelf<J, X> {
         self.drawn >= self.taken.saturating_add(most)
     }
 
-    /// Whether a thread that wants a piece waits: some are left, and so many are drawn and not taken that there is no room.
+    /// Whether a thread that wants a part waits: some are left, and so many pieces are drawn and not taken that there is no room.
     pub(crate) fn must_wait(&self, len: usize, most: usize) -> bool {
         !self.is_closed && self.drawn < len && self.is_full(most)
     }
@@ -55,38 +67,104 @@ impl<J: Makeable<X>, X: Drop> Shelf<J, X> {
         self.making == 0 || self.position(self.taken).is_some()
     }
 
-    /// The place of a piece that is to be made now.
-    pub(crate) fn draw(&mut self, len: usize, most: usize) -> Option<usize>
-        ensures { IfSome result (λ place. place < len) }
+    /// A part that is to be made now.
+    pub(crate) fn draw<P, W: PartedWork<P, Y, X>>(
+        &mut self,
+        pieces: &[P],
+        work: &W,
+        most: usize,
+    ) -> Option<Part>
+        ensures { IfSome result (λ part. (part.place < length pieces.now) × (part.number < part.count)) }
     {
-        if self.is_closed || self.drawn >= len || self.is_full(most) {
+        if self.is_closed || self.drawn >= pieces.len() || self.is_full(most) {
             return None;
         }
         let place = self.drawn;
-        self.drawn += 1;
+        let count = work.parts(&pieces[place]).min(MOST_PARTS).max(1);
+        let number = self.drawn_parts.min(count - 1);
+        if number + 1 < count {
+            self.drawn_parts = number + 1;
+        } else {
+            self.drawn_parts = 0;
+            self.drawn += 1;
+        }
         self.making = self.making.saturating_add(1);
-        Some(place)
+        Some(Part {
+            place,
+            number,
+            count,
+        })
     }
 
     /// The same, unless the piece that is taken next is made.
-    pub(crate) fn draw_meanwhile(&mut self, len: usize, most: usize) -> Option<usize>
-        ensures { IfSome result (λ place. place < len) }
+    pub(crate) fn draw_meanwhile<P, W: PartedWork<P, Y, X>>(
+        &mut self,
+        pieces: &[P],
+        work: &W,
+        most: usize,
+    ) -> Option<Part>
+        ensures { IfSome result (λ part. (part.place < length pieces.now) × (part.number < part.count)) }
     {
         if self.position(self.taken).is_some() {
             return None;
         }
-        self.draw(len, most)
+        self.draw(pieces, work, most)
     }
 
-    /// A piece that was drawn is made. There is room for it, since no more than fit are drawn and not taken; one that were refused
-    /// room would be made again.
-    pub(crate) fn put(&mut self, made: Made<J, X>) {
+    fn parts_at(&self, place: usize) -> usize {
+        let mut count = 0usize;
+        for made in &self.parts {
+            if made.part().place == place {
+                count = count.saturating_add(1);
+            }
+        }
+        count
+    }
+
+    fn position_of_part_at(&self, place: usize) -> Option<usize>
+        ensures { IfSome result (λ at. at < length self.now.parts.items) }
+    {
+        for at in 0..self.parts.len() {
+            if self.parts[at].part().place == place {
+                return Some(at);
+            }
+        }
+        None
+    }
+
+    /// The parts of the piece at a place, in no order. Those for which there is no memory are lost, and the piece is made again.
+    fn take_parts(&mut self, place: usize) -> Vec<MadePart<J, Y, X>> {
+        let mut taken = Vec::new(self.alloc);
+        for _ in 0..self.parts.len() {
+            let Some(at) = self.position_of_part_at(place) else {
+                break;
+            };
+            let _ = taken.push(self.parts.swap_remove(at));
+        }
+        taken
+    }
+
+    /// A part that was drawn is made. Answers all parts of its piece where none lacks, in no order: they are to be joined now.
+    /// A part that is refused room is lost, and its piece is made again.
+    pub(crate) fn put_part(&mut self, made: MadePart<J, Y, X>) -> Option<Vec<MadePart<J, Y, X>>> {
+        let part = made.part();
+        let _ = self.parts.push(made);
+        if self.parts_at(part.place) < part.count {
+            self.making = self.making.saturating_sub(1);
+            return None;
+        }
+        Some(self.take_parts(part.place))
+    }
+
+    /// A piece whose parts are joined is made. There is room for it, since no more than fit are drawn and not taken; one that were
+    /// refused room would be made again.
+    pub(crate) fn put(&mut self, made: Made<J, Y, X>) {
         let _ = self.made.push(made);
         self.making = self.making.saturating_sub(1);
     }
 
     /// What was made of the piece at a place, which is taken.
-    pub(crate) fn take(&mut self, place: usize) -> Option<Made<J, X>>
+    pub(crate) fn take(&mut self, place: usize) -> Option<Made<J, Y, X>>
         ensures { IfSome result (λ made. made ≡ place) }
     {
         self.taken = place.saturating_add(1);
@@ -94,7 +172,7 @@ impl<J: Makeable<X>, X: Drop> Shelf<J, X> {
         Some(self.made.swap_remove(at))
     }
 
-    /// Has no other piece drawn.
+    /// Has no other part drawn.
     pub(crate) fn close(&mut self) {
         self.is_closed = true;
     }

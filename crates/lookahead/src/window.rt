@@ -1,7 +1,9 @@
 //! The pieces that are made ahead, for all threads.
-ghost use Rattle.std.specs.Prelude.{◌≡◌, ◌<◌, IfSome};
+ghost use Rattle.std.specs.Prelude.{◌≡◌, ◌<◌, length, IfSome};
 
-use crate::made::{Made, Makeable};
+use crate::made::{Made, MadePart, Makeable};
+use crate::part::Part;
+use crate::parted_work::PartedWork;
 use crate::shelf::Shelf;
 use std::alloc::{AllocError, Global};
 use std::sync::{Condvar, Mutex, Wait};
@@ -9,18 +11,18 @@ use std::sync::{Condvar, Mutex, Wait};
 /// What is made ahead, and how many pieces at most are drawn and not taken. Where so many are, threads wait for room, until `close`;
 /// the taker waits for the next piece.
 #[derive(Drop)]
-pub(crate) struct Window<J: Makeable<X>, X: Drop> {
+pub(crate) struct Window<J: Makeable<Y, X>, Y: Drop, X: Drop> {
     most: usize,
-    shelf: Mutex<Shelf<J, X>>,
-    /// A piece may be drawn, or none ever. Threads wait for it.
+    shelf: Mutex<Shelf<J, Y, X>>,
+    /// A part may be drawn, or none ever. Threads wait for it.
     room: Condvar,
     /// The next piece is made, or nobody makes any. The taker waits for it.
     ready: Condvar,
 }
 
-impl<J: Makeable<X>, X: Drop> Window<J, X> {
+impl<J: Makeable<Y, X>, Y: Drop, X: Drop> Window<J, Y, X> {
     /// Of so many pieces, or one if that is 0.
-    pub(crate) fn new(alloc: Global, most: usize) -> Result<Window<J, X>, AllocError> {
+    pub(crate) fn new(alloc: Global, most: usize) -> Result<Window<J, Y, X>, AllocError> {
         let most = most.max(1);
         Ok(Window {
             most,
@@ -30,25 +32,49 @@ impl<J: Makeable<X>, X: Drop> Window<J, X> {
         })
     }
 
-    /// The place of the piece that a thread makes now. Waits for room. There is none where no piece is left or no more is taken.
-    pub(crate) fn draw<R: Wait>(&self, rt: &R, len: usize) -> Option<usize>
-        ensures { IfSome result (λ place. place < len) }
+    /// The part that a thread makes now. Waits for room. There is none where no part is left or no more is taken.
+    pub(crate) fn draw<R: Wait, P, W: PartedWork<P, Y, X>>(
+        &self,
+        rt: &R,
+        pieces: &[P],
+        work: &W,
+    ) -> Option<Part>
+        ensures { IfSome result (λ part. (part.place < length pieces.now) × (part.number < part.count)) }
     {
         let mut shelf = self.room.wait_while(rt, self.shelf.lock(rt), |shelf| {
-            shelf.must_wait(len, self.most)
+            shelf.must_wait(pieces.len(), self.most)
         });
-        shelf.draw(len, self.most)
+        shelf.draw(pieces, work, self.most)
     }
 
-    /// The place of a piece that the taker makes while the next one isn't made. Doesn't wait.
-    pub(crate) fn draw_meanwhile<R: Wait>(&self, rt: &R, len: usize) -> Option<usize>
-        ensures { IfSome result (λ place. place < len) }
+    /// The part that the taker makes while the next piece isn't made. Doesn't wait.
+    pub(crate) fn draw_meanwhile<R: Wait, P, W: PartedWork<P, Y, X>>(
+        &self,
+        rt: &R,
+        pieces: &[P],
+        work: &W,
+    ) -> Option<Part>
+        ensures { IfSome result (λ part. (part.place < length pieces.now) × (part.number < part.count)) }
     {
-        self.shelf.lock(rt).draw_meanwhile(len, self.most)
+        self.shelf.lock(rt).draw_meanwhile(pieces, work, self.most)
     }
 
-    /// A piece that was drawn is made.
-    pub(crate) fn put<R: Wait>(&self, rt: &R, made: Made<J, X>) {
+    /// A part that was drawn is made. Answers all parts of its piece, in no order, where none lacks; they are to be joined, and `put`.
+    pub(crate) fn put_part<R: Wait>(
+        &self,
+        rt: &R,
+        made: MadePart<J, Y, X>,
+    ) -> Option<Vec<MadePart<J, Y, X>>> {
+        let mut shelf = self.shelf.lock(rt);
+        let parts = shelf.put_part(made);
+        if parts.is_none() && shelf.is_ready() {
+            self.ready.notify_one();
+        }
+        parts
+    }
+
+    /// A piece whose parts are joined is made.
+    pub(crate) fn put<R: Wait>(&self, rt: &R, made: Made<J, Y, X>) {
         let mut shelf = self.shelf.lock(rt);
         shelf.put(made);
         if shelf.is_ready() {
@@ -58,19 +84,19 @@ impl<J: Makeable<X>, X: Drop> Window<J, X> {
 
     /// What was made of the next piece, the one at this place, which is taken. Waits until it is made. There is nothing where nobody
     /// makes any.
-    pub(crate) fn take<R: Wait>(&self, rt: &R, place: usize) -> Option<Made<J, X>>
+    pub(crate) fn take<R: Wait>(&self, rt: &R, place: usize) -> Option<Made<J, Y, X>>
         ensures { IfSome result (λ made. made ≡ place) }
     {
         let mut shelf = self
             .ready
             .wait_while(rt, self.shelf.lock(rt), |shelf| !shelf.is_ready());
         let made = shelf.take(place);
-        // there is room for one more
-        self.room.notify_one();
+        // there is room for the parts of one more
+        self.room.notify_all();
         made
     }
 
-    /// Has no other piece drawn.
+    /// Has no other part drawn.
     pub(crate) fn close<R: Wait>(&self, rt: &R) {
         self.shelf.lock(rt).close();
         self.room.notify_all();

@@ -1,10 +1,11 @@
-//! Pieces that workers make ahead: so many at once, others behind one that takes long, and none behind the last one taken.
-ghost use Rattle.std.specs.Prelude.{◌≡◌};
+//! Pieces that workers make ahead: so many at once, others behind one that takes long, parts of one side by side, and none behind the
+//! last one taken.
+ghost use Rattle.std.specs.Prelude.{◌≡◌, IfOk};
+ghost use Rattle.lookahead.specs.Parts.{AreParts};
 ghost use Rattle.std.specs.Thread.{IsSync};
 ghost use Rattle.lookahead.specs.Picked.{IsPicked};
 
-use lookahead::{Ahead, Makeable};
-use pieces::Work;
+use lookahead::{Ahead, Makeable, PartedWork};
 use std::alloc::{AllocError, Global};
 use std::marker::Brand;
 use std::sync::Wait;
@@ -33,8 +34,10 @@ static PIECES: [u32; 40] = [
 /// What becomes of the pieces.
 #[derive(Drop)]
 struct Watched {
-    /// Whether the first piece waits until as many others are made as may be.
-    holds_first: bool,
+    /// In how many parts a piece is made.
+    parts: usize,
+    /// Until so many others are made the first part of the first piece waits.
+    awaited: u32,
     at_work: AtomicU32,
     made: AtomicU32,
     are_too_many: AtomicBool,
@@ -43,9 +46,10 @@ struct Watched {
 }
 
 impl Watched {
-    fn new(holds_first: bool) -> Watched {
+    fn new(parts: usize, awaited: u32) -> Watched {
         Watched {
-            holds_first,
+            parts,
+            awaited,
             at_work: AtomicU32::new(0),
             made: AtomicU32::new(0),
             are_too_many: AtomicBool::new(false),
@@ -55,14 +59,14 @@ impl Watched {
 
     fn hold(&self) {
         for _ in 0..TURNS {
-            if self.made.load(Ordering::SeqCst) >= WINDOW - 1 {
+            if self.made.load(Ordering::SeqCst) >= self.awaited {
                 self.came.store(true, Ordering::SeqCst);
                 break;
             }
             thread::yield_now();
         }
         for _ in 0..MORE_TURNS {
-            if self.made.load(Ordering::SeqCst) >= WINDOW {
+            if self.made.load(Ordering::SeqCst) > self.awaited {
                 self.are_too_many.store(true, Ordering::SeqCst);
             }
             thread::yield_now();
@@ -81,12 +85,24 @@ impl Watched {
     }
 }
 
-impl Work<u32, u32> for Watched {
+impl PartedWork<u32, u32, u32> for Watched {
     ghost gives = { λ watched piece made. made ≡ piece };
 
-    fn make(&self, _alloc: Global, piece: &u32) -> Result<u32, AllocError> {
+    ghost gives_part = { λ watched piece count number made. made ≡ piece };
+
+    fn parts(&self, _piece: &u32) -> usize {
+        self.parts
+    }
+
+    fn make_part(
+        &self,
+        _alloc: Global,
+        piece: &u32,
+        _count: usize,
+        number: usize,
+    ) -> Result<u32, AllocError> {
         self.enter();
-        if self.holds_first && *piece == 0 {
+        if self.awaited > 0 && *piece == 0 && number == 0 {
             self.hold();
         } else {
             thread::yield_now();
@@ -94,10 +110,17 @@ impl Work<u32, u32> for Watched {
         self.leave();
         Ok(*piece)
     }
+
+    fn join(&self, _alloc: Global, piece: &u32, _parts: Vec<u32>) -> Result<u32, AllocError>
+        requires { AreParts (λ count number made. made ≡ piece.now) _parts.items }
+        ensures { IfOk result (λ made. made ≡ piece.now) }
+    {
+        Ok(*piece)
+    }
 }
 
 // Whether the first pieces, so many, came in their order. No more is taken then.
-fn are_taken<'s, 'e, J: Makeable<u32> + Send + Sync + 's, R: Threads + Wait + Sync>(
+fn are_taken<'s, 'e, J: Makeable<u32, u32> + Send + Sync + 's, R: Threads + Wait + Sync>(
     scope: &'s Scope<'s, &'e ()>,
     rt: &'e R,
     alloc: Global,
@@ -106,9 +129,9 @@ fn are_taken<'s, 'e, J: Makeable<u32> + Send + Sync + 's, R: Threads + Wait + Sy
     workers: usize,
     count: usize,
 ) -> bool
-    requires picked { IsPicked J.may_be (λ piece made. made ≡ piece) pieces.now }
+    requires picked { IsPicked J.may_be J.may_be_part (λ piece made. made ≡ piece) (λ piece count number made. made ≡ piece) pieces.now }
 {
-    let mut ahead: Ahead<'s, 'e, J, R, u32, u32, Watched> = Ahead::new(
+    let mut ahead: Ahead<'s, 'e, J, R, u32, u32, u32, Watched> = Ahead::new(
         scope, rt, alloc, pieces, watched, workers,
     );
     let mut are_right = true;
@@ -122,7 +145,7 @@ fn are_taken<'s, 'e, J: Makeable<u32> + Send + Sync + 's, R: Threads + Wait + Sy
     are_right
 }
 
-fn are_taken_in_scope<'e, J: Makeable<u32> + Send + Sync, R: Threads + Wait + Sync>(
+fn are_taken_in_scope<'e, J: Makeable<u32, u32> + Send + Sync, R: Threads + Wait + Sync>(
     rt: &'e R,
     alloc: Global,
     pieces: &'e [u32],
@@ -130,13 +153,13 @@ fn are_taken_in_scope<'e, J: Makeable<u32> + Send + Sync, R: Threads + Wait + Sy
     workers: usize,
     count: usize,
 ) -> bool
-    requires picked { IsPicked J.may_be (λ piece made. made ≡ piece) pieces.now }
+    requires picked { IsPicked J.may_be J.may_be_part (λ piece made. made ≡ piece) (λ piece count number made. made ≡ piece) pieces.now }
 {
     thread::scope(
         thread::scope_env(),
         rt,
         |scope| -> bool
-            requires { IsSync R.row × IsPicked J.may_be (λ piece made. made ≡ piece) pieces.now }
+            requires { IsSync R.row × IsPicked J.may_be J.may_be_part (λ piece made. made ≡ piece) (λ piece count number made. made ≡ piece) pieces.now }
         { are_taken::<J, R>(scope, rt, alloc, pieces, watched, workers, count) },
     )
 }
@@ -154,7 +177,7 @@ fn do_come<R: Threads + Wait + Sync>(
 
 #[test]
 fn others_are_made_behind_one_that_takes_long(rt: HostRuntime) -> Result<(), Failed> {
-    let watched = Watched::new(true);
+    let watched = Watched::new(1, WINDOW - 1);
     check(do_come(
         &rt,
         rt.alloc(),
@@ -170,7 +193,7 @@ fn others_are_made_behind_one_that_takes_long(rt: HostRuntime) -> Result<(), Fai
 
 #[test]
 fn none_begins_when_no_more_is_taken(rt: HostRuntime) -> Result<(), Failed> {
-    let watched = Watched::new(false);
+    let watched = Watched::new(1, 0);
     check(do_come(&rt, rt.alloc(), &PIECES, &watched, WORKERS as usize, 3))?;
     check(!watched.are_too_many.load(Ordering::SeqCst))?;
     check(watched.made.load(Ordering::SeqCst) <= 3 + WINDOW)
@@ -178,7 +201,31 @@ fn none_begins_when_no_more_is_taken(rt: HostRuntime) -> Result<(), Failed> {
 
 #[test]
 fn one_worker_makes_all(rt: HostRuntime) -> Result<(), Failed> {
-    let watched = Watched::new(false);
+    let watched = Watched::new(1, 0);
     check(do_come(&rt, rt.alloc(), &PIECES, &watched, 1, PIECES.len()))?;
     check(watched.made.load(Ordering::SeqCst) == 40)
+}
+
+#[test]
+fn parts_of_one_piece_are_made_side_by_side(rt: HostRuntime) -> Result<(), Failed> {
+    let watched = Watched::new(3, 2);
+    check(do_come(&rt, rt.alloc(), &PIECES[..1], &watched, WORKERS as usize, 1))?;
+    check(watched.came.load(Ordering::SeqCst))?;
+    check(!watched.are_too_many.load(Ordering::SeqCst))?;
+    check(watched.made.load(Ordering::SeqCst) == 3)
+}
+
+#[test]
+fn all_parts_of_all_pieces_are_made(rt: HostRuntime) -> Result<(), Failed> {
+    let watched = Watched::new(3, 0);
+    check(do_come(
+        &rt,
+        rt.alloc(),
+        &PIECES,
+        &watched,
+        WORKERS as usize,
+        PIECES.len(),
+    ))?;
+    check(!watched.are_too_many.load(Ordering::SeqCst))?;
+    check(watched.made.load(Ordering::SeqCst) == 120)
 }
