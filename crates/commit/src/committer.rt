@@ -159,7 +159,7 @@ impl Committer {
     /// each answer as soon as the block is done. Where that says `false`, the run ends, and no other block is handed in. Answers
     /// whether it never did. An `Err` is want of memory for the list of blocks; no block was handed in then.
     ///
-    /// While the calling thread commits a block, the other workers take in those behind it, in parts of 64 KiB, and so does the
+    /// While the calling thread commits a block, the other workers take in those behind it, in parts of 32 KiB, and so does the
     /// calling thread while the next block isn't taken in: many blocks are done sooner than by as many calls of `submit`. What
     /// was taken in of a block that isn't the next one goes for nothing, as where the function ends the run. One or two blocks
     /// are taken in by all workers, each when its turn comes.

@@ -61,8 +61,8 @@ pub(crate) fn prepare<'b, R: Threads + Sync, V: Verify + Sync, G: Gate + Sync>(
     prepared_of(context.alloc, taken_in, bytes)
 }
 
-// A part of about so many bytes is worth drawing: several hundred microseconds of work.
-const BYTES_OF_A_PART: usize = 1 << 16;
+// A part of about so many bytes is worth drawing: half a millisecond of work or more.
+const BYTES_OF_A_PART: usize = 1 << 15;
 
 // More parts would cost more than they spread: each decodes the block.
 const PARTS_OF_EACH: usize = 4;
