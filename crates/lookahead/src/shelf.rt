@@ -67,6 +67,11 @@ impl<J: Makeable<Y, X>, Y: Drop, X: Drop> Shelf<J, Y, X> {
         self.making == 0 || self.position(self.taken).is_some()
     }
 
+    /// Whether parts are left of a piece of which one is drawn.
+    pub(crate) fn is_amid_a_piece(&self) -> bool {
+        self.drawn_parts > 0
+    }
+
     /// A part that is to be made now.
     pub(crate) fn draw<P, W: PartedWork<P, Y, X>>(
         &mut self,

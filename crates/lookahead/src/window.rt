@@ -44,7 +44,12 @@ impl<J: Makeable<Y, X>, Y: Drop, X: Drop> Window<J, Y, X> {
         let mut shelf = self.room.wait_while(rt, self.shelf.lock(rt), |shelf| {
             shelf.must_wait(pieces.len(), self.most)
         });
-        shelf.draw(pieces, work, self.most)
+        let part = shelf.draw(pieces, work, self.most);
+        if shelf.is_amid_a_piece() {
+            // whoever waits makes the next part of it
+            self.room.notify_one();
+        }
+        part
     }
 
     /// The part that the taker makes while the next piece isn't made. Doesn't wait.
@@ -91,8 +96,8 @@ impl<J: Makeable<Y, X>, Y: Drop, X: Drop> Window<J, Y, X> {
             .ready
             .wait_while(rt, self.shelf.lock(rt), |shelf| !shelf.is_ready());
         let made = shelf.take(place);
-        // there is room for the parts of one more
-        self.room.notify_all();
+        // there is room for one more
+        self.room.notify_one();
         made
     }
 
