@@ -3,7 +3,7 @@ ghost use Rattle.std.specs.Prelude.{◌≡◌, IfOk, Ok, map};
 ghost use Rattle.command_files.specs.Reading.{AreHeld};
 
 use command_files::{Fault, Files, read_file};
-use pieces::{Crew, Work, in_pieces_beside};
+use pieces::{Crew, Work, in_pieces};
 use std::alloc::{AllocError, Global};
 use std::thread::Threads;
 use values::{Bytes, Shared};
@@ -59,6 +59,6 @@ pub(crate) fn read_blocks<'a, R: AllocGlobal + Threads + Sync, F: Files + Sync>(
         workers: workers.min(paths.len()),
     };
     let reading = Reading { files };
-    let (found, ()) = in_pieces_beside(&crew, paths.as_slice(), &reading, &mut || ());
-    all_found(crew.alloc, found?)
+    let found = in_pieces(&crew, paths.as_slice(), &reading)?;
+    all_found(crew.alloc, found)
 }

@@ -4,7 +4,7 @@ use Rattle.block.specs.declared.block.Block.{Block}
 use Rattle.block.specs.Grammar.{Spells}
 use Rattle.channel.specs.Configuration.{Configuration}
 use Rattle.intake.specs.declared.taking.Taken.{Taken}
-use Rattle.intake_workers.specs.declared.part.TakenPart.{TakenPart}
+use Rattle.intake_workers.specs.declared.taken_part.TakenPart.{TakenPart}
 use Rattle.intake_workers.specs.Parts.{IsTakenPart}
 use Rattle.next_block.specs.Tentative.{AreTentativeIn}
 use Rattle.next_block.specs.NextDelta.{IsNextDelta}

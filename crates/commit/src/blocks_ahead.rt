@@ -11,7 +11,7 @@ use std::marker::{Brand, PhantomData};
 /// What may be taken in of the block at a place, and of its parts. A run picks it.
 pub(crate) trait Intake {
     ghost use Rattle.std.specs.Prelude.{ℕ, Result};
-    ghost use Rattle.intake_workers.specs.declared.part.TakenPart.{TakenPart};
+    ghost use Rattle.intake_workers.specs.declared.taken_part.TakenPart.{TakenPart};
     ghost use Rattle.rules.specs.declared.answer.Refused.{Refused};
     ghost use Rattle.commit.specs.declared.prepared.Prepared.{Prepared};
 

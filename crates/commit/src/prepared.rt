@@ -1,5 +1,5 @@
 //! Blocks that are taken in, whatever the world before them.
-ghost use Rattle.std.specs.Prelude.{◌≡◌, IfOk};
+ghost use Rattle.std.specs.Prelude.{◌≡◌, ◌<◌, IfOk};
 ghost use Rattle.block.specs.Grammar.{Spells};
 ghost use Rattle.next_block.specs.Tentative.{AreTentativeIn};
 ghost use Rattle.lookahead.specs.Parts.{AreParts};
@@ -8,7 +8,7 @@ ghost use Rattle.commit.specs.Prepared.{IsPrepared, MayBeTakenIn, MayBeTakenInPa
 use crate::block_bytes::BlockBytes;
 use crate::context::Context;
 use gates::Gate;
-use intake_workers::{Crew, TakenIn, TakenPart, join_parts, take_in, take_in_part};
+use intake_workers::{Crew, Part, TakenIn, TakenPart, join_parts, take_in, take_in_part};
 use linking::{DecodedBlock, HashedBlock};
 use lookahead::PartedWork;
 use next_block::{TentativeJob, tentative_job_of};
@@ -67,19 +67,23 @@ const BYTES_OF_A_PART: usize = 1 << 15;
 // More parts would cost more than they spread: each decodes the block.
 const PARTS_OF_EACH: usize = 4;
 
-/// Takes in one of so many parts of the block of these bytes, or nothing where they spell none. An `Err` is want of memory.
+/// Takes in a part of the block of these bytes, or nothing where they spell none. An `Err` is want of memory.
 fn take_in_part_of<'b, R, V: Verify, G: Gate>(
     context: &Context<'_, R, V, G>,
     bytes: &BlockBytes<'b>,
-    count: usize,
-    number: usize,
+    part: Part,
 ) -> Result<TakenPart<'b>, AllocError>
-    ensures { IfOk result (MayBeTakenInPart context.now.channel.now (V.accepts context.now.verifier.now) bytes.now count number) }
+    ensures { IfOk result (MayBeTakenInPart context.now.channel.now (V.accepts context.now.verifier.now) bytes.now part.count part.number) }
 {
     block::one_reading();
     match bytes.decode(context.alloc) {
-        Ok(block) => take_in_part(context.alloc, &context.rules(), &block, count, number),
-        Err(Refused::Malformed(_)) => Ok(TakenPart::nothing(context.alloc)),
+        Ok(block) => take_in_part(context.alloc, &context.rules(), &block, part),
+        // who joins the parts says what is wrong with the bytes
+        Err(Refused::Malformed(_)) => Ok(TakenPart {
+            hash: None,
+            items: Vec::new(context.alloc),
+        }),
+        // decoding has one other refusal, of memory
         Err(_) => Err(AllocError),
     }
 }
@@ -134,8 +138,11 @@ impl<'b, R, V: Verify, G: Gate> PartedWork<
         bytes: &BlockBytes<'b>,
         count: usize,
         number: usize,
-    ) -> Result<TakenPart<'b>, AllocError> {
-        take_in_part_of(self, bytes, count, number)
+    ) -> Result<TakenPart<'b>, AllocError>
+        requires { number < count }
+        ensures { IfOk result (MayBeTakenInPart self.now.channel.now (V.accepts self.now.verifier.now) bytes.now count number) }
+    {
+        take_in_part_of(self, bytes, Part::new(count, number))
     }
 
     fn join(

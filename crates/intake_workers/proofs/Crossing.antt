@@ -15,7 +15,7 @@ use Rattle.rules.proofs.Crossing.{policy_send, policy_sync, definitions_sync}
 use Rattle.state_keys.proofs.state_key.StateKey.TheSendSync as state_key
 use Rattle.candidates.specs.contracts.candidate.Candidate as candidate
 use Rattle.intake.specs.contracts.taking.Taken as taken
-use Rattle.intake_workers.specs.contracts.part.TakenPart as part
+use Rattle.intake_workers.specs.contracts.taken_part.TakenPart as part
 
 pub ruleset crossing = (
   rules.crossing,

@@ -1,5 +1,5 @@
 -- The parts of a block, which are taken in one by one.
-use Rattle.std.specs.Prelude.{◌≡◌, ◌++◌, ◌+◌, ◌/◌, ◌∷◌, nat_le, ℕ, List, [], length, map, take, drop, zero, suc, max, if◌then◌else◌, IfSome}
+use Rattle.std.specs.Prelude.{◌≡◌, ◌++◌, ◌-◌, ◌/◌, ◌∷◌, ℕ, List, [], length, map, take, drop, zero, suc, IfSome}
 use Rattle.block.specs.declared.block.Block.{Block}
 use Rattle.channel.specs.Configuration.{Configuration}
 use Rattle.header_hash.specs.Hashes.{data_hash_of}
@@ -7,22 +7,13 @@ use Rattle.intake.specs.declared.taking.Taken.{Taken}
 use Rattle.intake.specs.Place.{taken_of, shown}
 use Rattle.policy_eval.specs.Accepts.{Accepts}
 use Rattle.transaction.specs.Items.{item_of}
-use Rattle.intake_workers.specs.declared.part.TakenPart.{TakenPart}
+use Rattle.intake_workers.specs.declared.taken_part.TakenPart.{TakenPart}
 
--- how many a part has at most, where there are so many parts
-abbrev pub most_of : {A : Type 0} → ℕ → List A → ℕ
-most_of count xs = length xs / max count 1 + 1
-
--- what is behind so many parts, each of so many
-abbrev pub rest_of : {A : Type 0} → ℕ → ℕ → List A → List A
-rest_of most zero xs = xs
-rest_of most (suc number) xs = drop most (rest_of most number xs)
-
--- the part with this number, of so many parts: the last one is all that is left
+-- The part with this number, of so many parts of a list: of the first one as many as come to each, rounded down; the others are the
+-- parts of what is left.
 abbrev pub part_of : {A : Type 0} → ℕ → ℕ → List A → List A
-part_of count number xs =
-    if nat_le count (number + 1) then rest_of (most_of count xs) number xs
-    else take (most_of count xs) (rest_of (most_of count xs) number xs)
+part_of count zero xs = take (length xs / count) xs
+part_of count (suc number) xs = part_of (count - 1) number (drop (length xs / count) xs)
 
 -- what was taken in of this part of the block, and the block's hash or none
 pub record IsTakenPart (channel : Configuration) (accepts : Accepts) (b : Block) (count number : ℕ) (part : TakenPart) : Type 0 where

@@ -1,10 +1,11 @@
-//! The transactions of a block are taken in by workers, in pieces: what comes out is what one thread takes in.
+//! The transactions of a block are taken in by workers, in parts: what comes out is what one thread takes in.
 #![tactic(auto)]
 
 mod part;
-mod piece;
+mod taken_part;
 mod taking;
 
-pub use part::{TakenPart, join_parts, take_in_part};
+pub use part::Part;
 pub use pieces::Crew;
-pub use taking::{IntakeRules, TakenIn, take_in, take_in_alone};
+pub use taken_part::{TakenPart, join_parts, take_in_part};
+pub use taking::{IntakeRules, TakenIn, take_in};

@@ -1,22 +1,26 @@
-//! Workers take pieces of a block in, while one hashes it.
-ghost use Rattle.std.specs.Prelude.{◌≡◌, map, IfOk};
+//! What a block is taken in by, and all of it, by one thread or by a crew.
+ghost use Rattle.std.specs.Prelude.{◌≡◌, ◌≤◌, ◌<◌, length, map, IfOk};
 ghost use Rattle.header_hash.specs.Hashes.{data_hash_of};
+ghost use Rattle.transaction.specs.Items.{item_of};
 ghost use Rattle.intake.specs.Place.{taken_of, shown};
+ghost use Rattle.pieces.specs.Pieces.{Fits};
 ghost use Rattle.rules.specs.Commit.{items_of};
-ghost use Rattle.intake_workers.specs.Pieces.{all_taken, items_of_piece};
+ghost use Rattle.intake_workers.specs.Parts.{IsTakenPart};
 
-use crate::piece::{MOST_TXS, Piece, cut};
+use crate::part::Part;
+use crate::taken_part::{TakenPart, join_parts, take_in_part};
 use channel::Configuration;
 use gates::{Gate, Phase};
 use header_hash::data_hash;
 use intake::{Taken, take_in_one};
 use linking::{DecodedBlock, HashedBlock};
-use pieces::{Crew, Work, in_pieces_beside};
+use pieces::{Crew, Work, in_pieces};
 use policy_eval::Verify;
 use std::alloc::{AllocError, Global};
 use std::thread;
 use std::thread::Threads;
-use values::Hash;
+use transaction::BlockVersion;
+use values::{Hash, Slice};
 
 /// By what transactions are taken in: whose rules hold, who verifies signatures, and the gate that each transaction passes first.
 #[derive(Clone, Copy)]
@@ -26,24 +30,28 @@ pub struct IntakeRules<'s, V, G> {
     pub gate: &'s G,
 }
 
-impl<'t, 'a, 's, V: Verify, G: Gate> Work<Piece<'t, 'a>, Vec<Taken<'a>>> for IntakeRules<'s, V, G> {
-    ghost gives = { λ s piece taken. map shown taken.items ≡ map (taken_of s.channel.now (V.accepts s.verifier.now)) (items_of_piece piece) };
+// Other threads run behind so many transactions, and a part has no more where a crew takes the block in.
+const MOST_TXS: usize = 32;
 
-    fn make(&self, alloc: Global, piece: &Piece<'t, 'a>) -> Result<Vec<Taken<'a>>, AllocError> {
-        take_piece(alloc, self, piece)
-    }
-}
+// So that few large transactions are spread over workers too.
+const MOST_BYTES: usize = 1 << 20;
 
-pub(crate) fn take_piece<'a, V: Verify, G: Gate>(
+// A thread of its own costs as much as a few transactions.
+const WORTH_A_THREAD: usize = 16;
+
+/// Takes in transactions of a block of this version, of which the first one stands at this place.
+pub(crate) fn take_txs<'a, V: Verify, G: Gate>(
     alloc: Global,
     rules: &IntakeRules<'_, V, G>,
-    piece: &Piece<'_, 'a>,
+    version: BlockVersion,
+    start: usize,
+    txs: &[Slice<'a>],
 ) -> Result<Vec<Taken<'a>>, AllocError>
-    ensures { IfOk result (λ taken. map shown taken.items ≡ map (taken_of rules.now.channel.now (V.accepts rules.now.verifier.now)) (items_of_piece piece.now)) }
+    ensures { IfOk result (λ taken. map shown taken.items ≡ map (taken_of rules.now.channel.now (V.accepts rules.now.verifier.now)) (map (item_of version) txs.now)) }
 {
-    let mut all = Vec::with_capacity(alloc, piece.txs.len())?;
-    let mut index = piece.start;
-    for bytes in piece.txs {
+    let mut all = Vec::with_capacity(alloc, txs.len())?;
+    let mut index = start;
+    for bytes in txs {
         rules
             .gate
             .at(Phase::Intake, u32::try_from(index).unwrap_or(u32::MAX));
@@ -51,7 +59,7 @@ pub(crate) fn take_piece<'a, V: Verify, G: Gate>(
             alloc,
             rules.channel,
             rules.verifier,
-            piece.version,
+            version,
             bytes.as_slice(),
         )?)?;
         index = index.wrapping_add(1);
@@ -70,24 +78,6 @@ pub struct TakenIn<'a> {
     pub items: Vec<Taken<'a>>,
 }
 
-// A thread of its own costs as much as a few transactions.
-const WORTH_A_THREAD: usize = 16;
-
-/// What was taken in of pieces, one list behind the other, of so many items in all.
-pub(crate) fn joined<'a>(
-    alloc: Global,
-    items: usize,
-    lists: Vec<Vec<Taken<'a>>>,
-) -> Result<Vec<Taken<'a>>, AllocError>
-    ensures { IfOk result (λ all. all.items ≡ all_taken lists.entry.items) }
-{
-    let mut all = Vec::with_capacity(alloc, items)?;
-    for mut list in lists {
-        all.append(&mut list)?;
-    }
-    Ok(all)
-}
-
 /// The data hash of a block's transactions.
 pub(crate) fn hash_of(block: &DecodedBlock<'_>) -> Hash
     ensures { result ≡ data_hash_of block.now.txs }
@@ -95,9 +85,8 @@ pub(crate) fn hash_of(block: &DecodedBlock<'_>) -> Hash
     data_hash(block.txs())
 }
 
-/// Takes in all items of a block, and hashes it, by the calling thread alone. Linear in its bytes and its signatures. An `Err` is
-/// want of memory alone.
-pub fn take_in_alone<'a, V: Verify, G: Gate>(
+/// Takes in all items of a block, and hashes it, by the calling thread alone.
+fn take_in_alone<'a, V: Verify, G: Gate>(
     alloc: Global,
     rules: &IntakeRules<'_, V, G>,
     block: DecodedBlock<'a>,
@@ -106,51 +95,65 @@ pub fn take_in_alone<'a, V: Verify, G: Gate>(
     ensures items { IfOk result (λ t. map shown t.items.items ≡ map (taken_of rules.now.channel.now (V.accepts rules.now.verifier.now)) (items_of block.entry)) }
 {
     let hash = hash_of(&block);
-    let whole = Piece {
-        version: block.version(),
-        start: 0,
-        txs: block.txs(),
-    };
-    let items = take_piece(alloc, rules, &whole)?;
+    let items = take_txs(alloc, rules, block.version(), 0, block.txs())?;
     Ok(TakenIn {
         block: block.with_data_hash(hash),
         items,
     })
 }
 
-/// What the pieces of a block come to by a crew, whose calling thread first hashes the whole block.
-fn made_by<'a, R: Threads + Sync, V: Verify + Sync, G: Gate + Sync>(
+/// That a part of a block becomes what is taken in of it.
+#[derive(Clone, Copy)]
+struct OfBlock<'w, 'a, 's, V, G> {
+    rules: &'w IntakeRules<'s, V, G>,
+    block: &'w DecodedBlock<'a>,
+}
+
+impl<'w, 'a, 's, V: Verify, G: Gate> Work<Part, TakenPart<'a>> for OfBlock<'w, 'a, 's, V, G> {
+    ghost gives = { λ s part taken. IsTakenPart s.rules.now.channel.now (V.accepts s.rules.now.verifier.now) s.block.now part.count part.number taken };
+
+    fn make(&self, alloc: Global, part: &Part) -> Result<TakenPart<'a>, AllocError> {
+        take_in_part(alloc, self.rules, self.block, *part)
+    }
+}
+
+/// In how many parts a crew takes these transactions in: parts of up to 32, or of about 1 MiB.
+fn parts_for(txs: &[Slice<'_>]) -> usize
+    ensures { 0 < result }
+{
+    let mut bytes = 0usize;
+    for tx in txs {
+        bytes = bytes.saturating_add(tx.as_slice().len());
+    }
+    txs.len()
+        .div_ceil(MOST_TXS)
+        .max(bytes / MOST_BYTES)
+        .min(txs.len())
+        .max(1)
+}
+
+/// What a crew takes in of so many parts of a block.
+fn taken_by<'a, R: Threads + Sync, V: Verify + Sync, G: Gate + Sync>(
     crew: &Crew<'_, R>,
     rules: &IntakeRules<'_, V, G>,
     block: &DecodedBlock<'a>,
-) -> Result<(Hash, Vec<Taken<'a>>), AllocError>
-    ensures hash { IfOk result (λ r. r.0 ≡ data_hash_of block.now.txs) }
-    ensures items { IfOk result (λ r. map shown r.1.items ≡ map (taken_of rules.now.channel.now (V.accepts rules.now.verifier.now)) (items_of block.now)) }
+    count: usize,
+) -> Result<Vec<TakenPart<'a>>, AllocError>
+    ensures len { IfOk result (λ parts. length parts.items ≡ count) }
+    ensures parts { IfOk result (λ parts. Fits (IsTakenPart rules.now.channel.now (V.accepts rules.now.verifier.now) block.now count) parts.items) }
 {
-    let pieces = cut(crew.alloc, block.version(), block.txs())?;
-    // one more than there are pieces, for the whole block
+    let parts = Part::all(crew.alloc, count)?;
     let useful = Crew {
         rt: crew.rt,
         alloc: crew.alloc,
-        workers: crew.workers.min(pieces.len().saturating_add(1)),
+        workers: crew.workers.min(count),
     };
-    let (lists, hash) = in_pieces_beside(
-        &useful,
-        pieces.as_slice(),
-        rules,
-        &mut || -> Hash
-            ensures { result ≡ data_hash_of block.entry.now.txs }
-        { hash_of(block) },
-    );
-    let items = joined(crew.alloc, block.txs().len(), lists?)?;
-    Ok((hash, items))
+    in_pieces(&useful, parts.as_slice(), &OfBlock { rules, block })
 }
 
-/// Takes a block in as [`take_in_alone`] does, by a crew.
-///
-/// The calling thread hashes the whole block, and then takes pieces in as the others do, who are threads; a piece has at most 32
-/// transactions and, where it has more than one, at most 1 MiB of them. A thread that can't be started is done without. No more
-/// are started than there are pieces, and none for fewer than 16 transactions.
+/// Takes in all items of a block, and hashes it, by a crew: each takes parts in, of which none has more than 32 transactions, or
+/// about 1 MiB of few large ones. A thread that can't be started is done without. No more are started than there are parts, and
+/// none for fewer than 16 transactions. Linear in the block's bytes and its signatures. An `Err` is want of memory alone.
 pub fn take_in<'a, R: Threads + Sync, V: Verify + Sync, G: Gate + Sync>(
     crew: &Crew<'_, R>,
     rules: &IntakeRules<'_, V, G>,
@@ -162,9 +165,6 @@ pub fn take_in<'a, R: Threads + Sync, V: Verify + Sync, G: Gate + Sync>(
     if crew.workers == 1 || block.txs().len() < WORTH_A_THREAD {
         return take_in_alone(crew.alloc, rules, block);
     }
-    let (hash, items) = made_by(crew, rules, &block)?;
-    Ok(TakenIn {
-        block: block.with_data_hash(hash),
-        items,
-    })
+    let parts = taken_by(crew, rules, &block, parts_for(block.txs()))?;
+    join_parts(crew.alloc, rules, block, parts)
 }

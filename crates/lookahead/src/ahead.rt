@@ -43,6 +43,11 @@ fn make<J: Makeable<Y, X>, R: Wait, P, Y: Drop, X: Drop, W: PartedWork<P, Y, X>>
     requires number { part.number < part.count }
     requires picked { IsPicked J.may_be J.may_be_part (W.gives work.now) (W.gives_part work.now) pieces.now }
 {
+    if part.count == 1 {
+        let item = make_alone(alloc, &pieces[part.place], work);
+        window.put(rt, Made::new(part.place, item));
+        return;
+    }
     let item = work.make_part(alloc, &pieces[part.place], part.count, part.number);
     if let Some(parts) = window.put_part(rt, MadePart::new(part, item)) {
         window.put(rt, join(alloc, pieces, work, part, parts));

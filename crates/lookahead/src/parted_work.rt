@@ -1,4 +1,4 @@
-ghost use Rattle.std.specs.Prelude.{IfOk};
+ghost use Rattle.std.specs.Prelude.{◌<◌, IfOk};
 ghost use Rattle.lookahead.specs.Parts.{AreParts};
 
 use std::alloc::{AllocError, Global};
@@ -25,6 +25,7 @@ pub trait PartedWork<P, Y, X> {
         count: usize,
         number: usize,
     ) -> Result<Y, AllocError>
+        requires { number < count }
         ensures { IfOk result (λ made. gives_part self.now piece.now count number made) };
 
     /// Makes a piece of all its parts, in their order. An `Err` is want of memory alone.

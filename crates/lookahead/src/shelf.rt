@@ -62,9 +62,14 @@ impl<J: Makeable<Y, X>, Y: Drop, X: Drop> Shelf<J, Y, X> {
         !self.is_closed && self.drawn < len && self.is_full(most)
     }
 
+    /// Whether the piece that is taken next is made.
+    pub(crate) fn has_next(&self) -> bool {
+        self.position(self.taken).is_some()
+    }
+
     /// Whether the piece that is taken next is made, or nobody makes any.
     pub(crate) fn is_ready(&self) -> bool {
-        self.making == 0 || self.position(self.taken).is_some()
+        self.making == 0 || self.has_next()
     }
 
     /// Whether parts are left of a piece of which one is drawn.
@@ -99,21 +104,6 @@ impl<J: Makeable<Y, X>, Y: Drop, X: Drop> Shelf<J, Y, X> {
             number,
             count,
         })
-    }
-
-    /// The same, unless the piece that is taken next is made.
-    pub(crate) fn draw_meanwhile<P, W: PartedWork<P, Y, X>>(
-        &mut self,
-        pieces: &[P],
-        work: &W,
-        most: usize,
-    ) -> Option<Part>
-        ensures { IfSome result (λ part. (part.place < length pieces.now) × (part.number < part.count)) }
-    {
-        if self.position(self.taken).is_some() {
-            return None;
-        }
-        self.draw(pieces, work, most)
     }
 
     fn parts_at(&self, place: usize) -> usize {

@@ -61,7 +61,11 @@ impl<J: Makeable<Y, X>, Y: Drop, X: Drop> Window<J, Y, X> {
     ) -> Option<Part>
         ensures { IfSome result (λ part. (part.place < length pieces.now) × (part.number < part.count)) }
     {
-        self.shelf.lock(rt).draw_meanwhile(pieces, work, self.most)
+        let mut shelf = self.shelf.lock(rt);
+        if shelf.has_next() {
+            return None;
+        }
+        shelf.draw(pieces, work, self.most)
     }
 
     /// A part that was drawn is made. Answers all parts of its piece, in no order, where none lacks; they are to be joined, and `put`.

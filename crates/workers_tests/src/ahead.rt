@@ -1,6 +1,6 @@
 //! Pieces that workers make ahead: so many at once, others behind one that takes long, parts of one side by side, and none behind the
 //! last one taken.
-ghost use Rattle.std.specs.Prelude.{◌≡◌, IfOk};
+ghost use Rattle.std.specs.Prelude.{◌≡◌, ◌<◌, IfOk};
 ghost use Rattle.lookahead.specs.Parts.{AreParts};
 ghost use Rattle.std.specs.Thread.{IsSync};
 ghost use Rattle.lookahead.specs.Picked.{IsPicked};
@@ -100,7 +100,10 @@ impl PartedWork<u32, u32, u32> for Watched {
         piece: &u32,
         _count: usize,
         number: usize,
-    ) -> Result<u32, AllocError> {
+    ) -> Result<u32, AllocError>
+        requires { number < _count }
+        ensures { IfOk result (λ made. made ≡ piece.now) }
+    {
         self.enter();
         if self.awaited > 0 && *piece == 0 && number == 0 {
             self.hold();

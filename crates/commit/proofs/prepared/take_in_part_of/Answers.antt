@@ -15,9 +15,9 @@ returns-in-Ok g c =
     IfOk-weaker c.take_in_part.result _ _
     (λ part is. record {
       of = λ b spelled.
-          subst (λ (x : Block). IsTakenPart c.args.context.now.channel.now (accepts c.args.context.now.verifier.now) x c.args.count c.args.number part)
+          subst (λ (x : Block). IsTakenPart c.args.context.now.channel.now (accepts c.args.context.now.verifier.now) x c.args.part.count c.args.part.number part)
           (c.one_reading.ensures.one_block c.args.bytes.now block b c.in-Ok.ensures spelled)
-          (subst (λ x. x) (λ i. IsTakenPart (c.rules.ensures.channel i) (accepts (c.rules.ensures.verifier i)) block c.args.count c.args.number part) is);
+          (subst (λ x. x) (λ i. IsTakenPart (c.rules.ensures.channel i) (accepts (c.rules.ensures.verifier i)) block c.args.part.count c.args.part.number part) is);
     })
     c.take_in_part.ensures
 
