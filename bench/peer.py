@@ -34,7 +34,8 @@ block, the length of the chain and the keys of the state; the slope is that of i
 grow.
 
 Another one, `slow`, is of `typical` and `state` by a verifier that takes some 60 µs more for a signature, as one of ECDSA P-256 does:
-how long a transaction takes with 1, 2 and 4 workers, and how much faster than one two and four are.
+how long a transaction takes with 1, 2 and 4 workers, how much faster than one two and four are, and how much faster two and four
+programs of one worker are in the same turns, of which each takes all blocks: what the machine gives.
 
 `--beside` has another checkout of this repository whose libraries are built, and another table: how long a transaction takes, with
 1, 2 and 4 workers, by this one's committer and by that one's, in turns, and what that is divided by.
@@ -641,12 +642,18 @@ def told_beside(program, other, name, blocks):
         print(f"{name:>10} {count:>8} {min(these):>8.1f} {min(those):>8.1f} {least:>6.2f} {median:>8.2f}", flush=True)
 
 
+def slow_turn(program, blocks):
+    """The microseconds for a transaction by 1, 2 and 4 workers, and by two and four programs of one worker at once."""
+    by_workers = [for_one([run(program, f"slow {count}", blocks)[0]], blocks)[0] for count in WORKERS]
+    return [*by_workers, *(at_once(program, "slow 1", blocks, count) for count in WORKERS[1:])]
+
+
 def told_slow(program, name, blocks):
-    times = [for_one(runs, blocks) for runs, _ in timed([(program, f"slow {count}", blocks) for count in WORKERS])]
-    least = " ".join(f"{min(runs):>8.1f}" for runs in times)
-    ratios = [times_as_long(times[0], runs) for runs in times[1:]]
-    faster, medians = (" ".join(f"{number:.2f}" for number in numbers) for numbers in zip(*ratios))
-    print(f"{name:>10} {least} {faster:>10}  {medians}", flush=True)
+    one, *others = zip(*(slow_turn(program, blocks) for _ in range(RUNS)))
+    least = " ".join(f"{min(runs):>8.1f}" for runs in (one, *others[:2]))
+    ratios = [times_as_long(one, runs) for runs in others]
+    faster, medians = ([f"{number:.2f}" for number in numbers] for numbers in zip(*ratios))
+    print(f"{name:>10} {least}  {' '.join(faster[:2])}  {' '.join(medians[:2])}  {' '.join(medians[2:])}", flush=True)
 
 
 def slope(found):
@@ -696,22 +703,22 @@ def by_state(program, folder):
     grows("by keys of the state", {blocks.state: min(for_one(runs, blocks)) for (_, _, blocks), (runs, _) in zip(asked, found)})
 
 
-def at_once(program, blocks, count):
-    """The microseconds for a transaction in which so many processes, each for itself, hash the blocks at once."""
-    words = [*UNDER, program, "hash", str(blocks.setup), *blocks.paths]
+def at_once(program, way, blocks, count):
+    """The microseconds for a transaction where so many processes, each for itself, take the blocks at once."""
+    words = [*UNDER, program, way, str(blocks.setup), *blocks.paths]
     all_of_them = [subprocess.Popen(words, cwd=blocks.folder, stdout=subprocess.PIPE, text=True) for _ in range(count)]
-    took = [sum(int(line.split()[0]) for line in process.stdout) for process in all_of_them]
+    runs = [[int(line.split()[0]) for line in process.stdout] for process in all_of_them]
     for process in all_of_them:
         if process.wait() != 0:
-            sys.exit("a run of hash failed")
-    return sum(took) / count / count / sum(blocks.sizes) / 1000
+            sys.exit(f"a run of {way} failed")
+    return sum(for_one(runs, blocks)) / count / count
 
 
 def limit(program, folder):
     """How much faster this machine hashes by processes that share nothing: no workers can do better."""
     blocks = Blocks(folder / "limit", 2000)
     mixed(blocks, 40, 500)
-    rounds = [[at_once(program, blocks, count) for count in WORKERS] for _ in range(RUNS)]
+    rounds = [[at_once(program, "hash", blocks, count) for count in WORKERS] for _ in range(RUNS)]
     one, *more = zip(*rounds)
     ratios = [(count, *times_as_long(one, times)) for count, times in zip(WORKERS[1:], more)]
     faster = ", ".join(f"{count}: {least:.2f} (median {median:.2f})" for count, least, median in ratios)
@@ -755,7 +762,7 @@ def main():
         if words.beside:
             beside(program, folder, made, words.beside)
         if "slow" in wanted:
-            print("          µs for one transaction by 1, 2, 4    faster      medians")
+            print("          µs for one transaction by 1, 2, 4    faster     medians    programs of their own")
             for title in ("typical", "state"):
                 told_slow(program, title, made.get(title) or made_in(folder, title))
         if "growth" in wanted:
