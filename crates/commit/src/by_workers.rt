@@ -1,5 +1,7 @@
 //! The delta of the next block, by workers.
-ghost use Rattle.std.specs.Prelude.{◌≡◌, ◌≤◌, length, MatchResult};
+ghost use Rattle.std.specs.Prelude.{◌≡◌, ◌≤◌, length, MatchResult, IfOk};
+ghost use Rattle.key_chains.specs.Job.{keys_in, reads_in};
+ghost use Rattle.state_db.specs.LookedUp.{AreRows};
 ghost use Rattle.block.specs.Limits.{max_txs};
 ghost use Rattle.rules.specs.declared.answer.Refused.TheVariants.{Memory};
 ghost use Rattle.rules.specs.Names.{HasNamesOf};
@@ -11,12 +13,14 @@ use crate::context::Context;
 use crate::prepared::{Prepared, prepare};
 use check_workers::check_all;
 use gates::Gate;
-use key_chains::{Job, KeyWriters};
+use key_chains::{BlockRows, Job, KeyWriters};
 use linking::{HashedBlock, LinkedBlock};
 use next_block::{NextBlock, PendingDelta, flag_duplicates, job_over, pending_delta_of};
 use policy_eval::Verify;
 use row_workers::rows_by;
 use rules::Refused;
+use state_db::StateDb;
+use std::alloc::AllocError;
 use std::sync::Wait;
 use std::thread::Threads;
 use transaction::TxId;
@@ -40,6 +44,24 @@ fn linked<'b>(world: &World, hashed: HashedBlock<'b>) -> Result<LinkedBlock<'b>,
     ensures { IsNextOfHashed world.now hashed.entry result }
 {
     hashed.linked(world.height(), world.header_hash(), world.version())
+}
+
+/// The rows before a block of the keys that it writes and reads. Several threads look them up where that is worth it.
+fn rows_before<'s, R: Threads + Sync, V, G>(
+    context: &Context<'_, R, V, G>,
+    state: &'s StateDb,
+    key_writers: &KeyWriters<'_>,
+) -> Result<BlockRows<'s>, AllocError>
+    ensures written { IfOk result (λ rows. AreRows state.entry.now.state (keys_in key_writers.now) rows.written.rows.items) }
+    ensures read { IfOk result (λ rows. AreRows state.entry.now.state (reads_in key_writers.now) rows.read.rows.items) }
+{
+    let (rt, alloc, workers) = (context.rt, context.alloc, context.workers);
+    let (keys, read_keys, pages) = (key_writers.keys(), key_writers.read_keys(), state.pages());
+    let threads = workers.looking_up(keys.len(), pages);
+    let written = rows_by(rt, alloc, threads, state, keys)?;
+    let threads = workers.looking_up(read_keys.len(), pages);
+    let read = rows_by(rt, alloc, threads, state, read_keys)?;
+    Ok(BlockRows { written, read })
 }
 
 /// The delta of the next block, but for its commit hash, of its job and ids; and how many verdicts no worker had found.
@@ -89,10 +111,8 @@ pub(crate) fn next_delta<'b, R: Threads + Wait + Sync, V: Verify, G: Gate + Sync
     } = prepared;
     let block = linked(world, block)?;
     let (key_writers, ids) = flag_duplicates(context.alloc, world, tentative)?;
-    let (state, keys) = (world.state(), key_writers.keys());
-    let threads = context.workers.looking_up(keys.len(), state.pages());
-    let found = rows_by(context.rt, context.alloc, threads, state, keys)?;
-    let job = job_over(context.channel, world, key_writers, found);
+    let rows = rows_before(context, world.state(), &key_writers)?;
+    let job = job_over(context.channel, world, key_writers, rows);
     let next = NextBlock {
         block: &block,
         bytes: kept,

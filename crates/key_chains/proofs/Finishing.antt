@@ -38,7 +38,7 @@ module _ {X : Type 0} (give : ℕ → List X) where
   unfolding starts
   starts-more n = refl
 
-take_all : {A : Type 0} (xs : List A) → take (length xs) xs ≡ xs
+pub take_all : {A : Type 0} (xs : List A) → take (length xs) xs ≡ xs
 take_all [] = refl
 take_all (x ∷ xs) = ap (λ l. x ∷ l) (take_all xs)
 

@@ -39,7 +39,7 @@ module _ (j : Job) (items : List Candidate) (chains : Chains) (of : IsJobOf j it
     there : i < length items
     there = let h = is_there cs i r read_by refl own in omega (arith, h, length-map items seen)
 
-    first_is : get_or firsts i 0 ≡ length (gathered (lists_read cs) i)
+    pub first_is : get_or firsts i 0 ≡ length (gathered (lists_read cs) i)
     first_is = ap (λ (l : List ℕ). get_or l i 0) same_firsts ∙ first_read cs (length items) i r chains of.built there 0
 
     pub read_candidate : i < length firsts

@@ -13,6 +13,7 @@ mod Passing
 mod BlockKeys
 mod LookUps
 mod JobLists
+mod ReadRows
 mod OlderOperations
 mod Unwritten
 mod Bounds

@@ -70,7 +70,7 @@ module _ {X : Type 0} (give : ℕ → List X) where
 
 -- ---- links
 
-mapped : {A B : Type 0} (f : A → B) (xs : List A) (n : ℕ) (a : A) (b : B) → n < length xs → get_or (map f xs) n b ≡ f (get_or xs n a)
+pub mapped : {A B : Type 0} (f : A → B) (xs : List A) (n : ℕ) (a : A) (b : B) → n < length xs → get_or (map f xs) n b ≡ f (get_or xs n a)
 mapped f [] n a b lt = absurd (omega arith)
 mapped f (x ∷ xs) zero a b lt = refl
 mapped f (x ∷ xs) (suc n) a b lt = mapped f xs n a b (omega arith)
@@ -80,7 +80,7 @@ at_key f [] n b a e = absurd cc
 at_key f (x ∷ xs) zero b a e = let same : x ≡ a = cc in ap f same
 at_key f (x ∷ xs) (suc n) b a e = at_key f xs n b a e
 
-here_is : {A : Type 0} (xs : List A) (n : ℕ) (a : A) → slice_get xs n ≡ Some a → get_or xs n a ≡ a
+pub here_is : {A : Type 0} (xs : List A) (n : ℕ) (a : A) → slice_get xs n ≡ Some a → get_or xs n a ≡ a
 here_is [] n a e = absurd cc
 here_is (x ∷ xs) zero a e = cc
 here_is (x ∷ xs) (suc n) a e = here_is xs n a e
@@ -130,7 +130,7 @@ module _ (cs : List Candidate) (n i r : ℕ) (c : Chains) (b : IsBuilt cs n n 0 
     read_leads d =
         sym (mapped (chain_in c.operations.0) c.reads.items (length (gathered (lists_read cs) i) + r) d [] read_there) ∙ ap (λ l. get_or l (length (gathered (lists_read cs) i) + r) []) b.reads.lead ∙ gathered_at (lists_read cs) n i r [] lt own
 
-same_lengths : {X Y : Type 0} (f : ℕ → List X) (g : ℕ → List Y) → ((i : ℕ) → length (f i) ≡ length (g i)) → (n : ℕ) → length (gathered f n) ≡ length (gathered g n)
+pub same_lengths : {X Y : Type 0} (f : ℕ → List X) (g : ℕ → List Y) → ((i : ℕ) → length (f i) ≡ length (g i)) → (n : ℕ) → length (gathered f n) ≡ length (gathered g n)
 unfolding gathered
 same_lengths f g h zero = refl
 same_lengths f g h (suc n) = length-append (gathered f n) (f n) ∙ (λ i. same_lengths f g h n i + h n i) ∙ sym (length-append (gathered g n) (g n))

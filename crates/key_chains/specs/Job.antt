@@ -39,6 +39,10 @@ read_by (flagged flag) = []
 read_by (opened tx signers) = read_keys tx
 read_by (updates u signers) = []
 
+-- the keys that the candidates of a block read, as often as they read them
+abbrev pub reads_in : List Candidate → List StateKey
+reads_in cs = flat_map read_by cs
+
 -- the keys that it writes, in the keys' order, each once
 abbrev pub written_by : Candidate → List StateKey
 written_by c = keys_in_order (operated_by c)

@@ -7,7 +7,7 @@ ghost use Rattle.rules.specs.Delta.{changes_in};
 ghost use Rattle.rules.specs.State.{State, StateKey, is_among, with_changes};
 ghost use Rattle.rules.specs.Ranges.{is_within, rows_where};
 ghost use Rattle.rules.specs.Job.{candidate_at, flag_by};
-ghost use Rattle.key_chains.specs.Job.{IsOpened, IsOpen, IsNoOpenTx, read_by, written_by, keys_in, keys_of, keys_where};
+ghost use Rattle.key_chains.specs.Job.{IsOpened, IsOpen, IsNoOpenTx, read_by, reads_in, written_by, keys_in, keys_of, keys_where};
 ghost use Rattle.rules.specs.Candidate.{flagged};
 ghost use Rattle.candidates.specs.Seen.{seen};
 ghost use Rattle.key_chains.specs.Operations.{operations};
@@ -15,6 +15,7 @@ ghost use Rattle.key_chains.specs.PolicyWriters.{policy_writers};
 ghost use Rattle.state_db.specs.Batch.{changed};
 ghost use Rattle.state_db.specs.LookedUp.{AreRows};
 
+use crate::block_rows::BlockRows;
 use crate::chains::{Chains, newest_on};
 use crate::key_writers::KeyWriters;
 use crate::links::{Operations, PolicyWriters};
@@ -36,8 +37,11 @@ pub struct Job<'s, 'b> {
     admin: Option<&'s Policy>,
     candidates: Vec<Candidate<'b>>,
     chains: Chains<'b>,
+    read_keys: Vec<StateKey<'b>>,
     /// The row before the block of each key that it writes, in the keys' order.
     found: FoundRows<'s>,
+    /// The row before the block of the key of each read of each candidate.
+    read: FoundRows<'s>,
 }
 
 impl<'s, 'b> Model for Job<'s, 'b> {
@@ -48,16 +52,18 @@ impl<'s, 'b> Model for Job<'s, 'b> {
 
     ghost coded = { job_code };
 
-    ghost use Rattle.std.specs.Prelude.{◌≤◌, map, length};
+    ghost use Rattle.std.specs.Prelude.{◌≡◌, ◌≤◌, map, length};
     ghost use Rattle.std.specs.Option.{option_copied};
     ghost use Rattle.block.specs.Limits.{max_txs};
     ghost use Rattle.candidates.specs.Seen.{seen};
     ghost use Rattle.key_chains.specs.Built.{IsBuilt};
+    ghost use Rattle.key_chains.specs.Job.{reads_in};
     ghost use Rattle.state_db.specs.LookedUp.{AreRows};
 
     ghost view = { λ j. record { number = j.number; state = j.state.now.state; definitions = j.definitions.now; admin = option_copied j.admin; candidates = map seen j.candidates.items } };
 
-    ghost invariant = { λ j. ((length j.candidates.items ≤ max_txs) × AreRows j.state.now.state j.chains.keys j.found.rows.items) × IsBuilt (map seen j.candidates.items) (length j.candidates.items) (length j.candidates.items) 0 j.chains };
+    ghost invariant = { λ j. ((length j.candidates.items ≤ max_txs) × AreRows j.state.now.state j.chains.keys j.found.rows.items × AreRows j.state.now.state (reads_in (map seen j.candidates.items)) j.read.rows.items) × IsBuilt (map seen j.candidates.items) (length j.candidates.items) (length j.candidates.items) 0 j.chains
+        × (j.read_keys.items ≡ reads_in (map seen j.candidates.items)) };
 }
 
 /// An item of candidate i, whose items begin at the place that `firsts` has for it.
@@ -84,24 +90,31 @@ impl<'s, 'b> Job<'s, 'b> {
         ensures { IfOk result (λ j. j ≡ record { number = number; state = state.entry.now.state; definitions = definitions.entry.now; admin = option_copied admin.entry; candidates = map seen candidates.entry.items }) }
     {
         let key_writers = KeyWriters::build(alloc, candidates)?;
-        let found = state.rows_of(alloc, key_writers.keys())?;
-        Ok(Job::of_found(number, state, definitions, admin, key_writers, found))
+        let rows = BlockRows::find(alloc, state, &key_writers)?;
+        Ok(Job::of_found(number, state, definitions, admin, key_writers, rows))
     }
 
-    /// The job of candidates whose operations are linked already, with the row found for each key that they write. Constant time.
+    /// The job of candidates whose operations are linked already, with the rows found for the keys that they write and read. Constant
+    /// time.
     pub fn of_found(
         number: u64,
         state: &'s StateDb,
         definitions: &'s Definitions,
         admin: Option<&'s Policy>,
         key_writers: KeyWriters<'b>,
-        found: FoundRows<'s>,
+        rows: BlockRows<'s>,
     ) -> Job<'s, 'b>
         requires few { length key_writers ≤ max_txs }
-        requires found { AreRows state.now.state (keys_in key_writers) found.rows.items }
+        requires written { AreRows state.now.state (keys_in key_writers) rows.written.rows.items }
+        requires read { AreRows state.now.state (reads_in key_writers) rows.read.rows.items }
         ensures { result ≡ record { number = number; state = state.entry.now.state; definitions = definitions.entry.now; admin = option_copied admin.entry; candidates = key_writers.entry } }
     {
-        let KeyWriters { candidates, chains } = key_writers;
+        let KeyWriters {
+            candidates,
+            chains,
+            read_keys,
+        } = key_writers;
+        let BlockRows { written, read } = rows;
         Job {
             number,
             state,
@@ -109,7 +122,9 @@ impl<'s, 'b> Job<'s, 'b> {
             admin,
             candidates,
             chains,
-            found,
+            read_keys,
+            found: written,
+            read,
         }
     }
 
@@ -120,6 +135,7 @@ impl<'s, 'b> Job<'s, 'b> {
         KeyWriters {
             candidates: self.candidates,
             chains: self.chains,
+            read_keys: self.read_keys,
         }
     }
 
@@ -201,6 +217,16 @@ impl<'s, 'b> Job<'s, 'b> {
         ensures { (k : StateKey) → slice_get (keys_of self.now) number ≡ Some k → option_copied result ≡ get self.now.state k }
     {
         self.found.rows[number as usize]
+    }
+
+    /// The row before the block of the key of one of a candidate's reads, which are counted through all its namespaces. Constant time.
+    pub fn row_of_read(&self, i: u32, read: usize) -> Option<&'s Row>
+        requires { read < length (read_by (candidate_at self.now i)) }
+        ensures { (k : StateKey) → slice_get (read_by (candidate_at self.now i)) read ≡ Some k → option_copied result ≡ get self.now.state k }
+    {
+        let rows = &self.read.rows;
+        let firsts = &self.chains.first_reads;
+        item_of(rows.as_slice(), firsts.as_slice(), i, read)
     }
 
     /// The rows of a namespace before the block, from a start to before an end, an empty end being no bound.

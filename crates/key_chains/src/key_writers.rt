@@ -1,8 +1,9 @@
 ghost use Rattle.std.specs.Prelude.{◌≡◌, ◌<◌, ◌^◌, length, map, IfOk};
 ghost use Rattle.candidates.specs.Seen.{seen};
-ghost use Rattle.key_chains.specs.Job.{keys_in};
+ghost use Rattle.key_chains.specs.Job.{keys_in, reads_in};
 
 use crate::chains::Chains;
+use crate::reading::read_keys;
 use candidates::{Candidate, StateKey};
 use std::alloc::{AllocError, Global};
 use std::marker::Model;
@@ -13,6 +14,7 @@ use std::marker::Model;
 pub struct KeyWriters<'a> {
     pub(crate) candidates: Vec<Candidate<'a>>,
     pub(crate) chains: Chains<'a>,
+    pub(crate) read_keys: Vec<StateKey<'a>>,
 }
 
 impl<'a> Model for KeyWriters<'a> {
@@ -27,11 +29,14 @@ impl<'a> Model for KeyWriters<'a> {
 
     ghost use Rattle.std.specs.Prelude.{map, length};
     ghost use Rattle.candidates.specs.Seen.{seen};
+    ghost use Rattle.std.specs.Prelude.{◌≡◌};
     ghost use Rattle.key_chains.specs.Built.{IsBuilt};
+    ghost use Rattle.key_chains.specs.Job.{reads_in};
 
     ghost view = { λ c. map seen c.candidates.items };
 
-    ghost invariant = { λ c. IsBuilt (map seen c.candidates.items) (length c.candidates.items) (length c.candidates.items) 0 c.chains };
+    ghost invariant = { λ c. IsBuilt (map seen c.candidates.items) (length c.candidates.items) (length c.candidates.items) 0 c.chains
+        × (c.read_keys.items ≡ reads_in (map seen c.candidates.items)) };
 }
 
 impl<'a> KeyWriters<'a> {
@@ -46,7 +51,12 @@ impl<'a> KeyWriters<'a> {
         ensures { IfOk result (λ c. c ≡ map seen candidates.entry.items) }
     {
         let chains = Chains::build(alloc, candidates.as_slice())?;
-        Ok(KeyWriters { candidates, chains })
+        let read_keys = read_keys(alloc, candidates.as_slice())?;
+        Ok(KeyWriters {
+            candidates,
+            chains,
+            read_keys,
+        })
     }
 
     /// The keys that they write, in their order.
@@ -56,6 +66,13 @@ impl<'a> KeyWriters<'a> {
         self.chains.keys.as_slice()
     }
 
+    /// The keys that they read, as often as they read them.
+    pub fn read_keys(&self) -> &[StateKey<'a>]
+        ensures { result.now ≡ reads_in self.now }
+    {
+        self.read_keys.as_slice()
+    }
+
     /// Gives back the candidates.
     pub fn into_candidates(self) -> Vec<Candidate<'a>>
         ensures { map seen result.items ≡ self.entry }
@@ -63,6 +80,7 @@ impl<'a> KeyWriters<'a> {
         let KeyWriters {
             candidates,
             chains: _chains,
+            read_keys: _read_keys,
         } = self;
         candidates
     }

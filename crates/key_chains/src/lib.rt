@@ -1,6 +1,7 @@
 //! One block as it is checked: its candidates over the state before it, and for each key that they write who writes it.
 #![tactic(auto)]
 
+mod block_rows;
 mod board;
 mod chains;
 mod decision;
@@ -10,7 +11,9 @@ mod links;
 mod numbering;
 mod operation;
 mod plain_board;
+mod reading;
 
+pub use block_rows::BlockRows;
 pub use board::Board;
 pub use candidates::{Candidate, OpenTx, StateKey, WrittenKey};
 pub use decision::Decision;

@@ -12,8 +12,8 @@ ghost use Rattle.key_chains.specs.Decided.{MatchDecision};
 ghost use Rattle.mvcc.specs.ReadPlaces.{AreReadsFrom};
 ghost use Rattle.mvcc.specs.Waiting.{WaitsFor, reads_at};
 
-use crate::version::version_over;
-use key_chains::{Board, Decision, Job, StateKey};
+use crate::version::version_of_read;
+use key_chains::{Board, Decision, Job};
 use transaction::Read;
 use values::NameRef;
 
@@ -33,8 +33,7 @@ fn read_holds<B: Board>(
         (λ v. Sure (λ called n. read_holds (state_under job.now called n) namespace.now read.now) (valid_in (B.known board.new)) i v)
         (λ h. VersionDepends job.now (namespace.now, read.now.key) i h × ((B.known board.new).flag h ≡ None)) }
 {
-    let key = StateKey::new(namespace, &read.key);
-    match version_over(job, i, &key, job.operations_on_read(i, place), board) {
+    match version_of_read(job, i, namespace, read, place, board) {
         Decision::Sure(version) => Decision::Sure(version == read.version),
         Decision::Blocked(h) => Decision::Blocked(h),
     }

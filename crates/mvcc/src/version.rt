@@ -1,6 +1,8 @@
 //! The version of a key before a candidate.
-ghost use Rattle.std.specs.Prelude.{◌≡◌, ◌<◌, ◌≤◌, ℕ, None, IsSome, length};
-ghost use Rattle.rules.specs.State.{version_in};
+ghost use Rattle.std.specs.Prelude.{◌≡◌, ◌<◌, ◌≤◌, ℕ, None, Some, IsSome, length, slice_get};
+ghost use Rattle.rules.specs.State.{StateKey, version_in};
+ghost use Rattle.rules.specs.Job.{candidate_at};
+ghost use Rattle.key_chains.specs.Job.{read_by};
 ghost use Rattle.rules.specs.Sure.{Sure};
 ghost use Rattle.rules.specs.Assignment.{version_under};
 ghost use Rattle.rules.specs.Depends.{VersionDepends};
@@ -10,7 +12,8 @@ ghost use Rattle.key_chains.specs.Operations as chains;
 
 use crate::walk::{Finding, noted_over, walk};
 use key_chains::{Board, Decision, Job, Operations, StateKey};
-use transaction::Version;
+use transaction::{Read, Version};
+use values::NameRef;
 
 fn version_before(job: &Job<'_, '_>, key: &StateKey<'_>) -> Option<Version>
     ensures { result ≡ version_in job.now.state key.now }
@@ -40,6 +43,45 @@ pub(crate) fn version_over<B: Board>(
     match walk(job.number(), i, operations, board) {
         Decision::Sure(Finding::Open(noted)) => {
             Decision::Sure(noted_over(noted, version_before(job, key)))
+        }
+        Decision::Sure(Finding::Settled(version)) => Decision::Sure(version),
+        Decision::Blocked(h) => Decision::Blocked(h),
+    }
+}
+
+fn version_before_read(job: &Job<'_, '_>, i: u32, place: usize) -> Option<Version>
+    requires { place < length (read_by (candidate_at job.now i)) }
+    ensures { (k : StateKey) → slice_get (read_by (candidate_at job.now i)) place ≡ Some k → result ≡ version_in job.now.state k }
+{
+    match job.row_of_read(i, place) {
+        None => None,
+        Some(row) => Some(row.version),
+    }
+}
+
+/// The version of what candidate i reads at this place among its reads, over the operations on it before that candidate. Both these
+/// and the row before the block were found before.
+pub(crate) fn version_of_read<B: Board>(
+    job: &Job<'_, '_>,
+    i: u32,
+    namespace: &NameRef<'_>,
+    read: &Read<'_>,
+    place: usize,
+    board: &mut B,
+) -> Decision<Option<Version>>
+    requires place { slice_get (read_by (candidate_at job.now i)) place ≡ Some (namespace.now, read.now.key) }
+    requires board { i ≤ B.count board.old }
+    ensures moves { B.moves board.old board.new }
+    ensures decision { MatchDecision result
+        (λ v. Sure (version_under job.now (namespace.now, read.now.key)) (valid_in (B.known board.new)) i v)
+        (λ h. VersionDepends job.now (namespace.now, read.now.key) i h × ((B.known board.new).flag h ≡ None)) }
+{
+    // these are the read at this place, and stand here for the clauses
+    let (_namespace, _read) = (namespace, read);
+    let operations = job.operations_on_read(i, place);
+    match walk(job.number(), i, operations, board) {
+        Decision::Sure(Finding::Open(noted)) => {
+            Decision::Sure(noted_over(noted, version_before_read(job, i, place)))
         }
         Decision::Sure(Finding::Settled(version)) => Decision::Sure(version),
         Decision::Blocked(h) => Decision::Blocked(h),

@@ -3,7 +3,7 @@ ghost use Rattle.std.specs.Prelude.{◌≡◌, ◌≤◌, List, length, IfOk};
 ghost use Rattle.intake.specs.declared.taking.Taken as as_taken;
 ghost use Rattle.block.specs.Limits.{max_txs};
 ghost use Rattle.channel.specs.Configuration as as_channel;
-ghost use Rattle.key_chains.specs.Job.{keys_in};
+ghost use Rattle.key_chains.specs.Job.{keys_in, reads_in};
 ghost use Rattle.rules.specs.Delta.{AreRealChanges, changes_in, definitions_in};
 ghost use Rattle.rules.specs.Fold as fold;
 ghost use Rattle.rules.specs.Fold.{final_state, definitions_to};
@@ -20,10 +20,10 @@ use channel::Configuration;
 use effects::{Effects, effects_of};
 use header_hash::header_hash;
 use intake::{Taken, tentative_candidates_are_the_definitions};
-use key_chains::{Job, KeyWriters};
+use key_chains::{BlockRows, Job, KeyWriters};
 use linking::LinkedBlock;
 use rules::{Flag, uses_of};
-use state_db::{Batch, FoundRows};
+use state_db::Batch;
 use std::alloc::{AllocError, Global};
 use transaction::TxId;
 use values::{Bytes, Hash, Shared, Slice};
@@ -63,15 +63,16 @@ pub fn flag_duplicates<'b>(
     Ok((key_writers, ids))
 }
 
-/// The job of the next block, of its candidates and of the row of each key that they write. Constant time, no memory.
+/// The job of the next block, of its candidates and of the rows of the keys that they write and read. Constant time, no memory.
 pub fn job_over<'s, 'b>(
     channel: &'s Configuration,
     world: &'s World,
     key_writers: KeyWriters<'b>,
-    found: FoundRows<'s>,
+    rows: BlockRows<'s>,
 ) -> Job<'s, 'b>
     requires few { length key_writers ≤ max_txs }
-    requires found { AreRows world.now.state (keys_in key_writers) found.rows.items }
+    requires written { AreRows world.now.state (keys_in key_writers) rows.written.rows.items }
+    requires read { AreRows world.now.state (reads_in key_writers) rows.read.rows.items }
     ensures { result ≡ job_over channel.entry.now world.entry.now key_writers.entry }
 {
     Job::of_found(
@@ -80,13 +81,13 @@ pub fn job_over<'s, 'b>(
         world.definitions(),
         channel.admin(),
         key_writers,
-        found,
+        rows,
     )
 }
 
 /// The job of the next block, of what was taken in of it, and the id that each of its transactions uses.
 ///
-/// Searches the row of each key that the block writes; costs what [`tentative_job_of`] and [`flag_duplicates`] do
+/// Searches the row of each key that the block writes or reads; costs what [`tentative_job_of`] and [`flag_duplicates`] do
 /// beside.
 pub fn job_of<'s, 'b>(
     alloc: Global,
@@ -100,8 +101,8 @@ pub fn job_of<'s, 'b>(
 {
     let tentative = tentative_job_of(alloc, taken)?;
     let (key_writers, ids) = flag_duplicates(alloc, world, tentative)?;
-    let found = world.state().rows_of(alloc, key_writers.keys())?;
-    Ok((job_over(channel, world, key_writers, found), ids))
+    let rows = BlockRows::find(alloc, world.state(), &key_writers)?;
+    Ok((job_over(channel, world, key_writers, rows), ids))
 }
 
 /// Where the transactions of a block begin in its bytes, of which there are so many. No clause speaks of these places:

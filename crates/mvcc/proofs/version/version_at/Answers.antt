@@ -1,4 +1,4 @@
-use Rattle.std.proofs.Common.{ℕ, ◌<◌, min, arith, ap, ◌∙◌}
+use Rattle.std.proofs.Common.{min, arith, ap, ◌∙◌}
 use Rattle.rules.specs.Assignment.{version_under}
 use Rattle.rules.specs.Sure.{Sure}
 use Rattle.key_chains.specs.Known.{valid_in}
