@@ -19,21 +19,26 @@ TOP = pathlib.Path(__file__).resolve().parent.parent.parent
 
 
 def fault_of(edit):
-    """Why an edit can't be applied, or nothing. It has a line `file: PATH`, then pairs of lines `old: TEXT` and `new: TEXT`."""
+    """Why an edit can't be applied, or nothing. It has lines `file: PATH`, behind each pairs of lines `old: TEXT` and `new: TEXT`."""
     texts, path, old, pairs = {}, None, None, 0
     for line in edit.read_text().splitlines():
-        word, _, rest = line.partition(": ")
+        word, _, rest = line.partition(":")
+        rest = rest.removeprefix(" ")
         if word == "file":
-            path = edit.parent.parent / rest
+            path, old = edit.parent.parent / rest, None
             if not path.is_file():
                 return f"{rest} isn't there"
         elif word == "old":
             old = rest
-        elif line.startswith("new:"):
-            text = texts.get(path) or path.read_text()
+        elif word == "new":
+            if path is None or old is None:
+                return f"'{rest}' has no file or no old text"
+            if rest == old:
+                return f"'{old}' stays as it is"
+            text = texts[path] if path in texts else path.read_text()
             if text.count(old) != 1:
                 return f"'{old}' stands {text.count(old)} times in {path.name}"
-            texts[path], pairs = text.replace(old, line[len("new:"):].removeprefix(" ")), pairs + 1
+            texts[path], old, pairs = text.replace(old, rest), None, pairs + 1
     return None if pairs else "it has no pair of an old and a new text"
 
 

@@ -13,13 +13,13 @@ use crate::context::Context;
 use crate::prepared::{Prepared, prepare};
 use check_workers::check_all;
 use gates::Gate;
-use key_chains::{BlockRows, Job, KeyWriters};
+use key_chains::{BlockRows, Job, KeyWriters, StateKey};
 use linking::{HashedBlock, LinkedBlock};
 use next_block::{NextBlock, PendingDelta, flag_duplicates, job_over, pending_delta_of};
 use policy_eval::Verify;
 use row_workers::rows_by;
 use rules::Refused;
-use state_db::StateDb;
+use state_db::{FoundRows, StateDb};
 use std::alloc::AllocError;
 use std::sync::Wait;
 use std::thread::Threads;
@@ -46,7 +46,19 @@ fn linked<'b>(world: &World, hashed: HashedBlock<'b>) -> Result<LinkedBlock<'b>,
     hashed.linked(world.height(), world.header_hash(), world.version())
 }
 
-/// The rows before a block of the keys that it writes and reads. Several threads look them up where that is worth it.
+/// The rows of keys. Several threads look them up where that is worth it.
+fn rows_of<'s, R: Threads + Sync, V, G>(
+    context: &Context<'_, R, V, G>,
+    state: &'s StateDb,
+    keys: &[StateKey<'_>],
+) -> Result<FoundRows<'s>, AllocError>
+    ensures { IfOk result (λ found. AreRows state.entry.now.state keys.now found.rows.items) }
+{
+    let threads = context.workers.looking_up(keys.len(), state.pages());
+    rows_by(context.rt, context.alloc, threads, state, keys)
+}
+
+/// The rows before a block of the keys that it writes and reads.
 fn rows_before<'s, R: Threads + Sync, V, G>(
     context: &Context<'_, R, V, G>,
     state: &'s StateDb,
@@ -55,13 +67,10 @@ fn rows_before<'s, R: Threads + Sync, V, G>(
     ensures written { IfOk result (λ rows. AreRows state.entry.now.state (keys_in key_writers.now) rows.written.rows.items) }
     ensures read { IfOk result (λ rows. AreRows state.entry.now.state (reads_in key_writers.now) rows.read.rows.items) }
 {
-    let (rt, alloc, workers) = (context.rt, context.alloc, context.workers);
-    let (keys, read_keys, pages) = (key_writers.keys(), key_writers.read_keys(), state.pages());
-    let threads = workers.looking_up(keys.len(), pages);
-    let written = rows_by(rt, alloc, threads, state, keys)?;
-    let threads = workers.looking_up(read_keys.len(), pages);
-    let read = rows_by(rt, alloc, threads, state, read_keys)?;
-    Ok(BlockRows { written, read })
+    Ok(BlockRows {
+        written: rows_of(context, state, key_writers.keys())?,
+        read: rows_of(context, state, key_writers.read_keys())?,
+    })
 }
 
 /// The delta of the next block, but for its commit hash, of its job and ids; and how many verdicts no worker had found.

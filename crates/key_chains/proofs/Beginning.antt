@@ -10,7 +10,7 @@ use Rattle.key_chains.specs.Linked.{KeyedLists, chain_in}
 use Rattle.key_chains.specs.Numbers.{number_in}
 use Rattle.key_chains.specs.Operations.{operations}
 use Rattle.key_chains.specs.PolicyWriters.{policy_writers}
-use Rattle.key_chains.specs.Building.{block_keys, list_numbered, Lead, gathered, starts, lists_read, lists_touched, keys_written}
+use Rattle.key_chains.specs.Building.{block_keys, list_numbered, Lead, gathered, starts, keys_read, lists_read, lists_touched, keys_written}
 use Rattle.key_chains.specs.Built.{IsBuilt}
 
 no_link : (n m : ℕ) → get_or (replicate {A = Option ℕ} n None) m None ≡ None
@@ -45,13 +45,14 @@ unfolding policy_writers
 no_writers cs k = refl
 
 pub begins : (cs : List Candidate) (c : Chains) (n : ℕ) → c.keys ≡ block_keys cs → n ≡ length c.keys → c.operations ≡ ([], replicate n None) → c.policy_writers ≡ ([], replicate n None)
-    → c.reads.items ≡ [] → c.first_reads.items ≡ [] → c.written.items ≡ [] → c.first_written.items ≡ [] → IsBuilt cs 0 0 0 c
-begins cs c n keys count ops pols reads first written first_written = record {
+    → c.read_keys.items ≡ [] → c.reads.items ≡ [] → c.first_reads.items ≡ [] → c.written.items ≡ [] → c.first_written.items ≡ [] → IsBuilt cs 0 0 0 c
+begins cs c n keys count ops pols read reads first written first_written = record {
   keys = keys;
   operations_count = ap (λ (l : KeyedLists Operation). length l.1) ops ∙ length-replicate n None ∙ count;
   operations = λ k. nothing_numbered c.operations n (number_in c.keys k) (ap (λ (l : KeyedLists Operation). l.1) ops) ∙ sym (no_operations cs k);
   policies_count = ap (λ (l : KeyedLists ℕ). length l.1) pols ∙ length-replicate n None ∙ count;
   policies = λ k. nothing_numbered c.policy_writers n (number_in c.keys k) (ap (λ (l : KeyedLists ℕ). l.1) pols) ∙ sym (no_writers cs k);
+  read_keys = read ∙ sym (gathered-none (keys_read cs));
   reads = no_leads _ _ _ reads (gathered-none (lists_read cs));
   first_reads = first ∙ sym (starts-none (lists_read cs));
   writers = no_leads _ _ _ (ap (map (λ w. w.policy_writers)) written) (ap (λ (l : List (List ℕ)). l ++ []) (gathered-none (lists_touched cs)));

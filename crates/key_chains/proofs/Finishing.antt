@@ -1,13 +1,10 @@
 -- From one candidate to the next.
-use Rattle.std.proofs.Common.{◌≡◌, ℕ, suc, Bool, true, false, cond, ◌||◌, List, [], ◌∷◌, ◌++◌, length, map, take, All, Option, Some, None, Vec, Global, refl, sym, ap, subst, ◌∙◌}
+use Rattle.std.proofs.Common.{◌≡◌, ℕ, zero, suc, ◌+◌, Bool, true, false, cond, ◌||◌, List, [], ◌∷◌, ◌++◌, length, map, take, All, Option, Some, None, Vec, Global, refl, sym, ap, subst, ◌∙◌, length-append}
 use Rattle.std.specs.Prelude.{flat_map, option_map, option_to_list}
-use Rattle.std.proofs.lemmas.List.{append-nil, map-append, length-map}
+use Rattle.std.proofs.lemmas.List.{append-nil, length-map}
 use Rattle.std.proofs.lemmas.List.Folds.{list_any-append}
 use Rattle.std.proofs.lemmas.List.Concat.{flat_map-cons}
-use Rattle.transaction.specs.declared.identity.Identity.{Identity}
-use Rattle.transaction.specs.declared.transaction.Read.{Read}
 use Rattle.transaction.specs.declared.transaction.NsSet.{NsSet}
-use Rattle.transaction.specs.declared.transaction.Tx.{Tx}
 use Rattle.rules.specs.State.{StateKey, is_same_key, is_among}
 use Rattle.rules.specs.Candidate.{Candidate, flagged, opened, updates}
 use Rattle.rules.specs.Job.{touched_by, operated_by}
@@ -23,8 +20,7 @@ use Rattle.key_chains.specs.Linked.{KeyedLists, chain_in, IsLink}
 use Rattle.key_chains.specs.Numbers.{number_in}
 use Rattle.key_chains.specs.Operations.{candidate_in, kind_by, kind_from, operations}
 use Rattle.key_chains.specs.PolicyWriters.{policy_writers}
-use Rattle.key_chains.specs.Job.{read_by}
-use Rattle.key_chains.specs.Building.{list_at, so_far, Lead, gathered, starts, lists_read, lists_touched, keys_written}
+use Rattle.key_chains.specs.Building.{list_at, so_far, Lead, gathered, starts, keys_read, lists_read, lists_touched, keys_written}
 use Rattle.key_chains.specs.Built.{IsBuilt}
 
 -- ---- what one candidate more gives
@@ -93,6 +89,7 @@ finished cs i c b = record {
   operations = λ k. b.operations k ∙ operations-end cs k i;
   policies_count = b.policies_count;
   policies = λ k. b.policies k ∙ writers-end cs k i;
+  read_keys = b.read_keys;
   reads = b.reads;
   first_reads = b.first_reads;
   writers = subst (λ (to : List (List ℕ)). Lead c.policy_writers.0 (map (λ w. w.policy_writers) c.written.items) to) all_lists b.writers;
@@ -112,49 +109,41 @@ finished cs i c b = record {
 
 -- ---- the reads of a candidate
 
-read_lists : (cs : List Candidate) (i : ℕ) (at : StateKey → List Operation) (ns : List NsSet) → ((k : StateKey) → at k ≡ operations cs k i)
-    → flat_map (λ n. map (λ r. at (n.name, r.key)) n.reads) ns ≡ map (λ k. operations cs k i) (flat_map (λ n. map (λ r. (n.name, r.key)) n.reads) ns)
-read_lists cs i at [] same = refl
-read_lists cs i at (n ∷ ns) same =
-    flat_map-cons (λ m. map (λ r. at (m.name, r.key)) m.reads) n ns
-    ∙ (λ j. one n.reads j ++ read_lists cs i at ns same j)
-    ∙ sym (map-append (λ k. operations cs k i) (map (λ r. (n.name, r.key)) n.reads) (flat_map (λ m. map (λ r. (m.name, r.key)) m.reads) ns))
-    ∙ ap (map (λ k. operations cs k i)) (sym (flat_map-cons (λ m. map (λ r. (m.name, r.key)) m.reads) n ns))
-  where
-    one : (rs : List Read) → map (λ r. at (n.name, r.key)) rs ≡ map (λ k. operations cs k i) (map (λ r. (n.name, r.key)) rs)
-    one [] = refl
-    one (r ∷ rs) = λ j. same (n.name, r.key) j ∷ one rs j
+pub same_lengths : {X Y : Type 0} (f : ℕ → List X) (g : ℕ → List Y) → ((i : ℕ) → length (f i) ≡ length (g i)) → (n : ℕ) → length (gathered f n) ≡ length (gathered g n)
+unfolding gathered
+same_lengths f g h zero = refl
+same_lengths f g h (suc n) = length-append (gathered f n) (f n) ∙ (λ i. same_lengths f g h n i + h n i) ∙ sym (length-append (gathered g n) (g n))
 
-pub read_of : (cs : List Candidate) (i : ℕ) (c : Chains) (tx : Tx) (signers : List Identity) → IsBuilt cs i i 0 c → candidate_in cs i ≡ opened tx signers
-    → flat_map (λ n. map (λ r. list_at c.keys c.operations (n.name, r.key)) n.reads) tx.namespaces ≡ lists_read cs i
-read_of cs i c tx signers b is =
-    read_lists cs i (list_at c.keys c.operations) tx.namespaces b.operations ∙ ap (λ (x : Candidate). map (λ k. operations cs k i) (read_by x)) (sym is)
+pub as_many_read : (cs : List Candidate) (n : ℕ) → length (gathered (lists_read cs) n) ≡ length (gathered (keys_read cs) n)
+as_many_read cs = same_lengths (lists_read cs) (keys_read cs) (λ m. length-map (keys_read cs m) (λ k. operations cs k m))
 
--- with the starts, and the reads linked
-pub reads_linked : (cs : List Candidate) (i n m : ℕ) (old new : Chains) (lists : List (List Operation)) → IsBuilt cs i i 0 old → n ≡ length old.reads.items → m ≡ length old.written.items
+-- with the starts, and the keys that it reads and their links
+pub reads_linked : (cs : List Candidate) (i n m : ℕ) (old new : Chains) (read : List StateKey) → IsBuilt cs i i 0 old → read ≡ keys_read cs i → n ≡ length old.read_keys.items → m ≡ length old.written.items
     → new.first_reads.items ≡ old.first_reads.items ++ n ∷ [] → new.first_written.items ≡ old.first_written.items ++ m ∷ []
-    → map (chain_in old.operations.0) new.reads.items ≡ map (chain_in old.operations.0) old.reads.items ++ lists → lists ≡ lists_read cs i
+    → new.read_keys.items ≡ old.read_keys.items ++ read
+    → map (chain_in old.operations.0) new.reads.items ≡ map (chain_in old.operations.0) old.reads.items ++ map (list_at old.keys old.operations) read
     → (All (IsLink old.operations.0) old.reads.items → All (IsLink old.operations.0) new.reads.items)
     → new.keys ≡ old.keys → new.operations ≡ old.operations → new.policy_writers ≡ old.policy_writers → new.written ≡ old.written → IsBuilt cs i (suc i) 0 new
-reads_linked cs i n m old new lists b count counted first first_written lead is links same_keys same_operations same_policies same_written = record {
+reads_linked cs i n m old new read b is count counted first first_written keys lead links same_keys same_operations same_policies same_written = record {
   keys = same_keys ∙ b.keys;
   operations_count = (λ j. length (same_operations j).1) ∙ b.operations_count ∙ ap length (sym same_keys);
   operations = λ k. (λ j. list_at (same_keys j) (same_operations j) k) ∙ b.operations k;
   policies_count = (λ j. length (same_policies j).1) ∙ b.policies_count ∙ ap length (sym same_keys);
   policies = λ k. (λ j. list_at (same_keys j) (same_policies j) k) ∙ b.policies k;
+  read_keys = keys ∙ (λ j. b.read_keys j ++ is j) ∙ sym (gathered-more (keys_read cs) i);
   reads = subst (λ (o : KeyedLists Operation). Lead o.0 new.reads.items (gathered (lists_read cs) (suc i))) (sym same_operations) linked;
-  first_reads = first ∙ (λ j. b.first_reads j ++ (count ∙ length_lead old.operations.0 old.reads.items _ b.reads) j ∷ []) ∙ sym (starts-more (lists_read cs) i);
+  first_reads = first ∙ (λ j. b.first_reads j ++ (count ∙ ap length b.read_keys ∙ sym (as_many_read cs i)) j ∷ []) ∙ sym (starts-more (lists_read cs) i);
   writers = subst (λ (o : KeyedLists ℕ). Lead o.0 (map (λ w. w.policy_writers) new.written.items) (gathered (lists_touched cs) i ++ [])) (sym same_policies)
       (subst (λ (v : Vec Written Global). Lead old.policy_writers.0 (map (λ w. w.policy_writers) v.items) (gathered (lists_touched cs) i ++ [])) (sym same_written) b.writers);
   numbers = ap (λ (v : Vec Written Global). map (λ w. Some w.number) v.items) same_written ∙ b.numbers ∙ ap (λ (ks : List StateKey). map (number_in ks) (gathered (keys_written cs) i ++ [])) (sym same_keys);
   first_written = first_written ∙ (λ j. b.first_written j ++ (counted ∙ written_count) j ∷ []) ∙ sym (starts-more (keys_written cs) i);
 }
   where
-    linked : Lead old.operations.0 new.reads.items (gathered (lists_read cs) (suc i))
-    linked = record { are_links = links b.reads.are_links; lead = lead ∙ (λ j. b.reads.lead j ++ is j) ∙ sym (gathered-more (lists_read cs) i) }
+    lists : map (list_at old.keys old.operations) read ≡ lists_read cs i
+    lists = (λ j. map (λ k. b.operations k j) read) ∙ ap (map (λ k. operations cs k i)) is
 
-    length_lead : {X : Type 0} (lists : List (List X)) (ls : List (Option ℕ)) (to : List (List X)) → Lead lists ls to → length ls ≡ length to
-    length_lead lists ls to l = sym (length-map ls (chain_in lists)) ∙ ap length l.lead
+    linked : Lead old.operations.0 new.reads.items (gathered (lists_read cs) (suc i))
+    linked = record { are_links = links b.reads.are_links; lead = lead ∙ (λ j. b.reads.lead j ++ lists j) ∙ sym (gathered-more (lists_read cs) i) }
 
     written_count : length old.written.items ≡ length (gathered (keys_written cs) i)
     written_count =

@@ -65,14 +65,15 @@ module _ (cs : List Candidate) (i p : ℕ) (w : WrittenKey) (old new : Chains) (
       → IsListNow number (cond (is_some w.policy) (i ∷ list_of old.policy_writers number) (list_of old.policy_writers number)) old.policy_writers new.policy_writers
       → link ≡ slice_index_or old.policy_writers.1 number None → IsLink old.policy_writers.0 link
       → new.written.items ≡ old.written.items ++ (record { number = number; policy_writers = link }) ∷ []
-      → new.keys ≡ old.keys → new.reads ≡ old.reads → new.first_reads ≡ old.first_reads → new.first_written ≡ old.first_written
+      → new.keys ≡ old.keys → new.read_keys ≡ old.read_keys → new.reads ≡ old.reads → new.first_reads ≡ old.first_reads → new.first_written ≡ old.first_written
       → IsBuilt cs i (suc i) (suc p) new
-  one_further ops pols is_newest is_link written same_keys same_reads same_first same_first_written = record {
+  one_further ops pols is_newest is_link written same_keys same_read same_reads same_first same_first_written = record {
     keys = same_keys ∙ built.keys;
     operations_count = ops.count ∙ built.operations_count ∙ ap length (sym same_keys);
     operations = λ k. ap (λ (ks : List StateKey). list_at ks new.operations k) same_keys ∙ so_far_more (operations cs) (keys_written cs i) i p w.key _ (list_at old.keys old.operations) (list_at old.keys new.operations) next.place new_operations built.operations (other_list old.keys old.operations new.operations number _ w.key ops.here ops.others numbered) k;
     policies_count = pols.count ∙ built.policies_count ∙ ap length (sym same_keys);
     policies = λ k. ap (λ (ks : List StateKey). list_at ks new.policy_writers k) same_keys ∙ so_far_more (policy_writers cs) (keys_written cs i) i p w.key _ (list_at old.keys old.policy_writers) (list_at old.keys new.policy_writers) next.place new_writers built.policies (other_list old.keys old.policy_writers new.policy_writers number _ w.key pols.here pols.others numbered) k;
+    read_keys = ap (λ (v : Vec StateKey Global). v.items) same_read ∙ built.read_keys;
     reads = subst (λ (v : Vec (Option ℕ) Global). Lead new.operations.0 v.items (gathered (lists_read cs) (suc i))) (sym same_reads) (lead_stays old.operations new.operations _ _ ops.links built.reads);
     first_reads = ap (λ (v : Vec ℕ Global). v.items) same_first ∙ built.first_reads;
     writers = lead_stays old.policy_writers new.policy_writers _ _ pols.links (writers_further is_link is_newest written);

@@ -18,7 +18,7 @@ use Rattle.key_chains.specs.PolicyWriters.{policy_writers}
 use Rattle.key_chains.specs.Job.{read_by, written_by}
 use Rattle.key_chains.specs.Building.{gathered, starts, lists_read, lists_touched, keys_written}
 use Rattle.key_chains.specs.Built.{IsBuilt}
-use Rattle.key_chains.proofs.Finishing.{gathered-more, starts-more}
+use Rattle.key_chains.proofs.Finishing.{gathered-more, starts-more, same_lengths}
 
 -- ---- lists one behind the other
 
@@ -129,11 +129,6 @@ module _ (cs : List Candidate) (n i r : ℕ) (c : Chains) (b : IsBuilt cs n n 0 
     pub read_leads : (d : Option ℕ) → chain_in c.operations.0 (get_or c.reads.items (length (gathered (lists_read cs) i) + r) d) ≡ get_or (lists_read cs i) r []
     read_leads d =
         sym (mapped (chain_in c.operations.0) c.reads.items (length (gathered (lists_read cs) i) + r) d [] read_there) ∙ ap (λ l. get_or l (length (gathered (lists_read cs) i) + r) []) b.reads.lead ∙ gathered_at (lists_read cs) n i r [] lt own
-
-pub same_lengths : {X Y : Type 0} (f : ℕ → List X) (g : ℕ → List Y) → ((i : ℕ) → length (f i) ≡ length (g i)) → (n : ℕ) → length (gathered f n) ≡ length (gathered g n)
-unfolding gathered
-same_lengths f g h zero = refl
-same_lengths f g h (suc n) = length-append (gathered f n) (f n) ∙ (λ i. same_lengths f g h n i + h n i) ∙ sym (length-append (gathered g n) (g n))
 
 module _ (cs : List Candidate) (n i r : ℕ) (c : Chains) (b : IsBuilt cs n n 0 c) (lt : i < n) (below : r < length (written_by (candidate_in cs i))) where
   as_many : (m : ℕ) → length (gathered (lists_touched cs) m) ≡ length (gathered (keys_written cs) m)

@@ -15,16 +15,14 @@ use Rattle.rules.specs.Candidate as rule
 use Rattle.rules.specs.Candidate.{flagged}
 use Rattle.rules.specs.Job.{Job, candidate_at}
 use Rattle.key_chains.specs.declared.chains.Chains.{Chains}
-use Rattle.key_chains.specs.Operations.{candidate_in, operations}
+use Rattle.key_chains.specs.Operations.{candidate_in}
 use Rattle.key_chains.specs.Job.{read_by, reads_in}
-use Rattle.key_chains.specs.Building.{gathered, lists_read}
-use Rattle.key_chains.proofs.Finishing.{gathered-more, take_all}
+use Rattle.key_chains.specs.Building.{gathered, keys_read, lists_read}
+use Rattle.key_chains.specs.Built.{IsBuilt}
+use Rattle.key_chains.proofs.Finishing.{gathered-more, take_all, as_many_read}
 use Rattle.key_chains.proofs.Gathering.{one_more}
 use Rattle.key_chains.proofs.JobLists.{IsJobOf, IsItem, first_is}
-use Rattle.key_chains.proofs.LookUps.{is_there, gathered_at, below_end, same_lengths, mapped, here_is}
-
-abbrev keys_read : List rule.Candidate → ℕ → List StateKey
-keys_read cs i = read_by (candidate_in cs i)
+use Rattle.key_chains.proofs.LookUps.{is_there, gathered_at, below_end, mapped, here_is}
 
 any_default : {A : Type 0} (xs : List A) (n : ℕ) (d e : A) → n < length xs → get_or xs n d ≡ get_or xs n e
 any_default [] n d e lt = absurd (omega arith)
@@ -45,16 +43,13 @@ module _ (cs : List rule.Candidate) where
   all_reads : gathered (keys_read cs) (length cs) ≡ reads_in cs
   all_reads = gathered_so_far cs (length cs) (omega arith) ∙ ap (flat_map read_by) (take_all cs)
 
-  as_many : (m : ℕ) → length (gathered (lists_read cs) m) ≡ length (gathered (keys_read cs) m)
-  as_many = same_lengths (lists_read cs) (keys_read cs) (λ m. length-map (keys_read cs m) (λ k. operations cs k m))
-
   module _ (i r : ℕ) (there : i < length cs) (below : r < length (keys_read cs i)) where
     read_below : length (gathered (lists_read cs) i) + r < length (reads_in cs)
-    read_below = let h = below_end (keys_read cs) (length cs) i r there below in omega (arith, h, as_many i, ap length all_reads)
+    read_below = let h = below_end (keys_read cs) (length cs) i r there below in omega (arith, h, as_many_read cs i, ap length all_reads)
 
     read_at : (d : StateKey) → get_or (reads_in cs) (length (gathered (lists_read cs) i) + r) d ≡ get_or (keys_read cs i) r d
     read_at d =
-        (λ m. get_or (sym all_reads m) (as_many i m + r) d) ∙ gathered_at (keys_read cs) (length cs) i r d there below
+        (λ m. get_or (sym all_reads m) (as_many_read cs i m + r) d) ∙ gathered_at (keys_read cs) (length cs) i r d there below
 
 module _ (j : Job) (items : List Candidate) (chains : Chains) (of : IsJobOf j items chains) (firsts : List ℕ) (i r : ℕ) (same_firsts : firsts ≡ chains.first_reads.items) (below : r < length (read_by (candidate_at j i)))
     (s : State) (rows : List (Option (Bor Row))) (are : AreRows s (reads_in (map seen items)) rows) where
@@ -85,3 +80,7 @@ module _ (j : Job) (items : List Candidate) (chains : Chains) (of : IsJobOf j it
       ∙ ap (λ (l : List (Option Row)). get_or l place (option_copied x)) are
       ∙ mapped (get s) (reads_in cs) place k (option_copied x) (read_below cs i r there own)
       ∙ ap (get s) key
+
+-- the keys of all reads, as the chains have them
+pub read_keys_are : (items : List Candidate) (c : Chains) → IsBuilt (map seen items) (length items) (length items) 0 c → c.read_keys.items ≡ reads_in (map seen items)
+read_keys_are items c b = b.read_keys ∙ ap (gathered (keys_read (map seen items))) (sym (length-map items seen)) ∙ all_reads (map seen items)

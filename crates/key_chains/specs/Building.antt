@@ -53,9 +53,12 @@ unfoldable pub starts : {X : Type 0} → (ℕ → List X) → ℕ → List ℕ
 starts give zero = []
 starts give (suc n) = starts give n ++ length (gathered give n) ∷ []
 
+abbrev pub keys_read : List Candidate → ℕ → List StateKey
+keys_read cs i = read_by (candidate_in cs i)
+
 -- the lists before it on the keys that a candidate reads
 abbrev pub lists_read : List Candidate → ℕ → List (List Operation)
-lists_read cs i = map (λ k. operations cs k i) (read_by (candidate_in cs i))
+lists_read cs i = map (λ k. operations cs k i) (keys_read cs i)
 
 -- the writers before it of the policies of the keys that a candidate writes
 abbrev pub lists_touched : List Candidate → ℕ → List (List ℕ)

@@ -9,7 +9,7 @@ use Rattle.key_chains.specs.declared.chains.Chains.{Chains}
 use Rattle.key_chains.specs.Numbers.{number_in}
 use Rattle.key_chains.specs.Operations.{candidate_in, kind_of, kind_by, operations}
 use Rattle.key_chains.specs.PolicyWriters.{policy_writers}
-use Rattle.key_chains.specs.Building.{block_keys, list_at, so_far, Lead, gathered, starts, lists_read, lists_touched, keys_written}
+use Rattle.key_chains.specs.Building.{block_keys, list_at, so_far, Lead, gathered, starts, keys_read, lists_read, lists_touched, keys_written}
 
 -- behind the candidates before i and the first p keys that it writes; those before r have their reads linked
 pub record IsBuilt (cs : List Candidate) (i r p : ℕ) (c : Chains) : Type 0 where
@@ -18,6 +18,7 @@ pub record IsBuilt (cs : List Candidate) (i r p : ℕ) (c : Chains) : Type 0 whe
   pub operations : (k : StateKey) → list_at c.keys c.operations k ≡ so_far (operations cs) (keys_written cs i) i p k
   pub policies_count : length c.policy_writers.1 ≡ length c.keys
   pub policies : (k : StateKey) → list_at c.keys c.policy_writers k ≡ so_far (policy_writers cs) (keys_written cs i) i p k
+  pub read_keys : c.read_keys.items ≡ gathered (keys_read cs) r
   pub reads : Lead c.operations.0 c.reads.items (gathered (lists_read cs) r)
   pub first_reads : c.first_reads.items ≡ starts (lists_read cs) r
   pub writers : Lead c.policy_writers.0 (map (λ w. w.policy_writers) c.written.items) (gathered (lists_touched cs) i ++ take p (lists_touched cs i))

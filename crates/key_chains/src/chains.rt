@@ -1,6 +1,6 @@
 //! Who writes each key of a block.
 ghost use Rattle.std.specs.Prelude.{◌≡◌, ◌≢◌, ◌<◌, ◌^◌, true, ◌++◌, ◌∷◌, ℕ, suc, List, All, length, map, flat_map, is_some, IsSome, IfOk, OnOk, if◌then◌else◌};
-ghost use Rattle.key_chains.specs.Job.{written_by};
+ghost use Rattle.key_chains.specs.Job.{read_keys, written_by};
 ghost use Rattle.key_chains.specs.Linked.{chain_in, list_of, IsLink, LinksStay};
 ghost use Rattle.key_chains.specs.Numbers.{number_in};
 ghost use Rattle.key_chains.specs.Operations.{kind_of, candidate_in};
@@ -15,7 +15,7 @@ use crate::numbering::Numbering;
 use crate::operation::{Kind, Operation};
 use candidates::{Candidate, StateKey, WrittenKey};
 use std::alloc::{AllocError, Global};
-use transaction::NsSet;
+use transaction::{NsSet, Tx};
 
 /// A key that a candidate writes: its number, and the newest candidate before it that writes the key's policy.
 #[derive(Clone, Copy)]
@@ -31,7 +31,9 @@ pub(crate) struct Chains<'a> {
     pub keys: Numbering<'a>,
     pub operations: KeyLists<Operation>,
     pub policy_writers: KeyLists<u32>,
-    /// The newest operation before its candidate, for each read of each candidate.
+    /// The key of each read of each candidate.
+    pub read_keys: Vec<StateKey<'a>>,
+    /// The newest operation on it before its candidate.
     pub reads: Vec<Option<u32>>,
     pub first_reads: Vec<usize>,
     /// The keys that each candidate writes.
@@ -55,37 +57,39 @@ pub(crate) fn newest_on<T: Copy>(
     }
 }
 
-/// Links of the reads in one namespace.
-fn link_reads_in(
-    links: &mut Vec<Option<u32>>,
-    keys: &Numbering<'_>,
-    operations: &KeyLists<Operation>,
-    set: &NsSet<'_>,
-) -> Result<(), AllocError>
-    requires { length operations.now.1 ≡ length keys.now }
-    ensures lists { OnOk result (map (chain_in operations.now.0) links.new.items ≡ map (chain_in operations.now.0) links.old.items ++ map (λ r. list_at keys.now operations.now (set.now.name, r.key)) set.now.reads) }
-    ensures links { OnOk result (All (IsLink operations.now.0) links.old.items → All (IsLink operations.now.0) links.new.items) }
+/// The keys that are read in one namespace.
+fn add_read_keys_in<'a>(keys: &mut Vec<StateKey<'a>>, set: &NsSet<'a>) -> Result<(), AllocError>
+    ensures { OnOk result (keys.new.items ≡ keys.old.items ++ map (λ r. (set.now.name, r.key)) set.now.reads) }
 {
     for read in set.reads.as_slice() {
-        let key = StateKey::new(&set.name, &read.key);
-        links.push(newest_on(keys, operations, &key))?;
+        keys.push(StateKey::new(&set.name, &read.key))?;
     }
     Ok(())
 }
 
-/// Links of the reads in all namespaces.
+/// Those that a transaction reads.
+fn add_read_keys<'a>(keys: &mut Vec<StateKey<'a>>, tx: &Tx<'a>) -> Result<(), AllocError>
+    ensures { OnOk result (keys.new.items ≡ keys.old.items ++ read_keys tx.now) }
+{
+    for set in tx.namespaces.as_slice() {
+        add_read_keys_in(keys, set)?;
+    }
+    Ok(())
+}
+
+/// Links of reads of these keys.
 fn link_reads(
     links: &mut Vec<Option<u32>>,
     keys: &Numbering<'_>,
     operations: &KeyLists<Operation>,
-    sets: &[NsSet<'_>],
+    read: &[StateKey<'_>],
 ) -> Result<(), AllocError>
     requires { length operations.now.1 ≡ length keys.now }
-    ensures lists { OnOk result (map (chain_in operations.now.0) links.new.items ≡ map (chain_in operations.now.0) links.old.items ++ flat_map (λ n. map (λ r. list_at keys.now operations.now (n.name, r.key)) n.reads) sets.now) }
+    ensures lists { OnOk result (map (chain_in operations.now.0) links.new.items ≡ map (chain_in operations.now.0) links.old.items ++ map (list_at keys.now operations.now) read.now) }
     ensures links { OnOk result (All (IsLink operations.now.0) links.old.items → All (IsLink operations.now.0) links.new.items) }
 {
-    for set in sets {
-        link_reads_in(links, keys, operations, set)?;
+    for key in read {
+        links.push(newest_on(keys, operations, key))?;
     }
     Ok(())
 }
@@ -165,6 +169,7 @@ impl<'a> Chains<'a> {
             keys,
             operations: KeyLists::new(alloc, count)?,
             policy_writers: KeyLists::new(alloc, count)?,
+            read_keys: Vec::new(alloc),
             reads: Vec::new(alloc),
             first_reads: Vec::new(alloc),
             written: Vec::new(alloc),
@@ -212,22 +217,24 @@ impl<'a> Chains<'a> {
     }
 
     /// One candidate more.
-    fn add(&mut self, i: u32, candidate: &Candidate<'_>) -> Result<(), AllocError>
+    fn add(&mut self, i: u32, candidate: &Candidate<'a>) -> Result<(), AllocError>
         requires numbers { (k : StateKey) → is_among k (written_by (seen candidate.now)) ≡ true → IsSome (number_in self.old.keys k) }
         requires whole { IsWhole self.old }
         ensures built { OnOk result ((cs : List seen_by_rules.Candidate) → candidate_in cs i ≡ seen candidate.now → IsBuilt cs i i 0 self.old → IsBuilt cs (suc i) (suc i) 0 self.new) }
     {
-        self.first_reads.push(self.reads.as_slice().len())?;
+        let first = self.read_keys.as_slice().len();
+        self.first_reads.push(first)?;
         self.first_written.push(self.written.as_slice().len())?;
         match candidate {
             Candidate::Flagged(_) => Ok(()),
             Candidate::Updates(_) => Ok(()),
             Candidate::Opened(open_tx) => {
+                add_read_keys(&mut self.read_keys, &open_tx.tx)?;
                 link_reads(
                     &mut self.reads,
                     &self.keys,
                     &self.operations,
-                    open_tx.tx.namespaces.as_slice(),
+                    &self.read_keys.as_slice()[first..],
                 )?;
                 self.add_written(i, open_tx.written.as_slice())?;
                 Ok(())

@@ -22,7 +22,7 @@ use crate::links::{Operations, PolicyWriters};
 use candidates::{Candidate, OpenTx, StateKey};
 use policy::{Definitions, Policy};
 use rules::{Change, EarlyFlag, Flag, ReadVerdict, Row};
-use state_db::{Batch, FoundRows, Rows, StateDb};
+use state_db::{Batch, Rows, StateDb};
 use std::alloc::{AllocError, Global};
 use std::marker::Model;
 use values::{BoundRef, NameRef};
@@ -37,11 +37,7 @@ pub struct Job<'s, 'b> {
     admin: Option<&'s Policy>,
     candidates: Vec<Candidate<'b>>,
     chains: Chains<'b>,
-    read_keys: Vec<StateKey<'b>>,
-    /// The row before the block of each key that it writes, in the keys' order.
-    found: FoundRows<'s>,
-    /// The row before the block of the key of each read of each candidate.
-    read: FoundRows<'s>,
+    rows: BlockRows<'s>,
 }
 
 impl<'s, 'b> Model for Job<'s, 'b> {
@@ -62,8 +58,7 @@ impl<'s, 'b> Model for Job<'s, 'b> {
 
     ghost view = { λ j. record { number = j.number; state = j.state.now.state; definitions = j.definitions.now; admin = option_copied j.admin; candidates = map seen j.candidates.items } };
 
-    ghost invariant = { λ j. ((length j.candidates.items ≤ max_txs) × AreRows j.state.now.state j.chains.keys j.found.rows.items × AreRows j.state.now.state (reads_in (map seen j.candidates.items)) j.read.rows.items) × IsBuilt (map seen j.candidates.items) (length j.candidates.items) (length j.candidates.items) 0 j.chains
-        × (j.read_keys.items ≡ reads_in (map seen j.candidates.items)) };
+    ghost invariant = { λ j. ((length j.candidates.items ≤ max_txs) × AreRows j.state.now.state j.chains.keys j.rows.written.rows.items × AreRows j.state.now.state (reads_in (map seen j.candidates.items)) j.rows.read.rows.items) × IsBuilt (map seen j.candidates.items) (length j.candidates.items) (length j.candidates.items) 0 j.chains };
 }
 
 /// An item of candidate i, whose items begin at the place that `firsts` has for it.
@@ -76,8 +71,8 @@ fn item_of<T: Copy>(items: &[T], firsts: &[usize], i: u32, item: usize) -> T
 }
 
 impl<'s, 'b> Job<'s, 'b> {
-    /// The job of a block's candidates over the state before the block: the key writers of [`KeyWriters::build`], and a search for the
-    /// row of each key that they write. Memory for both; `Err` where it is refused.
+    /// The job of a block's candidates over the state before the block: the key writers of [`KeyWriters::build`], and the rows of
+    /// [`BlockRows::find`]. Memory for both; `Err` where it is refused.
     pub fn build(
         alloc: Global,
         number: u64,
@@ -109,12 +104,7 @@ impl<'s, 'b> Job<'s, 'b> {
         requires read { AreRows state.now.state (reads_in key_writers) rows.read.rows.items }
         ensures { result ≡ record { number = number; state = state.entry.now.state; definitions = definitions.entry.now; admin = option_copied admin.entry; candidates = key_writers.entry } }
     {
-        let KeyWriters {
-            candidates,
-            chains,
-            read_keys,
-        } = key_writers;
-        let BlockRows { written, read } = rows;
+        let KeyWriters { candidates, chains } = key_writers;
         Job {
             number,
             state,
@@ -122,9 +112,7 @@ impl<'s, 'b> Job<'s, 'b> {
             admin,
             candidates,
             chains,
-            read_keys,
-            found: written,
-            read,
+            rows,
         }
     }
 
@@ -135,7 +123,6 @@ impl<'s, 'b> Job<'s, 'b> {
         KeyWriters {
             candidates: self.candidates,
             chains: self.chains,
-            read_keys: self.read_keys,
         }
     }
 
@@ -216,7 +203,7 @@ impl<'s, 'b> Job<'s, 'b> {
         requires { number < length (keys_of self.now) }
         ensures { (k : StateKey) → slice_get (keys_of self.now) number ≡ Some k → option_copied result ≡ get self.now.state k }
     {
-        self.found.rows[number as usize]
+        self.rows.written.rows[number as usize]
     }
 
     /// The row before the block of the key of one of a candidate's reads, which are counted through all its namespaces. Constant time.
@@ -224,7 +211,7 @@ impl<'s, 'b> Job<'s, 'b> {
         requires { read < length (read_by (candidate_at self.now i)) }
         ensures { (k : StateKey) → slice_get (read_by (candidate_at self.now i)) read ≡ Some k → option_copied result ≡ get self.now.state k }
     {
-        let rows = &self.read.rows;
+        let rows = &self.rows.read.rows;
         let firsts = &self.chains.first_reads;
         item_of(rows.as_slice(), firsts.as_slice(), i, read)
     }
@@ -245,7 +232,12 @@ impl<'s, 'b> Job<'s, 'b> {
     pub fn batch_of(&self, alloc: Global, changes: &[Change]) -> Result<Batch, AllocError>
         ensures { IfOk result (λ batch. (s : State) → changed s batch ≡ with_changes s (changes_in changes.now)) }
     {
-        Batch::of_looked_up(alloc, changes, self.chains.keys.as_slice(), &self.found)
+        Batch::of_looked_up(
+            alloc,
+            changes,
+            self.chains.keys.as_slice(),
+            &self.rows.written,
+        )
     }
 
     /// The rows that a batch would make differ from those before the block, spelled (`StateDb::update_bytes`). A change of a key that
@@ -254,7 +246,7 @@ impl<'s, 'b> Job<'s, 'b> {
         ensures { IfOk result (λ bytes. bytes.items ≡ update_bytes self.now.state (changed self.now.state batch.now)) }
     {
         self.state
-            .update_bytes(batch, self.chains.keys.as_slice(), &self.found)
+            .update_bytes(batch, self.chains.keys.as_slice(), &self.rows.written)
     }
 
     /// The policy of a chaincode before the block, where it has a definition.

@@ -3,18 +3,16 @@ ghost use Rattle.candidates.specs.Seen.{seen};
 ghost use Rattle.key_chains.specs.Job.{keys_in, reads_in};
 
 use crate::chains::Chains;
-use crate::reading::read_keys;
 use candidates::{Candidate, StateKey};
 use std::alloc::{AllocError, Global};
 use std::marker::Model;
 
-/// The candidates of one block, with the operations on each key that they write: what a job has that needs no state. A contract
-/// sees the candidates.
+/// The candidates of one block, with the operations on each key that they write, and the keys that they read: what a job has that
+/// needs no state. A contract sees the candidates.
 #[derive(Drop)]
 pub struct KeyWriters<'a> {
     pub(crate) candidates: Vec<Candidate<'a>>,
     pub(crate) chains: Chains<'a>,
-    pub(crate) read_keys: Vec<StateKey<'a>>,
 }
 
 impl<'a> Model for KeyWriters<'a> {
@@ -31,18 +29,16 @@ impl<'a> Model for KeyWriters<'a> {
     ghost use Rattle.candidates.specs.Seen.{seen};
     ghost use Rattle.std.specs.Prelude.{◌≡◌};
     ghost use Rattle.key_chains.specs.Built.{IsBuilt};
-    ghost use Rattle.key_chains.specs.Job.{reads_in};
 
     ghost view = { λ c. map seen c.candidates.items };
 
-    ghost invariant = { λ c. IsBuilt (map seen c.candidates.items) (length c.candidates.items) (length c.candidates.items) 0 c.chains
-        × (c.read_keys.items ≡ reads_in (map seen c.candidates.items)) };
+    ghost invariant = { λ c. IsBuilt (map seen c.candidates.items) (length c.candidates.items) (length c.candidates.items) 0 c.chains };
 }
 
 impl<'a> KeyWriters<'a> {
     /// Links the operations of these candidates: a sort of the keys that they write, and one pass over what they read and write with a
-    /// search for each key. Memory for the keys, and for an entry for each operation and read; `Err` where it is refused, or
-    /// where a count has more than 32 bits.
+    /// search for each key. Memory for the keys that are written or read, and for an entry for each operation and read; `Err` where it
+    /// is refused, or where a count has more than 32 bits.
     pub fn build(
         alloc: Global,
         candidates: Vec<Candidate<'a>>,
@@ -51,12 +47,7 @@ impl<'a> KeyWriters<'a> {
         ensures { IfOk result (λ c. c ≡ map seen candidates.entry.items) }
     {
         let chains = Chains::build(alloc, candidates.as_slice())?;
-        let read_keys = read_keys(alloc, candidates.as_slice())?;
-        Ok(KeyWriters {
-            candidates,
-            chains,
-            read_keys,
-        })
+        Ok(KeyWriters { candidates, chains })
     }
 
     /// The keys that they write, in their order.
@@ -70,7 +61,7 @@ impl<'a> KeyWriters<'a> {
     pub fn read_keys(&self) -> &[StateKey<'a>]
         ensures { result.now ≡ reads_in self.now }
     {
-        self.read_keys.as_slice()
+        self.chains.read_keys.as_slice()
     }
 
     /// Gives back the candidates.
@@ -80,7 +71,6 @@ impl<'a> KeyWriters<'a> {
         let KeyWriters {
             candidates,
             chains: _chains,
-            read_keys: _read_keys,
         } = self;
         candidates
     }

@@ -11,7 +11,6 @@ mod links;
 mod numbering;
 mod operation;
 mod plain_board;
-mod reading;
 
 pub use block_rows::BlockRows;
 pub use board::Board;

@@ -83,9 +83,9 @@ fn sets_verdict<B: Board>(
 /// known at the call, it is `Sure`.
 ///
 /// Namespaces go in order, and in each the reads before the ranges. A read costs a walk over the operations on its key
-/// before i, and a look-up of its row where they leave the version open. A range costs the same and a search for the
-/// key for each result. For each row before the block in the compared part, and each key in its bounds that the block
-/// writes, it costs a search among the results, and a walk where the key is none.
+/// before i. A range costs, for each result, a search for its key, such a walk, and a look-up of its row where that leaves
+/// the version open. For each row before the block in the compared part, and each key in its bounds that the block writes,
+/// it costs a search among the results, and a walk where the key is none.
 pub fn decide<B: Board>(job: &Job<'_, '_>, i: u32, board: &mut B) -> Decision<ReadVerdict>
     requires place { i < length job.now.candidates }
     requires board { B.count board.old ≡ length job.now.candidates }

@@ -33,7 +33,9 @@ fn read_holds<B: Board>(
         (λ v. Sure (λ called n. read_holds (state_under job.now called n) namespace.now read.now) (valid_in (B.known board.new)) i v)
         (λ h. VersionDepends job.now (namespace.now, read.now.key) i h × ((B.known board.new).flag h ≡ None)) }
 {
-    match version_of_read(job, i, namespace, read, place, board) {
+    // it is that of the key at this place, and stands here for the clauses
+    let _namespace = namespace;
+    match version_of_read(job, i, place, board) {
         Decision::Sure(version) => Decision::Sure(version == read.version),
         Decision::Blocked(h) => Decision::Blocked(h),
     }

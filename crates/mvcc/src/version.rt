@@ -12,8 +12,7 @@ ghost use Rattle.key_chains.specs.Operations as chains;
 
 use crate::walk::{Finding, noted_over, walk};
 use key_chains::{Board, Decision, Job, Operations, StateKey};
-use transaction::{Read, Version};
-use values::NameRef;
+use transaction::Version;
 
 fn version_before(job: &Job<'_, '_>, key: &StateKey<'_>) -> Option<Version>
     ensures { result ≡ version_in job.now.state key.now }
@@ -59,25 +58,21 @@ fn version_before_read(job: &Job<'_, '_>, i: u32, place: usize) -> Option<Versio
     }
 }
 
-/// The version of what candidate i reads at this place among its reads, over the operations on it before that candidate. Both these
-/// and the row before the block were found before.
+/// The version of the key that candidate i reads at this place among its reads, over the operations on it before that candidate. Both
+/// these and the row before the block were found before.
 pub(crate) fn version_of_read<B: Board>(
     job: &Job<'_, '_>,
     i: u32,
-    namespace: &NameRef<'_>,
-    read: &Read<'_>,
     place: usize,
     board: &mut B,
 ) -> Decision<Option<Version>>
-    requires place { slice_get (read_by (candidate_at job.now i)) place ≡ Some (namespace.now, read.now.key) }
+    requires place { place < length (read_by (candidate_at job.now i)) }
     requires board { i ≤ B.count board.old }
     ensures moves { B.moves board.old board.new }
-    ensures decision { MatchDecision result
-        (λ v. Sure (version_under job.now (namespace.now, read.now.key)) (valid_in (B.known board.new)) i v)
-        (λ h. VersionDepends job.now (namespace.now, read.now.key) i h × ((B.known board.new).flag h ≡ None)) }
+    ensures decision { (k : StateKey) → slice_get (read_by (candidate_at job.now i)) place ≡ Some k → MatchDecision result
+        (λ v. Sure (version_under job.now k) (valid_in (B.known board.new)) i v)
+        (λ h. VersionDepends job.now k i h × ((B.known board.new).flag h ≡ None)) }
 {
-    // these are the read at this place, and stand here for the clauses
-    let (_namespace, _read) = (namespace, read);
     let operations = job.operations_on_read(i, place);
     match walk(job.number(), i, operations, board) {
         Decision::Sure(Finding::Open(noted)) => {

@@ -16,12 +16,12 @@ add_written-requires-clause-numbers c =
 
 pub returns-in-Flagged : goal.returns-in-Flagged
 returns-in-Flagged c = record {
-  built = λ cs is b. nothing_passes cs c.args.i (length c.as_slice.result.now) (length c.as_slice-2.result.now) (flagged c.in-Flagged.field-0) c.args.self.now _ (is ∙ ap seen c.in-Flagged.is) refl refl b (ap length c.as_slice.ensures.value) (ap length c.as_slice-2.ensures.value) c.in_ok-push.ensures.items c.in_ok-push-2.ensures.items refl refl refl refl refl;
+  built = λ cs is b. nothing_passes cs c.args.i (length c.as_slice-first.result.now) (length c.as_slice.result.now) (flagged c.in-Flagged.field-0) c.args.self.now _ (is ∙ ap seen c.in-Flagged.is) refl refl b (ap length c.as_slice-first.ensures.value) (ap length c.as_slice.ensures.value) c.in_ok-push.ensures.items c.in_ok-push-2.ensures.items refl refl refl refl refl refl;
 }
 
 pub returns-in-Updates : goal.returns-in-Updates
 returns-in-Updates c = record {
-  built = λ cs is b. nothing_passes cs c.args.i (length c.as_slice.result.now) (length c.as_slice-2.result.now) (updates c.in-Updates.field-0.update c.in-Updates.field-0.signers) c.args.self.now _ (is ∙ ap seen c.in-Updates.is) refl refl b (ap length c.as_slice.ensures.value) (ap length c.as_slice-2.ensures.value) c.in_ok-push.ensures.items c.in_ok-push-2.ensures.items refl refl refl refl refl;
+  built = λ cs is b. nothing_passes cs c.args.i (length c.as_slice-first.result.now) (length c.as_slice.result.now) (updates c.in-Updates.field-0.update c.in-Updates.field-0.signers) c.args.self.now _ (is ∙ ap seen c.in-Updates.is) refl refl b (ap length c.as_slice-first.ensures.value) (ap length c.as_slice.ensures.value) c.in_ok-push.ensures.items c.in_ok-push-2.ensures.items refl refl refl refl refl refl;
 }
 
 pub returns-in_ok-add_written-in-Opened : goal.returns-in_ok-add_written-in-Opened
@@ -30,6 +30,6 @@ returns-in_ok-add_written-in-Opened c = record {
       let opens = is ∙ ap seen c.in-Opened.is in
       writes_pass cs c.args.i c.in-Opened.open_tx c.add_written.new.self (length c.as_slice-in-Opened-2.result.now) opens (ap length c.as_slice-in-Opened-2.ensures.value)
       (c.in_ok-add_written-in-Opened.ensures.built cs (subst (λ (ws : List WrittenKey). AreNext cs c.args.i ws) (sym c.as_slice-in-Opened-2.ensures.value) (all_next cs c.args.i c.in-Opened.open_tx opens))
-      (reads_pass cs c.args.i (length c.as_slice.result.now) (length c.as_slice-2.result.now) c.in-Opened.open_tx c.args.self.now _ c.as_slice-in-Opened.result.now opens b (ap length c.as_slice.ensures.value) (ap length c.as_slice-2.ensures.value)
-      c.in_ok-push.ensures.items c.in_ok-push-2.ensures.items c.as_slice-in-Opened.ensures c.in_ok-link_reads-in-Opened.ensures.lists c.in_ok-link_reads-in-Opened.ensures.links refl refl refl refl));
+      (reads_pass cs c.args.i (length c.as_slice-first.result.now) (length c.as_slice.result.now) c.in-Opened.open_tx c.args.self.now _ _ opens b (ap length c.as_slice-first.ensures.value) (ap length c.as_slice.ensures.value)
+      c.in_ok-push.ensures.items c.in_ok-push-2.ensures.items c.in_ok-add_read_keys-in-Opened.ensures c.as_slice-in-Opened.ensures.value c.in_ok-link_reads-in-Opened.ensures.lists c.in_ok-link_reads-in-Opened.ensures.links refl refl refl refl));
 }

@@ -23,4 +23,4 @@ returns-clause-built c cs p next built =
       count = c.in_ok-push-2.ensures.count;
     })
     (record { here = c.in_ok-add_policy_writer.ensures.key; others = c.in_ok-add_policy_writer.ensures.others; links = c.in_ok-add_policy_writer.ensures.links; count = c.in_ok-add_policy_writer.ensures.count })
-    c.newest-policy_writers.ensures.value c.newest-policy_writers.ensures.link c.in_ok-push.ensures.items refl refl refl refl
+    c.newest-policy_writers.ensures.value c.newest-policy_writers.ensures.link c.in_ok-push.ensures.items refl refl refl refl refl

@@ -18,7 +18,7 @@ returns c k here =
     let found = c.index.result.now in
     let same_keys = c.self.invariant.1.keys ∙ ap (λ (cs : List Candidate). keys_in_order (flat_map written_by cs)) (ap (λ (j : Job). j.candidates) c.self.view_is) in
     ap (λ (row : Option (Bor Row)). option_copied row) c.index.ensures
-    ∙ sym (get_or-map option_copied c.self.inside.found.rows.items number found)
+    ∙ sym (get_or-map option_copied c.self.inside.rows.written.rows.items number found)
     ∙ ap (λ (rows : List (Option Row)). get_or rows number (option_copied found)) c.self.invariant.0.1
     ∙ at_key (get c.self.inside.state.now.state) c.self.inside.chains.keys number (option_copied found) k (ap (λ (keys : List StateKey). slice_get keys number) same_keys ∙ here)
     ∙ ap (λ (j : Job). get j.state k) c.self.view_is
