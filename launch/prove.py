@@ -23,23 +23,18 @@ from concurrent.futures import FIRST_COMPLETED, ThreadPoolExecutor, wait
 sys.dont_write_bytecode = True
 
 import sources
+from costs import Costs
 from optimize import TARGET
 from planning import Plan
 from processes import Running, alone, end_by_signals, say
 from sources import PROGRAM, TOP, NoKit
 
-# What a job beside the first takes of a proof's memory, and what a proof takes that was never measured: seconds and MB.
-JOB_PART, UNKNOWN = 0.6, (150, 2000)
+# What a job beside the first takes of a proof's memory.
+JOB_PART = 0.6
 
 
 class NotProved(Exception):
     """A crate that isn't proved, with what the prover said."""
-
-
-def costs():
-    """What the proof of each crate took of one processor and of memory, when it was measured last: seconds and MB."""
-    lines = [line.split() for line in (TOP / "launch" / "costs.txt").read_text().splitlines()]
-    return {name: (int(seconds), int(megabytes)) for name, seconds, megabytes in lines}
 
 
 class Proofs:
@@ -56,9 +51,8 @@ class Proofs:
                 elif source.exists():
                     to.parent.mkdir(exist_ok=True)
                     shutil.copy2(source, to)
-        known = costs()
-        self.costs = {name: known.get(name, UNKNOWN) for name in self.crates}
-        self.plan = Plan({name: seconds for name, (seconds, _) in self.costs.items()}, self.below, sources.processors())
+        self.costs = Costs(TOP)
+        self.plan = Plan({name: self.costs[name].seconds for name in self.crates}, self.below, sources.processors())
 
     def sum_of(self, name):
         """A sum of all that the crate's proof reads: the kit, its own files, and the libraries below as they were built."""
@@ -133,8 +127,7 @@ class Shown:
 
     def minutes(self):
         """How long it still takes, where a tenth is done: by what is left, or by the longest chain of it."""
-        seconds = {name: self.proofs.costs[name][0] for name in self.proofs.crates}
-        left = sum(seconds[name] for name in self.left)
+        left = sum(self.proofs.costs[name].seconds for name in self.left)
         if not left or self.done < (self.done + left) / 10:
             return ""
         by_all = left * (time.monotonic() - self.began) / self.done
@@ -146,7 +139,7 @@ class Shown:
 
     def proved(self, name, took):
         self.left.discard(name)
-        self.done += self.proofs.costs[name][0]
+        self.done += self.proofs.costs[name].seconds
         self.took += took
         to_go = f"{len(self.left)} of {len(self.proofs.crates)} crates to go{self.minutes()}" if self.left else "as all below it are"
         self.show(f"fabcommit: {name} is proved, {to_go}", "\n")
@@ -182,7 +175,7 @@ def prove_all(proofs, running):
             if kept:
                 continue
             for name in plan.ready(left, ended):
-                needs = proofs.costs[name][1]
+                needs = proofs.costs[name].megabytes
                 idle = plan.processors - sum(jobs for _, _, jobs, _ in begun.values())
                 room = memory - sum(much for _, _, _, much in begun.values())
                 if idle < 1 or begun and needs > room:

@@ -21,19 +21,23 @@ def kit():
     return pathlib.Path(rt).resolve().parent.parent
 
 
+def all_crates(top=TOP):
+    """The crates of crates.txt, each with the libraries that its line names."""
+    lines = [line.split("#")[0] for line in (pathlib.Path(top) / "crates.txt").read_text().splitlines()]
+    # after its name a crate may have counts of functions that wait
+    return {line.split(":")[0].split()[0]: line.split(":")[1].split() for line in lines if ":" in line}
+
+
 def crates_below(program=PROGRAM, top=TOP):
     """The crates that a program is made of and itself, each with the libraries that its line names, lowest first."""
-    lines = [line.split("#")[0] for line in (pathlib.Path(top) / "crates.txt").read_text().splitlines()]
-    # behind its name a crate may have counts of functions that wait
-    named = {line.split(":")[0].split()[0]: line.split(":")[1].split() for line in lines if ":" in line}
-    found = {}
+    crates, found = all_crates(top), {}
 
     def visit(name):
-        if name in found or name not in named:
+        if name in found or name not in crates:
             return
-        for below in named[name]:
+        for below in crates[name]:
             visit(below)
-        found[name] = named[name]
+        found[name] = crates[name]
 
     visit(program)
     return found
