@@ -15,8 +15,8 @@ pub struct Handle {
 }
 
 impl Handle {
-    /// One that holds none.
-    fn closed(alloc: Global) -> Handle
+    /// One that holds none, as C has it of zeros.
+    pub fn closed(alloc: Global) -> Handle
         ensures { result.held.value ≡ None }
     {
         Handle {
