@@ -7,7 +7,7 @@ import subprocess
 import sys
 
 TOP = pathlib.Path(__file__).resolve().parent.parent
-MOST_WORDS, MOST_IN_README, MOST_COLUMNS = 25_000, 1_800, 120
+MOST_WORDS, MOST_IN_README, MOST_COLUMNS = 26_000, 1_800, 120
 PAGES = [TOP / "README.md", TOP / "CONTRIBUTING.md", *sorted((TOP / "docs").glob("**/*.md"))]
 # A path, by what it ends in; also one below crates/, docs/ or beside the page.
 NAMED = re.compile(r"`((?:[\w.-]+/)+[\w.-]+\.(?:rt|antt|py|md|txt|svg|edit|h)|[a-z_]+/(?:src|specs|proofs|must-fail|planted)(?:/[\w.-]+)*/?)`")

@@ -6,8 +6,8 @@ temporary folder and runs the words there, `rt ci` if none is given, by a copy o
 recorder stands. Prints what it said, and then a table. With `--sampled` the machine's own kit runs, so that `rt ci`
 keeps what passes; its processes are looked at once a second, and shorter ones are missed.
 
-`gate.py --read FILE [--by-call]` prints the table of a run that was kept, and `gate.py --read FILE --costs` what
-`launch/costs.txt` has: the seconds and MB of each crate's first proof, by which `./prove` plans.
+`gate.py --read FILE [--by-call]` prints the table of a run that was kept, and `gate.py --read FILE --costs` the lines of
+`launch/costs.txt` (`launch/costs.py`), by which `./prove` plans.
 """
 
 import argparse
@@ -28,6 +28,10 @@ sys.path.append(str(pathlib.Path(__file__).resolve().parent.parent))
 
 import scratch
 
+sys.path.append(str(scratch.TOP / "launch"))
+
+from calls import PROGRAMS, crate_of, kind_of
+
 # What stands in the prover's place: it runs the prover, and writes a line of what that took.
 RECORDER = """#!{python} -IS
 import json, os, resource, sys, time
@@ -43,7 +47,6 @@ with open({record!r}, "a") as file:
     file.write(json.dumps(line) + "\\n")
 sys.exit(status if status >= 0 else 128 - status)
 """
-PROGRAMS = ("rattle", "rattle-link", "rattle-test")
 KINDS = ["proof", "tests", "edits: first", "edits: others", "builds", "runs"]
 
 
@@ -113,42 +116,29 @@ class Samples(threading.Thread):
                 file.write(json.dumps(self.lines.pop(it)) + "\n")
 
 
-def crate_of(call):
-    """The crate that a call is about, none where it is about none, as a call that lays files out."""
-    words = call["words"]
-    if "--crate-name" in words:
-        return words[words.index("--crate-name") + 1]
-    if call["program"] == "rattle":
-        return None
-    file = words[-1] if call["program"] == "rattle-test" else words[words.index("-o") + 1]
-    # the tests of a crate `names_tests` are a program `names_tests_tests`
-    return pathlib.Path(file).name.removesuffix(".by-rattle").removesuffix("_tests")
-
-
 def kinds_of(calls):
     """Each call with its crate and kind, in the order in which they began."""
     seen = collections.Counter()
     for call in sorted(calls, key=lambda call: call["began"]):
-        words, crate = call["words"], crate_of(call)
+        crate = crate_of(call["words"], call["program"])
         if not crate:
             continue
-        if call["program"] == "rattle-test":
-            kind = "runs"
-        elif call["program"] == "rattle-link" or "--crate-checked" in words:
-            kind = "builds"
-        elif "rt-edit-" in call["folder"]:
+        kind = kind_of(call["words"], call["program"], call["folder"])
+        if kind == "edits":
             # What an edit's check finds proved of the crate is kept for the next one: so the first proves all of it.
             kind = "edits: others" if seen[crate] else "edits: first"
             seen[crate] += 1
-        else:
-            kind = "tests" if "--test" in words else "proof"
         yield crate, kind, call
 
 
 def costs(file):
-    for crate, kind, call in sorted(kinds_of(calls_in(file)), key=lambda told: told[0]):
-        if kind == "proof":
-            print(crate, round(call["processor"]), call["megabytes"])
+    took = collections.defaultdict(lambda: collections.defaultdict(list))
+    for crate, kind, call in kinds_of(calls_in(file)):
+        took[crate][kind.partition(":")[0]].append(call)
+    for crate in sorted(took):
+        seconds = lambda kind: round(sum(call["processor"] for call in took[crate][kind]))
+        most = max((call["megabytes"] for call in took[crate]["proof"]), default=0)
+        print(crate, seconds("proof"), most, *([seconds("tests"), seconds("edits")] if took[crate]["tests"] or took[crate]["edits"] else []))
 
 
 def calls_in(file):

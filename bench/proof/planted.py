@@ -1,25 +1,34 @@
 #!/usr/bin/env python3
-"""Tries the wrong bodies that the merge gate leaves out, `crates/CRATE/planted/NAME.edit`: the prover must refuse each.
+"""Wrong bodies that the merge gate doesn't try at each run, `crates/CRATE/planted/NAME.edit`: the prover must refuse each.
 
-planted.py [CRATE ..]: of these crates, or of all that have some. It clones the repository's commit into a temporary folder, puts
-the edits where `rt ci` tries them, and runs that; the last line is `rt ci`'s. What the gate proved before isn't proved again, but
-each of these crates once, for its edits.
+planted.py [CRATE ..]: tries those of these crates, or all, in a copy in which they are where `rt ci` looks for them. What was proved
+before isn't proved again, but each of these crates once. If all of a crate were refused, `bench/proof/planted.sums` gets a sum of it.
+The last line counts.
 
-planted.py --check: whether each edit, these and those of `must-fail/`, changes its files as it says, without a proof. The gate runs
-this, since `rt ci` passes over an edit that it can't apply.
+planted.py --stale: names the crates whose sum in that file isn't that of their files. The gate tries their wrong bodies.
+
+planted.py --check: whether each edit, these and those of `must-fail/`, changes its files as it says, without a proof. `rt ci` passes
+over an edit that it can't apply.
 """
 
 import argparse
+import collections
+import hashlib
 import pathlib
+import re
+import shutil
 import subprocess
 import sys
 import tempfile
 
 TOP = pathlib.Path(__file__).resolve().parent.parent.parent
+SUMS = pathlib.Path("bench/proof/planted.sums")
+# A line that is a comment and nothing else: no proof reads it.
+COMMENT = re.compile(r"\s*(//|--)")
 
 
 def fault_of(edit):
-    """Why an edit can't be applied, or nothing. It has lines `file: PATH`, behind each pairs of lines `old: TEXT` and `new: TEXT`."""
+    """Why an edit can't be applied, or nothing. It has lines `file: PATH`, after each pairs of lines `old: TEXT` and `new: TEXT`."""
     texts, path, old, pairs = {}, None, None, 0
     for line in edit.read_text().splitlines():
         word, _, rest = line.partition(":")
@@ -37,14 +46,21 @@ def fault_of(edit):
                 return f"'{old}' stays as it is"
             text = texts[path] if path in texts else path.read_text()
             if text.count(old) != 1:
-                return f"'{old}' stands {text.count(old)} times in {path.name}"
+                return f"'{old}' is {text.count(old)} times in {path.name}"
             texts[path], old, pairs = text.replace(old, rest), None, pairs + 1
     return None if pairs else "it has no pair of an old and a new text"
 
 
+def twin_of(edit):
+    """That a planted edit has the name of another of its crate, if so: the gate puts both in one folder."""
+    if edit.parent.name == "planted" and (edit.parent.parent / "must-fail" / edit.name).exists():
+        return "must-fail/ has one of this name"
+    return None
+
+
 def check():
     edits = sorted(TOP.glob("crates/*/planted/*.edit")) + sorted(TOP.glob("crates/*/must-fail/*.edit"))
-    faults = [(edit, fault_of(edit)) for edit in edits]
+    faults = [(edit, fault_of(edit) or twin_of(edit)) for edit in edits]
     for edit, fault in faults:
         if fault:
             print(f"{edit.relative_to(TOP)}: {fault}")
@@ -53,28 +69,89 @@ def check():
     return 1 if bad else 0
 
 
+def planted(top=TOP):
+    """The planted edits of each crate that has some."""
+    found = {}
+    for edit in sorted(top.glob("crates/*/planted/*.edit")):
+        found.setdefault(edit.parent.parent.name, []).append(edit)
+    return found
+
+
+def sum_of(crate, top=TOP):
+    """A sum of what says that a crate's planted edits are refused: the kit, its own files without comments, and these edits."""
+    parts = [(top / "KIT").read_text()]
+    for part in ("src", "specs", "proofs", "planted"):
+        for file in sorted(it for it in (top / "crates" / crate / part).rglob("*") if it.is_file()):
+            lines = [line for line in file.read_text().splitlines() if line.strip() and not COMMENT.match(line)]
+            parts.append((str(file.relative_to(top)), lines))
+    return hashlib.sha256(repr(parts).encode()).hexdigest()
+
+
+def known_sums(top=TOP):
+    try:
+        return dict(line.split() for line in (top / SUMS).read_text().splitlines())
+    except OSError:
+        return {}
+
+
+def stale(top=TOP):
+    """The crates whose planted edits weren't tried since their files changed."""
+    known = known_sums(top)
+    return [crate for crate in planted(top) if known.get(crate) != sum_of(crate, top)]
+
+
+def write_sums(tried, top=TOP):
+    """Keeps these sums, and drops those of crates that have no planted edit any more."""
+    sums = {**known_sums(top), **tried}
+    (top / SUMS).write_text("".join(f"{crate} {sums[crate]}\n" for crate in sorted(planted(top)) if crate in sums))
+
+
+def refused(said):
+    """How many edits of each crate were refused, by what `rt ci` said."""
+    return collections.Counter(re.findall(r"^rt: must-fail (\w+)/[\w.-]+\.edit: refused, as it must be", said, re.M))
+
+
 def try_them(names):
+    crates = {name: edits for name, edits in planted().items() if not names or name in names}
+    lacking = set(names) - set(crates)
+    if lacking:
+        sys.exit(f"no planted edits: {' '.join(sorted(lacking))}")
+    sums = {crate: sum_of(crate) for crate in crates}
     with tempfile.TemporaryDirectory(prefix="planted-") as room:
-        clone = pathlib.Path(room) / "mittcoomb"
-        subprocess.run(["git", "clone", "-q", TOP, clone], check=True)
-        crates = [folder.parent for folder in sorted(clone.glob("crates/*/planted")) if not names or folder.parent.name in names]
-        lacking = set(names) - {crate.name for crate in crates}
-        if lacking or not crates:
-            sys.exit(f"no planted edits: {' '.join(sorted(lacking))}")
+        copy = pathlib.Path(room) / "copy"
+        shutil.copytree(TOP / "crates", copy / "crates", ignore=shutil.ignore_patterns("out", "must-fail"))
+        for file in ("crates.txt", "HANDLES"):
+            shutil.copy(TOP / file, copy)
         for crate in crates:
-            to = crate / "must-fail"
-            to.mkdir(exist_ok=True)
-            for edit in (crate / "planted").iterdir():
-                edit.rename(to / edit.name)
-        return subprocess.run(["rt", "ci", *(crate.name for crate in crates)], cwd=clone).returncode
+            (copy / "crates" / crate / "planted").rename(copy / "crates" / crate / "must-fail")
+        said = ""
+        with subprocess.Popen(["rt", "ci", *crates], cwd=copy, stdout=subprocess.PIPE, stderr=subprocess.STDOUT, text=True) as running:
+            for line in running.stdout:
+                said += line
+                print(line.replace(f"{copy}/", ""), end="", flush=True)
+    found = refused(said)
+    bad = [crate for crate in crates if found[crate] < len(crates[crate])]
+    write_sums({crate: sums[crate] for crate in crates if crate not in bad})
+    if bad:
+        print(f"not all are refused, or could be tried: {' '.join(bad)}")
+    all_edits = sum(map(len, crates.values()))
+    well = sum(found[crate] for crate in crates)
+    print(f"{well} passed, {all_edits - well} failed")
+    return 1 if bad else 0
 
 
 def main():
     words = argparse.ArgumentParser(description=__doc__, formatter_class=argparse.RawDescriptionHelpFormatter)
     words.add_argument("--check", action="store_true")
+    words.add_argument("--stale", action="store_true")
     words.add_argument("crates", nargs="*")
     given = words.parse_args()
-    return check() if given.check else try_them(given.crates)
+    if given.check:
+        return check()
+    if given.stale:
+        print(*stale())
+        return 0
+    return try_them(given.crates)
 
 
 if __name__ == "__main__":
