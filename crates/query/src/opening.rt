@@ -55,14 +55,8 @@ fn writer_over(
     ensures shown { IfOk result (λ w. w.desk.shown.value ≡ record { world = first; front = front.now }) }
     ensures none { IfOk result (λ w. drop w.behind w.log.items ≡ []) }
 {
-    let first = Shown {
-        world: first,
-        front: front.again(),
-    };
-    let second = Shown {
-        world: second,
-        front: front.again(),
-    };
+    let first = Shown::of(first, front);
+    let second = Shown::of(second, front);
     ShownWriter::new(alloc, first, second, places)
 }
 

@@ -44,6 +44,16 @@ pub(crate) struct Told {
 }
 
 impl Shown {
+    /// A world, with the list of deltas that made it.
+    pub(crate) fn of(world: World, front: &Front) -> Shown
+        ensures { result ≡ record { world = world; front = front.now } }
+    {
+        Shown {
+            world,
+            front: front.again(),
+        }
+    }
+
     fn absorb_lent(&mut self, entry: &Entry) -> Result<(), AllocError>
         ensures ok { OnOk result (self.new ≡ absorbed self.old (Block entry.now)) }
         ensures err { OnErr result (self.new ≡ self.old) }
