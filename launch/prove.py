@@ -1,5 +1,5 @@
 #!/usr/bin/env python3
-"""Proves all that the program is made of, builds it as crates/fabcommit/out/fabcommit, and tries it on its sample.
+"""Proves all that the program is made of, builds it as crates/fabcommit/out/PROCESSOR/fabcommit, and tries it on its sample.
 
 `./prove` calls this. It proves as many crates side by side as there are processors and memory, first those that the longest chain
 waits for, with as many processors each as make all of them end first (planning.py). What is proved is kept, so that a call that was
@@ -22,6 +22,7 @@ from concurrent.futures import FIRST_COMPLETED, ThreadPoolExecutor, wait
 
 sys.dont_write_bytecode = True
 
+import processor
 import sources
 from costs import Costs
 from optimize import TARGET
@@ -42,6 +43,7 @@ class Proofs:
 
     def __init__(self, work, kept):
         self.work, self.kept, self.kit, self.crates = work, kept, sources.kit(), sources.crates_below()
+        self.processor = processor.at_hand()
         self.below = {name: [it for it in self.crates[name] if it in self.crates] for name in self.crates}
         for name in self.crates:
             for part in ("src", "specs", "proofs", "args", "stdout", "status", "data"):
@@ -57,6 +59,7 @@ class Proofs:
     def sum_of(self, name):
         """A sum of all that the crate's proof reads: the kit, its own files, and the libraries below as they were built."""
         parts = [self.crates[name], (self.kit / "KIT-ID").read_bytes(), (self.kit / "WHAT").read_bytes()]
+        parts += [self.processor] if name == PROGRAM else []
         for part in ("src", "specs", "proofs"):
             files = sorted(it for it in (self.work / name / part).rglob("*") if it.is_file())
             parts += [(str(file.relative_to(self.work)), file.read_bytes()) for file in files]
@@ -82,6 +85,8 @@ class Proofs:
         words += ["--antt-project", self.kit / "rattle" / "logic" / "antt-project.json", "--logic-built", self.kit / "logic_built"]
         words += ["--links", f"{name}=", "--jobs", jobs]
         if name == PROGRAM:
+            # only the program's own crate is compiled
+            words += ["--cpu", self.processor] if self.processor != processor.EVERYWHERE else []
             return [*words, "--toolchain", self.kit / "toolchain", "--backend", "llvm", "-o", self.object()]
         return [*words, "--statements", "-o", self.kept / name / f"{name}.rlib"]
 
@@ -225,10 +230,11 @@ def main():
             prove_all(proofs, running)
             program = link(proofs, running)
             try_program(proofs, program, running)
-            built = crate / "out" / f"{PROGRAM}.new"
+            built = crate / "out" / proofs.processor / f"{PROGRAM}.new"
+            built.parent.mkdir(exist_ok=True)
             shutil.copy2(program, built)
             os.utime(built, ns=(began.st_atime_ns, began.st_mtime_ns))
-            os.replace(built, crate / "out" / PROGRAM)
+            os.replace(built, built.with_name(PROGRAM))
         say("the program is proved, built and tried: ./fabcommit runs it")
         return 0
     except NotProved as error:
