@@ -1,0 +1,11 @@
+mod OneFlag
+mod OnePlace
+mod AllPlaces
+mod Steps
+mod ValidItems
+mod Unchanged
+mod rows
+mod Ledgers
+mod Seen
+mod Tellings
+mod Determined

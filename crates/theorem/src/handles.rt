@@ -1,0 +1,26 @@
+ghost use Rattle.std.specs.Prelude.{◌≡◌, ◌≤◌, ℕ, List, Some, Ok};
+ghost use Rattle.policy_eval.specs.Accepts.{Accepts};
+ghost use Rattle.rules.specs.declared.delta.Delta.{Delta};
+ghost use Rattle.rules.specs.World.{empty_world};
+ghost use Rattle.query.specs.declared.receipt.Receipt.{Receipt};
+ghost use Rattle.query.specs.Published.{Watch, GoesOn, Learns, watched_world};
+ghost use Rattle.commit.specs.Committing as committing;
+ghost use Rattle.commit.specs.Committing.{Committing};
+ghost use Rattle.theorem.specs.Promise.{ledger_at, LearnsOf};
+ghost use Rattle.theorem.specs.ShownBy.{LearnsLater, shown_by, known_by};
+
+/// Proved: after a query a handle knows of no lower height than before, and after it has learned a receipt also of none
+/// lower than the receipt's.
+pub fn handles_know_more_and_more()
+    ensures query { (old new : Watch) → GoesOn old new → known_by old ≤ known_by new }
+    ensures learn { (accepts : Accepts) (before after : Committing) (bytes : List ℕ) (r : Receipt) (old new : Watch)
+        → committing.Submits accepts before bytes (Ok r) after → old.base ≡ empty_world after.channel.definitions → Learns old r.front.list new
+        → LearnsOf (known_by old) r.height (known_by new) }
+{}
+
+/// Proved: if a handle that a committer opened learns, now or later, what the committer has published, then the ledger
+/// that it answers from is the one that the committer has shown at that height.
+pub fn handles_see_what_was_shown()
+    ensures shown { (c : Committing) (h : Watch) → LearnsLater c h → ledger_at (shown_by c) (known_by h) ≡ Some (watched_world h) }
+    ensures learns { (old mid new : Watch) (told : List Delta) → GoesOn old mid → Learns mid told new → Learns old told new }
+{}
