@@ -1,4 +1,4 @@
--- All places of a block: after each, what its items have led to is what the definitions of `rules` say up to there.
+-- All places of a block: after each, what its items have led to is what the definitions of `rules` are up to there.
 use Rattle.std.proofs.Common.{◌≡◌, ℕ, suc, ◌+◌, ◌==◌, get_or, List, [], ◌∷◌, ◌++◌, length, map, Option, Some, None, refl, sym, ap, subst, ◌∙◌, append_assoc, append-nil, arith}
 use Rattle.std.specs.Prelude.{◌≤◌, if◌then◌else◌, option_to_list, slice_get}
 use Rattle.std.specs.List.{range_with_len}
@@ -63,12 +63,12 @@ module _ (channel : Configuration) (accepts : Accepts) (w : World) (items : List
   abbrev s : Setting
   s = setting_of channel accepts w items
 
-  -- the candidates of the places from here on, where these uses come before
+  -- the candidates of the places from here on, after these uses
   abbrev candidates_after : List (List ℕ × FirstUse) → List (Option Item) → List Candidate
   candidates_after us rest = candidates_from (channel_in channel w) accepts (length items == 1) w.first_uses (map (λ u. u.0) us) rest
 
   -- Before a place, front has the candidates and us the uses of the places before it, and rest the items from it on.
-  -- What runs along is what each definition says up to the place.
+  -- What the items before have led to is what each definition is up to the place.
   record Stands (front : List Candidate) (us : List (List ℕ × FirstUse)) (place : ℕ) (r : SoFar) (rest : List (Option Item)) : Type 0 where
     candidates : j.candidates ≡ front ++ candidates_after us rest
     count : length front ≡ place
@@ -96,7 +96,7 @@ module _ (channel : Configuration) (accepts : Accepts) (w : World) (items : List
     first_uses = sym (with_uses-none w.first_uses);
   }
 
-  -- the candidate of a place, where this is its item
+  -- the candidate of a place with this item
   abbrev own : List (List ℕ × FirstUse) → Option Item → Candidate
   own us i = candidate_of (channel_in channel w) accepts (length items == 1) (is_used w.first_uses (map (λ u. u.0) us) (used_id channel accepts i)) i
 
@@ -149,7 +149,7 @@ module _ (channel : Configuration) (accepts : Accepts) (w : World) (items : List
       (sym (candidate_same (channel_in channel w) accepts (length items == 1) w.first_uses (map (λ u. u.0) us) (contains_key r.first_uses (origin_of i).id) i used))
       (some_next s place r i)
 
-  -- ---- behind the last place
+  -- ---- after the last place
 
   pub record IsSerial (r : SoFar) : Type 0 where
     pub flags : flags j ≡ r.flags
@@ -178,6 +178,6 @@ module _ (channel : Configuration) (accepts : Accepts) (w : World) (items : List
       all_stand (front ++ own us i ∷ []) (us ++ new_uses place i) (suc place) (taken s place r i) rest
       (next_stands front us place r (taken s place r i) i rest h (taken_next front us place r i rest h))
 
-  -- the law
+  -- all places
   pub all_serial : IsSerial (after_items channel accepts w items)
   all_serial = all_stand [] [] 0 (at_first w) items first_stands

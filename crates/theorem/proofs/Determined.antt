@@ -1,5 +1,5 @@
 -- What a committer's answers determine, and what they leave.
-use Rattle.std.proofs.Common.{◌≡◌, ◌≢◌, ℕ, zero, suc, Bool, true, false, List, [], ◌∷◌, ◌++◌, Option, Some, None, Result, Ok, Err, refl, sym, ap, subst, ◌∙◌}
+use Rattle.std.proofs.Common.{◌≡◌, ◌≢◌, ℕ, zero, suc, true, false, List, [], ◌∷◌, ◌++◌, Some, Result, Ok, Err, refl, sym, ap, subst, ◌∙◌}
 use Rattle.std.specs.Prelude.{slice_get}
 use Rattle.std.specs.List.{AllByRecursion}
 use Rattle.std.proofs.lemmas.Bool.{false≢true}
@@ -12,7 +12,7 @@ use Rattle.rules.specs.World.{World}
 use Rattle.commit.specs.declared.not_committed.NotCommitted.{NotCommitted}
 use Rattle.commit.specs.declared.not_committed.NotCommitted.TheVariants.{Refused, MemoryInCommit, Stopped}
 use Rattle.theorem.specs.Step.{Takes}
-use Rattle.theorem.specs.Promise.{Shown, first_ledger, ledger_at, newest, Leads, Submits, Runs, HadMemory}
+use Rattle.theorem.specs.Promise.{Shown, first_ledger, ledger_at, newest, Submits, Runs, HadMemory}
 
 -- ---- one answer
 

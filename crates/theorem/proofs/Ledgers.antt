@@ -2,7 +2,6 @@
 use Rattle.std.proofs.Common.{◌≡◌, ℕ, ◌+◌, List, [], ◌∷◌, ◌++◌, length, map, Some, Result, Ok, Err, refl, sym, ap, subst, ◌∙◌, arith, length-append}
 use Rattle.std.specs.Prelude.{slice_get}
 use Rattle.policy_eval.specs.Accepts.{Accepts}
-use Rattle.rules.specs.declared.answer.Accepted.{Accepted}
 use Rattle.rules.specs.declared.delta.Delta.{Delta}
 use Rattle.rules.specs.Delta.{applied}
 use Rattle.rules.specs.Linked.{IsLinked, IsRefused}
@@ -14,7 +13,7 @@ use Rattle.commit.specs.declared.not_committed.NotCommitted.TheVariants.{Refused
 use Rattle.commit.specs.Committing as committing
 use Rattle.commit.specs.Committing.{Committing, world_of, accepted_in}
 use Rattle.theorem.specs.Step.{answer_to, ledger_after, Takes}
-use Rattle.theorem.specs.Promise.{last_of, newest, Leads, Submits, Runs}
+use Rattle.theorem.specs.Promise.{last_of, newest, Submits, Runs}
 use Rattle.theorem.specs.ShownBy.{ledgers_of, shown_by, answered}
 use Rattle.theorem.proofs.Steps.{step_there}
 

@@ -1,4 +1,4 @@
--- One place: what its item makes of each part is what its candidate makes of it.
+-- One place: its item changes each part as its candidate does.
 use Rattle.std.proofs.Common.{◌≡◌, ℕ, Bool, true, false, List, [], ◌∷◌, ◌++◌, map, Option, Some, None, refl, sym, subst, ◌∙◌}
 use Rattle.std.specs.Prelude.{if◌then◌else◌, is_none, option_map, option_to_list}
 use Rattle.transaction.specs.declared.item.Item.{Item}
@@ -23,14 +23,14 @@ use Rattle.rules.proofs.IdUses.{with_uses-none, with_uses-one}
 use Rattle.theorem.specs.Serial.{Setting, SoFar, with_policy, applied, with_use, policy_keys_of, all_pass, origin_tests, tests_before_reads, taken}
 use Rattle.theorem.proofs.OneFlag.{channel_of, endorsed, here, own, never_valid, flag_same, endorsed_same, origin_same}
 
--- the last one of a list, or else this one
+-- the last one of a list, or this one if it is empty
 abbrev pub last_or : {A : Type 0} → Option A → List A → Option A
 last_or o [] = o
 last_or o (x ∷ xs) = last_or (Some x) xs
 
--- ---- what a candidate makes
+-- ---- what a candidate changes
 
--- where its item is valid or not, and it is endorsed or not
+-- if its item is valid or not, and endorsed or not
 record Makes (now : SoFar) (v : Version) (i : Item) (valid endorsed : Bool) (c : Candidate) : Type 0 where
   state : (if valid then applied v i now else now).state ≡ (if valid then state_by v c now.state else now.state)
   history : (if valid then applied v i now else now).history ≡ with_entries now.history (if valid then entries_by v c else [])
@@ -140,7 +140,7 @@ module _ (s : Setting) (place : ℕ) (now : SoFar) where
   uses_next i flag true = sym (with_uses-one now.first_uses ((origin_of i).id, use_of s place flag))
   uses_next i flag false = sym (with_uses-none now.first_uses)
 
-  -- an item with whatever flag
+  -- an item with any flag
   abbrev taken_as : Item → Flag → SoFar
   taken_as i flag =
       let after = if is_valid flag then applied v i now else now in

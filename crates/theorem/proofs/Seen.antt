@@ -10,7 +10,7 @@ use Rattle.query.specs.declared.receipt.Receipt.{Receipt}
 use Rattle.query.specs.Published.{Watch, GoesOn, Learns, applied_all, watched_world}
 use Rattle.commit.specs.Committing as committing
 use Rattle.commit.specs.Committing.{Committing}
-use Rattle.theorem.specs.Promise.{ledger_at, Queries, LearnsOf}
+use Rattle.theorem.specs.Promise.{ledger_at, Queries, CatchesUp}
 use Rattle.theorem.specs.ShownBy.{ledgers_of, shown_by, known_by, LearnsLater}
 use Rattle.theorem.proofs.Ledgers.{ledger_there, height_after, height_shown, receipt_height, receipt_list}
 
@@ -37,7 +37,7 @@ query_knows old new g = knows_more old new g.same_base (longer old.list new.list
 
 pub receipt_learned : (accepts : Accepts) (before after : Committing) (bytes : List ℕ) (r : Receipt) (old new : Watch)
     → committing.Submits accepts before bytes (Ok r) after → old.base ≡ empty_world after.channel.definitions → Learns old r.front.list new
-    → LearnsOf (known_by old) r.height (known_by new)
+    → CatchesUp (known_by old) r.height (known_by new)
 receipt_learned accepts before after bytes r old new h base l =
     let none : height_of new.base ≡ 0 = ap height_of (l.same_base ∙ base) in
     let told : length r.front.list ≤ length new.list = longer r.front.list new.list l.knows_told in
@@ -65,7 +65,7 @@ known_was_shown c h known =
     ∙ ap (λ (ds : List Delta). slice_get (w ∷ ledgers_of w ds) (length h.list)) (sym first.1) ∙ ledger_there w h.list first.0
     ∙ ap (λ (v : World). Some (applied_all v h.list)) (sym known.base)
 
--- whatever the question
+-- for any question
 pub answer_of_shown : {A : Type 0} (question : World → A) (c : Committing) (old new : Watch) (r : Reply A)
     → GoesOn old new → LearnsLater c new → r ≡ reply (watched_world new) (question (watched_world new)) → Queries (shown_by c) (known_by old) question r (known_by new)
 answer_of_shown {A} question c old new r g known answer =

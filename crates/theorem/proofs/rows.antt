@@ -5,3 +5,4 @@ mod Blocks
 mod Order
 mod Updates
 mod Sample
+mod Promises

@@ -12,16 +12,18 @@
 --  8. Any answer may be out of memory instead. Then nothing has changed, unless this came while the next ledger was
 --     being shown: that stops the committer, and what it has shown stays.
 --  9. Each answer to a query is that of one ledger that was shown, of no lower height than its handle knew of.
--- 10. Not covered: orderers' signatures, durability, certificates. Our own, where Fabric differs: the channel is tested
---     before the signature; an id that repeats within a block before the endorsement; and an id stays unused if the
---     channel, the signature or the id itself is wrong.
+-- 10. Not covered: orderers' signatures, durability, certificates. Some rules are ours, and Fabric's differ: the
+--     channel is tested before the signature, ids that repeat within a block before the endorsement, and an id stays
+--     unused if the channel, the signature or the id itself is wrong.
 --
--- `Serial` has 3 to 7, `Step` 1 and 2, `Promise` and `Telling` 8 and 9. The premises:
+-- `Serial` has 3 to 7, `Step` 1 and 2, `Promise` and `Telling` 8 and 9. `ShownBy` ties them to other crates' contracts.
+--
+-- The premises:
 --
 -- V: the verifier's answer is a function of identity, message and signature.
 -- M: memory sufficed while an accepted block was being shown. Otherwise the committer has stopped, and answers Stopped.
 -- R: a committer's `open`, `submit`, `run`, `close` and `leak` keep their promises if they return.
--- H: a handle learns receipts of its own committer only.
+-- H: a handle is passed receipts of its own committer only.
 pub mod Serial
 pub mod InTurn
 pub mod Step

@@ -43,7 +43,7 @@ Leads accepts s bytes answer next = Takes s.channel accepts (newest s) bytes (Ok
 
 -- After bytes that are accepted, the committer has shown one ledger more. After a refusal, which out of memory may be
 -- at any time, nothing has changed. If memory ran out while the next ledger was being shown, the committer has stopped:
--- it has shown what it had, its readers go on with that, and all that is submitted later is answered Stopped.
+-- it shows no further ledger and returns Stopped from then on, and its readers go on with what it has shown.
 abbrev pub Submits : Accepts → Shown → List ℕ → Result Accepted NotCommitted → Shown → Type 0
 Submits accepts old bytes (Ok answer) new =
     (old.stopped ≡ false) × ((next : World) × Leads accepts old bytes answer next × (new ≡ record old { ledgers = old.ledgers ++ next ∷ [] }))
@@ -71,7 +71,7 @@ pub record Queries {A : Type 0} (s : Shown) (known : ℕ) (question : World → 
   pub no_earlier : known ≤ r.height
   pub knows : known' ≡ r.height
 
--- A handle that learns of a height, as by a receipt, knows of that height or a greater one, and of none below what it
+-- A handle that catches up to a height, as that of a receipt, knows of this or a greater one, and of none below what it
 -- knew.
-abbrev pub LearnsOf : ℕ → ℕ → ℕ → Type 0
-LearnsOf known height known' = (known ≤ known') × (height ≤ known')
+abbrev pub CatchesUp : ℕ → ℕ → ℕ → Type 0
+CatchesUp known height known' = (known ≤ known') × (height ≤ known')

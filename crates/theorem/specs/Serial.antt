@@ -89,14 +89,14 @@ origin_tests s i =
     ∷ (bytes_eq o.id (tx_id_of o.nonce (identity_bytes o.creator)), BadProposalTxId)
     ∷ []
 
--- An update may be asked for if it is the only item of its block, the channel has an admin policy, the chaincode has a
+-- An update is allowed if it is the only item of its block, the channel has an admin policy, the chaincode has a
 -- policy, and the new text is a policy (ours).
 abbrev pub may_update : Setting → Update → Bool
 may_update s u = s.alone && is_some s.admin && is_defined s.policies_before u.namespace && is_some (policy_of u.policy)
 
 -- Content, 9 and then 22, 25 or, of an update, 6: its id is new. The read and write sets of a transaction are
--- well-formed, in that no key repeats ('Read-Write set semantics'), and the chaincodes that it names and writes have
--- policies.
+-- well-formed: no key repeats in them ('Read-Write set semantics'), ranges are in order, and written policies are
+-- policies. The chaincodes that it names and writes have policies.
 abbrev pub content_tests : Setting → SoFar → Item → Tests
 content_tests s now (item.Tx tx) =
     (not (contains_key now.first_uses tx.id), DuplicateTxId)
@@ -124,10 +124,11 @@ read_tests now (item.Tx tx) =
     (is_valid flag, flag) ∷ []
 read_tests now (item.Update u) = []
 
--- all but the reads
+-- those before the reads
 abbrev pub tests_before_reads : Setting → SoFar → Item → Tests
 tests_before_reads s now i = origin_tests s i ++ content_tests s now i ++ endorsement_tests s now i
 
+-- all tests, in order
 abbrev pub tests : Setting → SoFar → Item → Tests
 tests s now i = tests_before_reads s now i ++ read_tests now i
 
@@ -155,7 +156,7 @@ policy_keys_of (item.Update u) = []
 -- ---- one item
 
 -- If the bytes encode no item, the flag is 2, and nothing else changes. An item gets its flag, and is applied if it is
--- valid. Its id is used from now on if it passes the tests of its origin, whatever its flag is.
+-- valid. Its id counts as used from now on if it passes the tests of its origin, also if it is invalid (ours).
 abbrev pub taken : Setting → ℕ → SoFar → Option Item → SoFar
 taken s place now None = record now { flags = now.flags ++ BadPayload ∷ [] }
 taken s place now (Some i) =

@@ -1,4 +1,5 @@
--- The ledgers that a committer has shown, by the change sets (deltas) that it has published. Only the laws need this.
+-- The ledgers that a committer has shown, by the change sets (deltas) that it has published. Only the proved statements
+-- in src/ need this.
 use Rattle.std.specs.Prelude.{◌≡◌, ◌≤◌, ℕ, List, [], ◌∷◌, Result, Ok, Err}
 use Rattle.rules.specs.declared.delta.Delta.{Delta}
 use Rattle.rules.specs.World.{World, empty_world, height_of}
@@ -18,7 +19,7 @@ ledgers_of w (d ∷ ds) = delta.applied w d ∷ ledgers_of (delta.applied w d) d
 abbrev pub shown_by : Committing → Shown
 shown_by c = record { channel = c.channel; ledgers = ledgers_of (empty_world c.channel.definitions) c.list; stopped = c.stopped }
 
--- what a receipt answers
+-- the answer that a receipt has
 abbrev pub answered : Result Receipt NotCommitted → Result Accepted NotCommitted
 answered (Ok r) = Ok (accepted_in r)
 answered (Err e) = Err e
@@ -28,8 +29,8 @@ abbrev pub known_by : Watch → ℕ
 known_by h = height_of (watched_world h)
 
 -- A handle that the committer opened learns, now or later, what the committer has published, and knows of no greater
--- height. The laws speak of such handles only: by the contracts of queries, a handle that never learns anything answers
--- from some chain of blocks, and that this is the published one stands in no public contract.
+-- height. They speak of such handles only: by the contracts of queries, a handle that never learns anything answers
+-- from some chain of blocks, and no public contract states that this is the published one.
 pub record LearnsLater (c : Committing) (h : Watch) : Type 0 where
   pub base : h.base ≡ empty_world c.channel.definitions
   pub later : Watch

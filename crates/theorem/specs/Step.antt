@@ -1,4 +1,4 @@
--- What a ledger makes of one byte string, and what it answers.
+-- One byte string: what a ledger returns for it, and the ledger after it.
 use Rattle.std.specs.Prelude.{◌≡◌, ℕ, List, [], ◌∷◌, ◌++◌, Result, Ok, Err}
 use Rattle.block.specs.declared.block.Block.{Block}
 use Rattle.block.specs.Grammar.{Spells}
@@ -23,7 +23,7 @@ commit_in w b end = record { version = b.version; number = height_of w; flags = 
 abbrev pub commit_hash_in : World → Block → SoFar → List ℕ
 commit_hash_in w b end = commit_hash_of (commit_hash_before (last_commit_hash w)) (commit_bytes (commit_in w b end))
 
--- what is answered to a linked block
+-- what is returned for a linked block
 abbrev pub answer_to : Configuration → Accepts → World → Block → Accepted
 answer_to channel accepts w b =
     let end = after_block channel accepts w b in

@@ -1,5 +1,4 @@
-ghost use Rattle.std.specs.Prelude.{◌≡◌, ◌≢◌, ◌<◌, ◌≤◌, ◌↔◌, ◌++◌, ◌∷◌, ℕ, Bool, true, false, List, [], length, Option, Some, None, Result, Ok, Err, slice_index};
-ghost use Rattle.std.specs.List.{AllByRecursion};
+ghost use Rattle.std.specs.Prelude.{◌≡◌, ◌≢◌, ◌<◌, ◌↔◌, ◌++◌, ◌∷◌, ℕ, true, false, List, [], length, Option, Some, None, Result, Err, slice_index};
 ghost use Rattle.std.specs.FinMap.{contains_key, insert};
 ghost use Rattle.policy.specs.Meaning.{policy_of};
 ghost use Rattle.policy.specs.Tree.{Tree};
@@ -17,7 +16,7 @@ ghost use Rattle.rules.specs.Candidate.{origin_of};
 ghost use Rattle.rules.specs.Effect.{written_keys};
 ghost use Rattle.rules.specs.State.{StateKey, is_among};
 ghost use Rattle.rules.specs.World.{World};
-ghost use Rattle.theorem.specs.Serial.{Setting, SoFar, first_failed, all_pass, origin_tests, tests_before_reads, tests, taken, all_taken, after_items};
+ghost use Rattle.theorem.specs.Serial.{Setting, SoFar, first_failed, all_pass, origin_tests, tests_before_reads, tests, taken, after_items};
 ghost use Rattle.theorem.specs.Step.{Takes};
 
 /// Proved: an item is valid exactly if it passes all tests. Its id is new then. A valid transaction writes no key whose
@@ -43,8 +42,8 @@ pub fn invalid_items_change_nothing()
     ensures bytes { (s : Setting) (place : ℕ) (now : SoFar) → taken s place now None ≡ record now { flags = now.flags ++ BadPayload ∷ [] } }
 {}
 
-/// Proved: after a block whose only item is a valid update, its chaincode has the update's policy, and all others have theirs.
-/// After any other block each chaincode has the policy that it had.
+/// Proved: after a block whose only item is a valid update, its chaincode has the update's policy, and all others have
+/// theirs. After any other block each chaincode has the policy that it had.
 pub fn policies_after_a_block()
     ensures update { (channel : Configuration) (accepts : Accepts) (w : World) (u : Update) (policy : Tree)
         → policy_of u.policy ≡ Some policy → (after_items channel accepts w (Some (item.Update u) ∷ [])).flags ≡ Valid ∷ []

@@ -6,16 +6,16 @@ ghost use Rattle.query.specs.declared.receipt.Receipt.{Receipt};
 ghost use Rattle.query.specs.Published.{Watch, GoesOn, Learns, watched_world};
 ghost use Rattle.commit.specs.Committing as committing;
 ghost use Rattle.commit.specs.Committing.{Committing};
-ghost use Rattle.theorem.specs.Promise.{ledger_at, LearnsOf};
+ghost use Rattle.theorem.specs.Promise.{ledger_at, CatchesUp};
 ghost use Rattle.theorem.specs.ShownBy.{LearnsLater, shown_by, known_by};
 
-/// Proved: after a query a handle knows of no lower height than before, and after it has learned a receipt also of none
+/// Proved: after a query a handle knows of no lower height than before, and after it was passed a receipt also of none
 /// lower than the receipt's.
 pub fn handles_know_more_and_more()
     ensures query { (old new : Watch) → GoesOn old new → known_by old ≤ known_by new }
     ensures learn { (accepts : Accepts) (before after : Committing) (bytes : List ℕ) (r : Receipt) (old new : Watch)
         → committing.Submits accepts before bytes (Ok r) after → old.base ≡ empty_world after.channel.definitions → Learns old r.front.list new
-        → LearnsOf (known_by old) r.height (known_by new) }
+        → CatchesUp (known_by old) r.height (known_by new) }
 {}
 
 /// Proved: if a handle that a committer opened learns, now or later, what the committer has published, then the ledger

@@ -1,4 +1,4 @@
-ghost use Rattle.std.specs.Prelude.{◌≡◌, ◌≤◌, ℕ, Bool, true, List, Option, Some, Result, Ok, Err};
+ghost use Rattle.std.specs.Prelude.{◌≡◌, ◌≤◌, ℕ, true, List, Some, Result, Err};
 ghost use Rattle.std.specs.List.{AllByRecursion};
 ghost use Rattle.policy_eval.specs.Accepts.{Accepts};
 ghost use Rattle.rules.specs.declared.answer.Accepted.{Accepted};
@@ -7,7 +7,7 @@ ghost use Rattle.rules.specs.Answers.{Reply};
 ghost use Rattle.rules.specs.World.{World};
 ghost use Rattle.commit.specs.declared.not_committed.NotCommitted.{NotCommitted};
 ghost use Rattle.commit.specs.declared.not_committed.NotCommitted.TheVariants.{Refused, Stopped};
-ghost use Rattle.theorem.specs.Promise.{Shown, Submits, Runs, HadMemory, Queries, LearnsOf, ledger_at};
+ghost use Rattle.theorem.specs.Promise.{Shown, Submits, Runs, HadMemory, Queries, CatchesUp, ledger_at};
 
 /// Proved: out of memory aside, what a committer has shown and the bytes submitted determine its answers and what it
 /// shows next.
@@ -20,7 +20,7 @@ pub fn committers_have_one_answer()
     rules::one_step();
 }
 
-/// Proved: whatever is answered in place of an acceptance, no ledger is shown. A refusal changes nothing at all, and
+/// Proved: if bytes are not accepted, no ledger is shown. A refusal changes nothing at all, and
 /// neither does a committer that has stopped.
 pub fn refusals_show_nothing()
     ensures refused { (accepts : Accepts) (old new : Shown) (bytes : List ℕ) (refused : rules.Refused)
@@ -31,7 +31,7 @@ pub fn refusals_show_nothing()
         → old.stopped ≡ true → Submits accepts old bytes x new → (x ≡ Err Stopped) × (new ≡ old) }
 {}
 
-/// Proved: a ledger that was shown at a height stays the one of that height, whatever is submitted then.
+/// Proved: a ledger that was shown at a height stays the one of that height, for all that is submitted later.
 pub fn shown_ledgers_stay()
     ensures submit { (accepts : Accepts) (old new : Shown) (bytes : List ℕ) (x : Result Accepted NotCommitted) (height : ℕ) (l : World)
         → Submits accepts old bytes x new → ledger_at old height ≡ Some l → ledger_at new height ≡ Some l }
@@ -39,11 +39,10 @@ pub fn shown_ledgers_stay()
         → Runs accepts old blocks xs new → ledger_at old height ≡ Some l → ledger_at new height ≡ Some l }
 {}
 
-/// Proved: no answer of a handle is of a lower height than one before it, or than that of a receipt that it has
-/// learned.
+/// Proved: no answer of a handle is of a lower height than one before it, or than a receipt that it was passed.
 pub fn no_answer_is_earlier<A, B>()
     ensures query { (s t : Shown) (first second third : ℕ) (question : World → A) (next : World → B) (r : Reply A) (n : Reply B)
         → Queries s first question r second → Queries t second next n third → r.height ≤ n.height }
     ensures receipt { (s : Shown) (first height second third : ℕ) (question : World → A) (r : Reply A)
-        → LearnsOf first height second → Queries s second question r third → height ≤ r.height }
+        → CatchesUp first height second → Queries s second question r third → height ≤ r.height }
 {}

@@ -1,8 +1,8 @@
--- Worked rows: blocks 0 to 3 and 5 of the sample, over the ledgers that the blocks before them left; 1 and 2 in parts.
-use Rattle.std.proofs.Common.{◌≡◌, ℕ, Bool, true, false, List, [], ◌∷◌, map, Option, Some, None, refl}
+-- Worked rows: the blocks of the sample, over the ledgers that the blocks before them left; 1 and 2 in parts.
+use Rattle.std.proofs.Common.{◌≡◌, ℕ, Bool, true, false, List, [], ◌∷◌, map, cond, Option, Some, None, Ok, refl, ap, ◌∙◌}
 use Rattle.std.specs.Prelude.{codes, replicate}
 use Rattle.std.specs.Str.{bytes_eq}
-use Rattle.std.specs.FinMap.{from_entries, empty}
+use Rattle.std.specs.FinMap.{from_entries, empty, get}
 use Rattle.transaction.specs.declared.identity.Identity.{Identity}
 use Rattle.transaction.specs.declared.identity.Role.TheVariants.{Peer, Admin, Client}
 use Rattle.transaction.specs.declared.item.Item.{Item}
@@ -22,7 +22,14 @@ use Rattle.rules.specs.declared.row.Row.{Row}
 use Rattle.rules.specs.State.{StateKey, key_cmp, with_changes}
 use Rattle.rules.specs.World.{World}
 use Rattle.rules.proofs.rows.Shared.{peer_of, either_peer, both_peers, both_peers_text, definitions_with, channel, any, kept, chaincode, at, set_of, absent, read_at, found, deleted}
-use Rattle.theorem.specs.Serial.{all_taken, after_items}
+use Rattle.std.specs.FinMap.{insert, get-insert}
+use Rattle.std.specs.Cmp.Lexicographic.{nat_list_cmp_total}
+use Rattle.channel.specs.Configuration.{Configuration}
+use Rattle.policy.specs.Lexing.{front_at, quoted_at, principal_in, word_at, word_in}
+use Rattle.policy.specs.Policies.{Policies}
+use Rattle.policy.specs.Reading.{policy_at, expression_by, gate_at, gate_by, members_by, head_at, opening_at, separator_at}
+use Rattle.rules.proofs.Keys.{bytes_ties}
+use Rattle.theorem.specs.Serial.{SoFar, all_taken, after_items}
 use Rattle.theorem.proofs.rows.Looks.{uses, scans}
 
 abbrev client : Identity
@@ -148,6 +155,42 @@ or_admin = gate 1 (more (peer_of (codes "Org1")) (more (peer_of (codes "Org2")) 
 pub block_3 : flags_over (ledger_of 3 either_peer cars_2) (by_admin (codes "n14")) ≡ EndorsementPolicyFailure ∷ []
 unfolding all_taken with_changes
 block_3 = simp uses refl
+
+-- block 4: from the next block on, an admin is enough
+abbrev new_text : List ℕ
+new_text = codes "OR('Org1.peer','Org2.peer','Org1.admin')"
+
+new_read : policy_at new_text ≡ Ok or_admin
+unfolding policy_at expression_by gate_at gate_by members_by head_at opening_at separator_at front_at quoted_at principal_in word_at word_in
+new_read = refl
+
+abbrev with_admin : Configuration
+with_admin = record channel { admin = Some (principal (codes "Org1") wanted.Admin) }
+
+abbrev after_block_4 : SoFar
+after_block_4 = after_items with_admin any (ledger_of 4 either_peer cars_2) (
+    Some (item.Update (record {
+      channel = codes "ch";
+      id = tx_id_of (codes "n15") (identity_bytes admin);
+      creator = admin;
+      nonce = codes "n15";
+      namespace = chaincode;
+      policy = new_text;
+      endorsements = record { endorser = admin; signature = [] } ∷ [];
+      signature = [];
+    }))
+    ∷ [])
+
+get-definition : (m : Policies) (x : List ℕ) (v : Tree) (q : List ℕ) → get (insert m x v) q ≡ cond (bytes_eq q x) (Some v) (get m q)
+get-definition m x v q = get-insert nat_list_cmp_total m x v q ∙ ap (λ b. cond b (Some v) (get m q)) (bytes_ties q x)
+
+pub block_4 : after_block_4.flags ≡ Valid ∷ []
+unfolding all_taken
+block_4 = simp (new_read, get-definition, uses) refl
+
+pub policy_after_block_4 : get after_block_4.policies chaincode ≡ Some or_admin
+unfolding all_taken
+policy_after_block_4 = simp (new_read, get-definition, uses) refl
 
 pub block_5 : flags_over (ledger_of 5 or_admin cars_2) (by_admin (codes "n16")) ≡ Valid ∷ []
 unfolding all_taken with_changes

@@ -113,7 +113,7 @@ pub before_a_transaction : bytes_eq an_id update_id ≡ false → (executed (goo
 unfolding all_taken with_changes
 before_a_transaction apart = simp (apart, updating) refl
 
--- ---- what else is 6
+-- ---- what else has flag 6
 
 pub endorsed_by_a_peer : (executed (update_of chaincode new_text (p0 ∷ []) ∷ [])).flags ≡ InvalidConfigTransaction ∷ []
 unfolding all_taken
