@@ -10,7 +10,7 @@ use Rattle.query.specs.declared.receipt.Receipt.{Receipt}
 use Rattle.query.specs.Published.{Watch, GoesOn, Learns, applied_all, watched_world}
 use Rattle.commit.specs.Committing as committing
 use Rattle.commit.specs.Committing.{Committing}
-use Rattle.theorem.specs.Promise.{ledger_at, Queries, CatchesUp}
+use Rattle.theorem.specs.Promise.{Shown, ledger_at, Queries, CatchesUp}
 use Rattle.theorem.specs.ShownBy.{ledgers_of, shown_by, known_by, LearnsLater}
 use Rattle.theorem.proofs.Ledgers.{ledger_there, height_after, height_shown, receipt_height, receipt_list}
 
@@ -77,3 +77,11 @@ answer_of_shown {A} question c old new r g known answer =
       no_earlier = omega (arith, height, query_knows old new g);
       knows = sym height;
     }
+
+-- two answers of one height are of one ledger
+pub one_ledger : {A B : Type 0} (s : Shown) (a b c d : ℕ) (question : World → A) (other : World → B) (r : Reply A) (n : Reply B)
+    (q : Queries s a question r b) (o : Queries s c other n d) → r.height ≡ n.height → q.ledger ≡ o.ledger
+one_ledger {A} {B} s a b c d question other r n q o same = by q.ledger o.ledger (sym q.shown ∙ ap (ledger_at s) same ∙ o.shown)
+  where
+    by : (v w : World) → Some v ≡ Some w → v ≡ w
+    by v w e = cc

@@ -39,10 +39,13 @@ pub fn shown_ledgers_stay()
         → Runs accepts old blocks xs new → ledger_at old height ≡ Some l → ledger_at new height ≡ Some l }
 {}
 
-/// Proved: no answer of a handle is of a lower height than one before it, or than a receipt that it was passed.
+/// Proved: no answer of a handle is of a lower height than one before it, or than a receipt that it was passed. Two
+/// answers of one height, by any handles, are of one ledger.
 pub fn no_answer_is_earlier<A, B>()
     ensures query { (s t : Shown) (first second third : ℕ) (question : World → A) (next : World → B) (r : Reply A) (n : Reply B)
         → Queries s first question r second → Queries t second next n third → r.height ≤ n.height }
     ensures receipt { (s : Shown) (first height second third : ℕ) (question : World → A) (r : Reply A)
         → CatchesUp first height second → Queries s second question r third → height ≤ r.height }
+    ensures one_ledger { (s : Shown) (a b c d : ℕ) (question : World → A) (other : World → B) (r : Reply A) (n : Reply B)
+        (q : Queries s a question r b) (o : Queries s c other n d) → r.height ≡ n.height → q.ledger ≡ o.ledger }
 {}
