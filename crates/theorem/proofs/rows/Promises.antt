@@ -1,18 +1,18 @@
 -- Worked rows: what is submitted to a new committer, and to one that has stopped, and what a handle answers.
-use Rattle.std.proofs.Common.{◌≡◌, ◌≢◌, ℕ, true, false, List, [], ◌∷◌, length, Ok, Err, refl, arith}
+use Rattle.std.proofs.Common.{◌≡◌, ◌≢◌, ℕ, true, false, List, [], ◌∷◌, length, None, Some, Ok, Err, refl, sym, ap, ◌∙◌, arith}
 use Rattle.block.specs.declared.block.Block.{Block}
 use Rattle.block.specs.declared.block.Previous.TheVariants.{Empty}
 use Rattle.block.specs.Grammar.{bytes_of, Spells}
 use Rattle.transaction.specs.declared.block_version.BlockVersion.TheVariants.{V1}
 use Rattle.header_hash.specs.Hashes.{data_hash_of}
 use Rattle.rules.specs.declared.answer.Refused.TheVariants.{WrongNumber, WrongDataHash, Memory}
-use Rattle.rules.specs.Answers.{reply, height_answer}
+use Rattle.rules.specs.Answers.{Reply, reply, height_answer}
 use Rattle.rules.specs.Linked.{IsLinked}
 use Rattle.rules.specs.World.{World, empty_world}
 use Rattle.rules.proofs.rows.Shared.{channel, any}
 use Rattle.commit.specs.declared.not_committed.NotCommitted.TheVariants.{Refused, MemoryInCommit, Stopped}
 use Rattle.theorem.specs.Step.{answer_to, ledger_after}
-use Rattle.theorem.specs.Promise.{Shown, Submits, Queries}
+use Rattle.theorem.specs.Promise.{Shown, ledger_at, Submits, Queries}
 
 abbrev opened : Shown
 opened = record { channel = channel; ledgers = []; stopped = false }
@@ -70,6 +70,12 @@ module _ (hash : List ℕ) (hash_len : length hash ≡ 32) where
 
     pub not_from_the_first : (known : ℕ) → Queries shown 1 height_answer (reply ledger_0 0) known → ⊥
     not_from_the_first known q = absurd (omega (arith, q.no_earlier))
+
+    -- no ledger of height 2 was shown
+    pub not_from_a_later_one : (r : Reply ℕ) (known : ℕ) → r.height ≡ 2 → Queries shown 0 height_answer r known → ⊥
+    not_from_a_later_one r known two q =
+        let none : None ≡ Some q.ledger = sym (ap (ledger_at shown) two) ∙ q.shown in
+        absurd cc
 
 pub stopped_stays : (any_bytes : List ℕ) → Submits any (record opened { stopped = true }) any_bytes (Err Stopped) (record opened { stopped = true })
 stopped_stays any_bytes = (refl, refl)
