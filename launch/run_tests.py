@@ -53,9 +53,10 @@ def tests_of(name, crates):
 
 
 def has_only_laws(name):
-    """Whether no function of a library does anything: then there is nothing to run."""
+    """Whether no function of a library does anything but call others that don't: then there is nothing to run."""
     text = "".join(file.read_text() for file in (TOP / "crates" / name / "src").rglob("*.rt"))
-    return len(re.findall(r"^ *(?:pub(?:\(\w+\))? )?fn ", text, re.M)) == len(re.findall(r"^ *\{\}$", text, re.M))
+    functions = re.findall(r'^ *(?:pub(?:\(\w+\))? )?(?:(?:const|unsafe|extern "C") )*fn ', text, re.M)
+    return len(functions) == len(re.findall(r"^\{(?:\}|\n(?: {4}[\w:]+\(\);\n)+\})$", text, re.M))
 
 
 def unreached(crates):
