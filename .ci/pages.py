@@ -12,6 +12,8 @@ PAGES = [TOP / "README.md", TOP / "CONTRIBUTING.md", *sorted((TOP / "docs").glob
 # A path, by what it ends in; also one below crates/, docs/ or beside the page.
 NAMED = re.compile(r"`((?:[\w.-]+/)+[\w.-]+\.(?:rt|antt|py|md|txt|svg|edit|h)|[a-z_]+/(?:src|specs|proofs|must-fail|planted)(?:/[\w.-]+)*/?)`")
 LINK = re.compile(r"\]\(([^)\s]+)\)")
+# What a script writes isn't counted.
+WRITTEN = re.compile(r"<!-- \S+ writes this.*?<!-- the end of .*?-->", re.S)
 # Names with a part that the reader fills in.
 OPEN = re.compile(r"NAME|FILE|[*{]")
 
@@ -50,7 +52,7 @@ def faults_of(page):
 def faults():
     for page in PAGES + [TOP / "CHANGELOG.md"]:
         yield from faults_of(page)
-    words = {page: len(page.read_text().split()) for page in PAGES}
+    words = {page: len(WRITTEN.sub("", page.read_text()).split()) for page in PAGES}
     if sum(words.values()) > MOST_WORDS:
         yield f"{sum(words.values())} words in all pages, of {MOST_WORDS}"
     if words[TOP / "README.md"] > MOST_IN_README:

@@ -31,6 +31,8 @@ from sources import PROGRAM, TOP, NoKit
 SECONDS, SILENCE = 60, 20
 # The processor seconds that a whole run took, on the machine of launch/costs.txt.
 WHOLE = 420
+# Checks of a whole run that need no program.
+SCRIPTS = (".ci/pages.py", "docs/map.py --check", "docs/pictures/draw.py --check", "bench/proof/planted.py --check", "launch/test.py")
 NOTHING_PROVED = """Nothing is proved by this: the code met no fault on these inputs. What it can't find: a `requires` that a caller breaks,
 an `ensures` or a definition in specs/ that is wrong or says too little, an overflow, a wrong index or a division by 0 on other
 inputs, and a race that no run meets. `rt ci CRATE` proves a crate and those below it, `./prove` the program."""
@@ -187,7 +189,7 @@ def run_all(report, running, crates, work):
     print(f"test: {len(named)} test crates, the program, the pages: some {WHOLE / sources.processors() / 60:.0f} minutes", flush=True)
     with ThreadPoolExecutor(8) as pool, running.ending():
         steps = [pool.submit(tests.formats, [*crates]), pool.submit(tests.reached), pool.submit(tests.sample)]
-        steps += [pool.submit(tests.script, *words.split()) for words in (".ci/pages.py", "bench/proof/planted.py --check", "launch/test.py")]
+        steps += [pool.submit(tests.script, *words.split()) for words in SCRIPTS]
         # the types of all libraries are checked with the tests'
         program = tests.build(named, [name for name in crates if not is_test(name) and test_program.is_library(name)])
         if program:
