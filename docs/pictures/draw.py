@@ -22,7 +22,7 @@ BLOCK = (
         ("a tentative job", "candidates, and who writes each key, in order", "next_block/src/tentative.rt", "any worker"),
         ("a linked block", "number, previous hash, data hash, version", "linking/src/linked.rt", "the caller"),
         ("a job", "used ids are marked; rows of the keys are looked up", "key_chains/src/job.rt", "the caller"),
-        ("verdicts", "policies, then reads, over what is known of those before", "check_workers/src/checking.rt", "all workers"),
+        ("verdicts", "policies, then reads, given earlier verdicts", "check_workers/src/checking.rt", "all workers"),
         ("flags, and a delta", "what valid transactions change", "effects/src/block_effects.rt", "the caller"),
         ("a commit hash", "rows that differ, flags, the changed definition", "header_hash/src/hash.rt", "the caller"),
         ("a published world", "one of two worlds, shown when it is whole", "query/src/publisher.rt", "the caller"),
