@@ -9,6 +9,8 @@ import sys
 TOP = pathlib.Path(__file__).resolve().parent.parent
 MOST_WORDS, MOST_IN_README, MOST_COLUMNS = 26_000, 1_800, 120
 PAGES = [TOP / "README.md", TOP / "CONTRIBUTING.md", *sorted((TOP / "docs").glob("**/*.md"))]
+# A page of definitions, which bench/proof/theorem_page.py writes and limits by its lines of code: its words don't count here.
+GENERATED = TOP / "docs" / "theorem.md"
 # A path, by what it ends in; also one below crates/, docs/ or beside the page.
 NAMED = re.compile(r"`((?:[\w.-]+/)+[\w.-]+\.(?:rt|antt|py|md|txt|svg|edit|h)|[a-z_]+/(?:src|specs|proofs|must-fail|planted)(?:/[\w.-]+)*/?)`")
 LINK = re.compile(r"\]\(([^)\s]+)\)")
@@ -52,7 +54,7 @@ def faults_of(page):
 def faults():
     for page in PAGES + [TOP / "CHANGELOG.md"]:
         yield from faults_of(page)
-    words = {page: len(WRITTEN.sub("", page.read_text()).split()) for page in PAGES}
+    words = {page: len(WRITTEN.sub("", page.read_text()).split()) for page in PAGES if page != GENERATED}
     if sum(words.values()) > MOST_WORDS:
         yield f"{sum(words.values())} words in all pages, of {MOST_WORDS}"
     if words[TOP / "README.md"] > MOST_IN_README:
