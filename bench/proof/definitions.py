@@ -1,10 +1,12 @@
-"""What the sources define: the definitions of `crates/*/specs`, the types of `crates/*/src` as contracts see them, and what each uses.
+"""What the sources define: the definitions of `crates/*/specs`, the types of `crates/*/src` as contracts see them, what each uses, and
+the clauses of laws.
 
 It relies on the layout of `rt fmt`: definitions begin in the first column, and an empty line is between them.
 """
 
 import dataclasses
 import functools
+import itertools
 import pathlib
 import re
 import textwrap
@@ -217,3 +219,17 @@ def walk(roots):
                 found[used] = None
                 todo.append(used)
     return [*found], [*names]
+
+
+def clauses(law):
+    """The lines of a law's clauses: of a file, a function, and the names of the clauses, or all of them."""
+    path, function, *names = law.split()
+    lines = (CRATES / path).read_text().splitlines()
+    start = next(i for i, line in enumerate(lines) if re.match(rf" *pub fn {function}\b", line))
+    margin, shown = len(lines[start]) - len(lines[start].lstrip()) + 4, False
+    yield f"-- {path}: {function}"
+    for line in itertools.takewhile(lambda line: line.strip() not in ("{", "{}"), lines[start + 1 :]):
+        if found := re.match(r" *ensures (\w*)", line):
+            shown = not names or found[1] in names
+        if shown and line and not line.lstrip().startswith("//"):
+            yield line[margin:]

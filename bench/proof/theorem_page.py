@@ -12,7 +12,6 @@ theorem_page.py --sizes: prints the lines of code and of comment of each section
 
 import argparse
 import collections
-import itertools
 import pathlib
 import re
 import sys
@@ -22,7 +21,7 @@ import typing
 sys.dont_write_bytecode = True
 sys.path.append(str(pathlib.Path(__file__).resolve().parent))
 
-from definitions import COLUMNS, CRATES, TOP, Definition, Specs, file_at, walk
+from definitions import COLUMNS, CRATES, TOP, Definition, Specs, clauses, file_at, walk
 
 PAGE, MOST_LINES = TOP / "docs" / "theorem.md", 600
 # The file of what queries may ask: the laws of `theorem` name it, its own definitions take any question.
@@ -107,6 +106,18 @@ CUTS = {
     ),
 }
 
+# The kit's names that Rust doesn't have, with their arguments.
+KIT_WORDS = {
+    "FinMap cmp X": "a map to `X` whose keys are ordered by `cmp`; `entries` lists its pairs in that order",
+    "FoldsTo step x ys z": "steps over the elements of `ys`, one after the other, lead from `x` to `z`",
+    "MatchBool b P Q": "`P` if `b` is true, `Q` if it is false",
+    "encode_lower bytes": "the bytes as hexadecimal text",
+    "is_sorted cmp es": "each key of these pairs is less than all after it",
+    "last_or o xs": "the last element, or `o` of an empty list",
+    "pointwise same xs ys": "as many elements in both, and at each place the same",
+    "then_cmp a b": "the order `a`, and of what is equal by it the order `b`; `on f a` orders by what `f` gives",
+}
+
 BEGINNING = """\
 # The theorem
 
@@ -120,10 +131,13 @@ sources; `./test` fails if it isn't current.
   the contracts of [`Committer`](../crates/commit/src/committer.rt) and
   [`QueryHandle`](../crates/query/src/handle.rt), which the code keeps.
 - **Order**: the theorem in words, its definitions, then the vocabulary, from the highest crate to the lowest. If you
-  are in a hurry, read [Serial](#serial), [Step](#step) and [Promise](#promise).
+  are in a hurry, read [Serial](#serial), [Step](#step) and [Promise](#promise). What queries ask is in
+  [Answers](#answers).
+- **Words**: a `World` is a ledger, and its `definitions` are the policies of chaincodes. The *touched* keys of
+  [Endorsement](#endorsement) are those of `policy_written`. If two sections define a name, each means its own.
 {left_out}
-- **Size**: {definitions} definitions in {files} files: {code} lines of code, {comment} of comment. What is left out
-  would be {more} lines of code more.
+- **Size**: {definitions} definitions in {files} files: {code} lines of code, {comment} of comment. What is left out has
+  {more} lines of code.
 
 | sign | meaning |
 |---|---|
@@ -132,8 +146,10 @@ sources; `./test` fails if it isn't current.
 | `A ⊎ B`, `A ↔ B` | one of both; `A` exactly if `B` |
 | `A → B`, `(x : A) → B` | a function, or: if `A` then `B`; for all `x` |
 | `(i : ℕ) → slice_index bytes i < 256` | each element of `bytes` is a byte |
-| `Type 0`, `Bool` | a statement, which holds or doesn't; a truth value, which is computed |
+| `Type 0`, `Bool` | a statement, which holds or doesn't (or a type); a truth value, which is computed |
 | `x ≡ y`, `x ≢ y`, `⊥`, `Unit` | equal; different; what never holds; what always holds |
+| `item.Tx`, `{{A : Type 0}}` | the variant `Tx`, after a short name of its type; an argument that is left out in calls |
+| `abbrev`, `unfoldable`, `pub` | how proofs and other files may use a definition: it means the same without |
 | `record r {{ a = x }}`, `λ x. y` | `r` with another `a`; the function from `x` to `y` |
 | `A = {{ a : ℕ }}`, `A = B \\| C ℕ` | a type of Rust, as contracts see it: with these fields; one of these variants. \
 Numbers are `ℕ`, bytes are lists of `ℕ`, and what is shared or borrowed is as if it weren't |
@@ -162,20 +178,6 @@ or from this page alone: `rt ci theorem` checks it, and all crates below.
   [at the end](#names-of-the-kit), mean what its libraries say.
 
 """
-
-
-def clauses(law):
-    """The clauses of a law, as lines."""
-    path, function, *names = law.split()
-    lines = (CRATES / path).read_text().splitlines()
-    start = next(i for i, line in enumerate(lines) if re.match(rf" *pub fn {function}\b", line))
-    margin, shown = len(lines[start]) - len(lines[start].lstrip()) + 4, False
-    yield f"-- {path}: {function}"
-    for line in itertools.takewhile(lambda line: line.strip() not in ("{", "{}"), lines[start + 1 :]):
-        if found := re.match(r" *ensures (\w*)", line):
-            shown = not names or found[1] in names
-        if shown and line and not line.lstrip().startswith("//"):
-            yield line[margin:]
 
 
 def check_tests(text):
@@ -317,8 +319,9 @@ def names_of_kit(names):
     for module, name in names:
         modules[module].append("if then else" if name.startswith("if◌") else name.replace("◌", "").replace("|", "\\|"))
     rows = [f"| `{module}` | {' '.join(f'`{name}`' for name in sorted(modules[module]))} |" for module in sorted(modules)]
-    said = "Here the page stops: the kit's libraries define these. They are trusted."
-    return ["## Names of the kit", "", said, "", "| module | names |", "|---|---|", *rows, ""]
+    said = "Here the page stops: the kit's libraries define these, and are trusted. Most are as in Rust. Subtraction stops at 0."
+    words = [f"| `{name}` | {words} |" for name, words in KIT_WORDS.items() if name.split()[0] in sum(modules.values(), [])]
+    return ["## Names of the kit", "", *wrapped(said), "| name | meaning |", "|---|---|", *words, "", "| module | names |", "|---|---|", *rows, ""]
 
 
 def in_words():
