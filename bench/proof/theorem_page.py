@@ -12,6 +12,7 @@ theorem_page.py --sizes: prints the lines of code and of comment of each section
 
 import argparse
 import collections
+import itertools
 import pathlib
 import re
 import sys
@@ -51,7 +52,8 @@ CUTS = {
     ),
     "policy/specs/Text.antt text_of": Cut(
         ["policy/src/policy.rt text same shortest"],
-        "The canonical text is one of its policy, and none is shorter. So no two policies have the same canonical text.",
+        "`self.now` is any policy that has a text. Its canonical text is one of it, and none is shorter. So no two of these policies have "
+        "the same canonical text.",
         "How it looks: the test `text_tests::parsing::texts::texts_and_canonical_texts`.",
     ),
     "block/specs/Grammar.antt Spells": Cut(
@@ -213,13 +215,12 @@ def counts(lines):
 
 
 def code_of(its):
-    """Definitions, each with its comment, and what their file says of each part of it."""
-    lines, part = [], its[0].file.definitions[0].part if isinstance(its[0].file, Specs) else ""
-    for it in its:
-        if it.part != part:
-            lines += [f"-- ---- {it.part}", ""]
-        part = it.part
-        lines += [*it.comment, *it.code, ""]
+    """Definitions, each with its comment, and before several of one part of their file what that says of the part."""
+    lines = []
+    for part, group in itertools.groupby(its, key=lambda it: it.part):
+        group = [*group]
+        lines += [f"-- ---- {part}", ""] if part and len(group) > 1 else []
+        lines += [line for it in group for line in [*it.comment, *it.code, ""]]
     return fenced(lines[:-1])
 
 
