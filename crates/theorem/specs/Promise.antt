@@ -71,7 +71,7 @@ pub record Queries {A : Type 0} (s : Shown) (known : ℕ) (question : World → 
   pub no_earlier : known ≤ r.height
   pub knows : known' ≡ r.height
 
--- A handle that catches up to a height, as that of a receipt, knows of this or a greater one, and of none below what it
--- knew.
+-- A handle that catches up to a height, as `learn` does to that of a receipt, knows of this or a greater one, and of
+-- none below what it knew.
 abbrev pub CatchesUp : ℕ → ℕ → ℕ → Type 0
 CatchesUp known height known' = (known ≤ known') × (height ≤ known')

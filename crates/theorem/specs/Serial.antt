@@ -80,7 +80,8 @@ abbrev pub all_pass : Tests → Bool
 all_pass [] = true
 all_pass (t ∷ ts) = t.0 && all_pass ts
 
--- Origin, 14, 4, 8: it is of this channel, its creator signed it, and its id is the hash of its nonce and creator.
+-- Origin, flags 14, 4, 8: it is of this channel, its creator signed it, and its id is the hash of its nonce and
+-- creator.
 abbrev pub origin_tests : Setting → Item → Tests
 origin_tests s i =
     let o = origin_of i in
@@ -94,7 +95,7 @@ origin_tests s i =
 abbrev pub may_update : Setting → Update → Bool
 may_update s u = s.alone && is_some s.admin && is_defined s.policies_before u.namespace && is_some (policy_of u.policy)
 
--- Content, 9 and then 22, 25 or, of an update, 6: its id is new. The read and write sets of a transaction are
+-- Content, flags 9, then 22 and 25 or, of an update, 6: its id is new. The read and write sets of a transaction are
 -- well-formed: no key repeats in them ('Read-Write set semantics'), ranges are in order, and written policies are
 -- policies. The chaincodes that it names and writes have policies.
 abbrev pub content_tests : Setting → SoFar → Item → Tests
@@ -108,9 +109,9 @@ content_tests s now (item.Update u) =
     ∷ (may_update s u, InvalidConfigTransaction)
     ∷ []
 
--- Endorsement, 10 or, of an update, 6: its signers satisfy the policies before the block, the keys' own or else those
--- of chaincodes (EuroSys 2018 paper; 'Endorsement policies'), and it writes no key whose policy the block has written
--- (ours).
+-- Endorsement, flag 10 or, of an update, 6: its signers satisfy the policies before the block, the keys' own or else
+-- those of chaincodes (EuroSys 2018 paper; 'Endorsement policies'), and it writes no key whose policy the block has
+-- written (ours).
 abbrev pub endorsement_tests : Setting → SoFar → Item → Tests
 endorsement_tests s now (item.Tx tx) =
     (is_endorsed s.policies_before s.state_before now.policy_written tx (signers_of s.accepts tx), EndorsementPolicyFailure) ∷ []

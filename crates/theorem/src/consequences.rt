@@ -72,7 +72,7 @@ pub fn one_answer()
     rules::one_step();
 }
 
-/// Proved: if bytes are refused, also for want of memory, the ledger is what it was.
+/// Proved: if bytes are refused, also if memory runs out, the ledger is what it was.
 pub fn refused_bytes_change_nothing()
     ensures { (channel : Configuration) (accepts : Accepts) (old new : World) (bytes : List ℕ) (refused : Refused)
         → Takes channel accepts old bytes (Err refused) new → new ≡ old }
