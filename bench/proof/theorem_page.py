@@ -29,8 +29,9 @@ PAGE, MOST_LINES = TOP / "docs" / "theorem.md", 600
 QUESTIONS = "rules/specs/Answers.antt"
 # What only the laws need.
 FOR_LAWS = "ShownBy"
-# The files of the laws by which the code keeps the statement. Those of the others follow from the statement alone.
-TIES = ["serial", "committing", "handles", "answers"]
+# The files of the laws by which the code keeps the statement, with the premises of these contracts. The laws of other files follow
+# from the statement alone.
+TIES = {"serial": "V", "committing": "V, M, R", "handles": "H", "answers": "H, and what 9 says of handles"}
 
 
 class Cut(typing.NamedTuple):
@@ -135,6 +136,8 @@ sources; `./test` fails if it isn't current.
 - **Order**: the theorem in words, its definitions, then the vocabulary, from the highest crate to the lowest. If you
   are in a hurry, read [Serial](#serial), [Step](#step) and [Promise](#promise). What queries ask is in
   [Answers](#answers).
+- **Flags** have Fabric's names and numbers: [table](behaviour.md#flags). A receipt's height is its block's number and
+  one more.
 - **Words**: a `World` is a ledger, and its `definitions` are the policies of chaincodes. The *touched* keys of
   [Endorsement](#endorsement) are those of `policy_written`. If two sections define a name, each means its own.
 {left_out}
@@ -165,7 +168,7 @@ Numbers are `ℕ`, bytes are lists of `ℕ`, and what is shared or borrowed is a
 Functions of the crate `theorem` that do nothing at run time. What they ensure is proved, from the contracts of the code
 or from this page alone: `rt ci theorem` checks it, and all crates below.
 
-| statement | from | what it says |
+| statement | from; premises | what it says |
 |---|---|---|
 {laws}
 
@@ -283,7 +286,7 @@ class Page:
     def left_out(self):
         links = ((it.names[0], anchor_of(title)) for place, title in self.titles.items() for it in self.sections[place] if it.cut)
         listed = ", ".join(f"[`{name}`](#{anchor})" for name, anchor in links)
-        said = f"- **Left out**: of {listed} the page has the type, and laws and tests that say enough instead of the definition."
+        said = f"- **Left out**: of {listed} the page has the type, laws and tests instead of the definition, and says what they leave open."
         return "\n".join(wrapped(said)[:-1]).replace("\n", "\n  ")
 
 
@@ -309,7 +312,7 @@ def laws():
     """A row for each law."""
     files = {path.stem: path for path in sorted((CRATES / "theorem/src").glob("*.rt")) if path.stem != "lib"}
     for name in [*TIES, *(name for name in files if name not in TIES)]:
-        source = "contracts" if name in TIES else "this page"
+        source = f"contracts; {TIES[name]}" if name in TIES else "this page"
         for comment, law in re.findall(r"((?:^/// .*\n)+)pub fn (\w+)", files[name].read_text(), re.M):
             said = comment.replace("/// ", "").replace("\n", " ").strip().removeprefix("Proved: ")
             yield f"| [`{law}`](../{files[name].relative_to(TOP)}) | {source} | {said[0].upper()}{said[1:]} |"

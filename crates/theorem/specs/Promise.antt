@@ -41,9 +41,10 @@ newest s = last_of (first_ledger s) s.ledgers
 abbrev pub Leads : Accepts → Shown → List ℕ → Accepted → World → Type 0
 Leads accepts s bytes answer next = Takes s.channel accepts (newest s) bytes (Ok answer) next
 
--- After bytes that are accepted, the committer has shown one ledger more. After a refusal, which out of memory may be
--- at any time, nothing has changed. If memory ran out while the next ledger was being shown, the committer has stopped:
--- it shows no further ledger and returns Stopped from then on, and its readers go on with what it has shown.
+-- After bytes that are accepted, the committer has shown one ledger more. A refusal changes nothing; any bytes may be
+-- refused because memory ran out. If it ran out while the next ledger was being shown, the committer has stopped: it
+-- never shows that ledger nor a further one and returns Stopped from then on, and its readers go on with what it has
+-- shown.
 abbrev pub Submits : Accepts → Shown → List ℕ → Result Accepted NotCommitted → Shown → Type 0
 Submits accepts old bytes (Ok answer) new =
     (old.stopped ≡ false) × ((next : World) × Leads accepts old bytes answer next × (new ≡ record old { ledgers = old.ledgers ++ next ∷ [] }))
