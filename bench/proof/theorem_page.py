@@ -166,7 +166,7 @@ Numbers are `ℕ`, bytes are lists of `ℕ`, and what is shared or borrowed is a
 ## Proved statements
 
 Functions of the crate `theorem` that do nothing at run time. What they ensure is proved, from the contracts of the code
-or from this page alone: `rt ci theorem` checks it, and all crates below.
+or from this page alone: `rt ci theorem` checks it, and all crates below. [In full](#the-proved-statements-in-full).
 
 | statement | from; premises | what it says |
 |---|---|---|
@@ -308,14 +308,27 @@ def cut_short():
     return whole - counts(code_of(found_from_the_statement()[0]))[0]
 
 
-def laws():
-    """A row for each law."""
+def all_laws():
+    """The laws of `theorem`, those by which the code keeps the statement first: file, comment and name of each."""
     files = {path.stem: path for path in sorted((CRATES / "theorem/src").glob("*.rt")) if path.stem != "lib"}
     for name in [*TIES, *(name for name in files if name not in TIES)]:
-        source = f"contracts; {TIES[name]}" if name in TIES else "this page"
         for comment, law in re.findall(r"((?:^/// .*\n)+)pub fn (\w+)", files[name].read_text(), re.M):
-            said = comment.replace("/// ", "").replace("\n", " ").strip().removeprefix("Proved: ")
-            yield f"| [`{law}`](../{files[name].relative_to(TOP)}) | {source} | {said[0].upper()}{said[1:]} |"
+            yield files[name], comment.replace("/// ", "").replace("\n", " ").strip().removeprefix("Proved: "), law
+
+
+def laws():
+    """A row for each law."""
+    for file, said, law in all_laws():
+        source = f"contracts; {TIES[file.stem]}" if file.stem in TIES else "this page"
+        yield f"| [`{law}`](../{file.relative_to(TOP)}) | {source} | {said[0].upper()}{said[1:]} |"
+
+
+def in_full():
+    """The clauses of all laws. They aren't counted: nobody has to believe what is proved."""
+    said = ("What each proved statement ensures, with its conditions. Those from contracts name the contracts' own definitions, as "
+            "`committing.Submits`, `Watch`, `GoesOn`, `Learns` and `job_of`, which aren't on this page: they are what the code keeps.")
+    lines = [line for file, _, law in all_laws() for line in clauses(f"{file.relative_to(CRATES)} {law}")]
+    return ["## The proved statements in full", "", *wrapped(said), "```rust", *lines, "```", ""]
 
 
 def names_of_kit(names):
@@ -348,7 +361,7 @@ def text_of_page():
         left_out=page.left_out(), definitions=len(found), files=len({it.file for it in found}), code=code, comment=comment, more=more,
         words=in_words(), laws="\n".join(laws()), for_laws=FOR_LAWS,
     )
-    return beginning + "\n".join(body + names_of_kit(names))
+    return beginning + "\n".join(body + in_full() + names_of_kit(names))
 
 
 def check(text):
