@@ -44,7 +44,12 @@ import time
 import typing
 
 import peer
+import scratch
 from scratch import RUNS, TOP, Machine, build
+
+sys.path.append(str(scratch.TOP / "launch"))
+
+import processor
 from encoding import data_hash, header_hash, spelled_block
 
 # Reads the files that it is given, and prints the microseconds that hashing them once takes.
@@ -128,7 +133,9 @@ def program_of(top):
     """The program that the launcher of a checkout runs: the proved one, unless a source is newer, else the quick one."""
     out = pathlib.Path(top) / "crates" / "fabcommit" / "out"
     sources = [path for part in ("src", "specs", "proofs") for path in pathlib.Path(top).glob(f"crates/*/{part}/**/*")]
-    for program in (out / "fabcommit", out / "quick" / "fabcommit"):
+    here = processor.at_hand()
+    # the last is that of a checkout from before programs were built for the processor at hand
+    for program in (out / here / "fabcommit", out / "fabcommit", out / "quick" / here / "fabcommit", out / "quick" / "fabcommit"):
         if program.exists() and all(path.stat().st_mtime <= program.stat().st_mtime for path in sources):
             return str(program)
     sys.exit(f"{top} has no program of its sources: ./fabcommit help builds one")
