@@ -2,7 +2,7 @@
 """Runs the tests. Nothing is proved by this.
 
     ./test              formats, pages, texts of wrong bodies, the launcher, the program on its sample, and all tests
-    ./test CRATE ..     the formats of these crates, and the tests of the test crates that name them
+    ./test CRATE ..     the formats of these crates, and the tests that reach them
     ./test TEST ..      these tests, by the names that a failed one is told by
 
 All tests are compiled as one program, in which what a proof would have shown is checked, and each is run in a process and a folder of
@@ -48,11 +48,8 @@ def all_below(name, crates):
 
 
 def tests_of(name, crates):
-    """The test crates for a crate: itself, or those that name it, or else those of the crates right above it."""
-    if is_test(name):
-        return {name}
-    above = [other for other in crates if name in crates[other]]
-    return {other for other in above if is_test(other)} or {test for other in above for test in tests_of(other, crates)}
+    """The test crates that reach a crate: itself, or those that it is below."""
+    return {other for other in crates if is_test(other) and name in all_below(other, crates)}
 
 
 def has_only_laws(name):
@@ -213,9 +210,6 @@ def run_some(report, running, crates, work, words):
     program = tests.build([name for name in crates if name in named], more)
     if program:
         tests.run(program, only)
-    others = [name for name in crates if is_test(name) and name not in named and all_below(name, crates) & set(more)]
-    if others:
-        report.line(f"not run: {' '.join(others)}, which reach {' '.join(more)} by other crates; ./test runs all")
 
 
 def main(words):
