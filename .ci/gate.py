@@ -124,13 +124,18 @@ def main():
         progress, said = Progress(), []
         threading.Thread(target=progress.watch, daemon=True).start()
         environment = {"RT_JOBS": str(jobs()), **os.environ}
-        with subprocess.Popen(["rt", "ci"], cwd=TOP, env=environment, stdin=subprocess.DEVNULL, stdout=subprocess.PIPE, stderr=subprocess.STDOUT, text=True, errors="replace") as running:
-            for line in running.stdout:
-                progress.read(line.rstrip("\n"))
-                said.append(line)
-                # the last one is kept for the end
-                if len(said) > 1:
-                    print(said[-2], end="", flush=True)
+        how = {"stdin": subprocess.DEVNULL, "stdout": subprocess.PIPE, "stderr": subprocess.STDOUT, "text": True, "errors": "replace"}
+        with subprocess.Popen(["rt", "ci"], cwd=TOP, env=environment, **how) as running:
+            try:
+                for line in running.stdout:
+                    progress.read(line.rstrip("\n"))
+                    said.append(line)
+                    # the last one is kept for the end
+                    if len(said) > 1:
+                        print(said[-2], end="", flush=True)
+            except BaseException:
+                running.terminate()
+                raise
         progress.is_over.set()
     finally:
         take_back()
@@ -139,13 +144,17 @@ def main():
     if bad and not status:
         status = 1
         print(f"gate: these edits couldn't be tried: {' '.join(bad)}")
-    if crates and not status:
-        found = planted.refused(all_said)
+    found = planted.refused(all_said)
+    lost = [crate for crate in crates if found[crate] < progress.edits[crate]]
+    if lost and not status:
+        status = 1
+        print(f"gate: not all planted edits were refused: {' '.join(lost)}")
+    elif crates and not status:
         print(f"gate: planted edits of {' '.join(crates)} are refused; bench/proof/planted.py writes their sums")
     last = said[-1] if said else "0 passed, 1 failed\n"
     counted = re.match(r"(\d+) passed, (\d+) failed", last)
     passed, failed = (int(counted[1]), int(counted[2])) if counted else (0, 1)
-    print(f"{passed} passed, {failed + len(bad)} failed")
+    print(f"{passed} passed, {failed or len(bad) or len(lost)} failed")
     return status
 
 
