@@ -22,9 +22,14 @@ pub record Told (l : ListedVerdicts) (pool pool' : List ℕ) (verdicts verdicts'
   pub pool_after : pool' ≡ (if nat_le (length l.pool) (length pool) && nat_le (length l.verdicts) (length verdicts) then with_front l.pool pool else pool)
   pub verdicts_after : verdicts' ≡ (if nat_le (length l.pool) (length pool) && nat_le (length l.verdicts) (length verdicts) then with_front l.verdicts verdicts else verdicts)
 
+-- out of memory is no fault of the bytes
+abbrev pub fault_code : BlockFault → ℕ
+fault_code Memory = MEMORY
+fault_code _ = MALFORMED
+
 -- Nothing was told but the code.
 pub record Refused (fault : BlockFault) (pool pool' : List ℕ) (verdicts verdicts' : List Verdict) (sizes sizes' : Sizes) (code : ℕ) : Type 0 where
-  pub told_code : ((fault ≡ Memory) × (code ≡ MEMORY)) ⊎ (code ≡ MALFORMED)
+  pub told_code : code ≡ fault_code fault
   pub pool_same : pool' ≡ pool
   pub verdicts_same : verdicts' ≡ verdicts
   pub sizes_same : sizes' ≡ sizes
