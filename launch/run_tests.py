@@ -32,7 +32,7 @@ SECONDS, SILENCE = 60, 20
 # The processor seconds that a whole run took, on the machine of launch/costs.txt.
 WHOLE = 420
 # Checks of a whole run that need no program.
-SCRIPTS = (".ci/pages.py", "docs/map.py --check", "docs/pictures/draw.py --check", "bench/proof/theorem_page.py --check",
+SCRIPTS = (".ci/pages.py", ".ci/callers.py", "docs/map.py --check", "docs/pictures/draw.py --check", "bench/proof/theorem_page.py --check",
            "bench/proof/planted.py --check", "launch/test.py")
 NOTHING_PROVED = """Nothing is proved by this: the code met no fault on these inputs. What it can't find: a `requires` that a caller breaks,
 an `ensures` or a definition in specs/ that is wrong or says too little, an overflow, a wrong index or a division by 0 on other

@@ -7,6 +7,8 @@ import shutil
 
 TOP = pathlib.Path(__file__).resolve().parent.parent
 PROGRAM = "fabcommit"
+# The heading of crates.txt before the crates of tests.
+TESTS = "# == Tests"
 
 
 class NoKit(Exception):
@@ -21,11 +23,25 @@ def kit():
     return pathlib.Path(rt).resolve().parent.parent
 
 
+def crates_txt(top):
+    return (pathlib.Path(top) / "crates.txt").read_text()
+
+
+def lines_in(text):
+    """The lines of a crates.txt by the crates that they are of."""
+    lines = (line.split("#")[0].strip() for line in text.splitlines())
+    # after its name a crate may have counts of functions that wait
+    return {line.split(":")[0].split()[0]: line for line in lines if ":" in line}
+
+
 def all_crates(top=TOP):
     """The crates of crates.txt, each with the libraries that its line names."""
-    lines = [line.split("#")[0] for line in (pathlib.Path(top) / "crates.txt").read_text().splitlines()]
-    # after its name a crate may have counts of functions that wait
-    return {line.split(":")[0].split()[0]: line.split(":")[1].split() for line in lines if ":" in line}
+    return {name: line.split(":")[1].split() for name, line in lines_in(crates_txt(top)).items()}
+
+
+def product(top=TOP):
+    """The crates that the merge gate proves, all but those behind the heading Tests, with their lines of crates.txt."""
+    return lines_in(crates_txt(top).partition(TESTS)[0])
 
 
 def crates_below(program=PROGRAM, top=TOP):

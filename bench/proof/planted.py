@@ -1,9 +1,8 @@
 #!/usr/bin/env python3
 """Wrong bodies that the merge gate doesn't try at each run, `crates/CRATE/planted/NAME.edit`: the prover must refuse each.
 
-planted.py [CRATE ..]: tries those of these crates, or all, in a copy in which they are where `rt ci` looks for them. What was proved
-before isn't proved again, but each of these crates once. If all of a crate were refused, `bench/proof/planted.sums` gets a sum of it.
-The last line counts.
+planted.py [CRATE ..]: tries those of these crates, or all, by `rt ci` over a copy of these crates and those below, in which they are
+where it looks for them. If all of a crate were refused, `bench/proof/planted.sums` gets a sum of it. The last line counts.
 
 planted.py --stale: names the crates whose sum in that file isn't that of their files. The gate tries their wrong bodies.
 
@@ -21,7 +20,12 @@ import subprocess
 import sys
 import tempfile
 
+sys.dont_write_bytecode = True
 TOP = pathlib.Path(__file__).resolve().parent.parent.parent
+sys.path.append(str(TOP / "launch"))
+
+import sources
+
 SUMS = pathlib.Path("bench/proof/planted.sums")
 # A line that is a comment and nothing else: no proof reads it.
 COMMENT = re.compile(r"\s*(//|--)")
@@ -51,6 +55,11 @@ def fault_of(edit):
     return None if pairs else "it has no pair of an old and a new text"
 
 
+def name_of(edit):
+    """That a file isn't named as an edit, if so: nothing would try it."""
+    return None if re.fullmatch(r"[\w-]+\.edit", edit.name) else "it isn't named as an edit, NAME.edit"
+
+
 def twin_of(edit):
     """That a planted edit has the name of another of its crate, if so: the gate puts both in one folder."""
     if edit.parent.name == "planted" and (edit.parent.parent / "must-fail" / edit.name).exists():
@@ -59,8 +68,8 @@ def twin_of(edit):
 
 
 def check():
-    edits = sorted(TOP.glob("crates/*/planted/*.edit")) + sorted(TOP.glob("crates/*/must-fail/*.edit"))
-    faults = [(edit, fault_of(edit) or twin_of(edit)) for edit in edits]
+    edits = sorted(TOP.glob("crates/*/planted/*")) + sorted(TOP.glob("crates/*/must-fail/*"))
+    faults = [(edit, name_of(edit) or fault_of(edit) or twin_of(edit)) for edit in edits]
     for edit, fault in faults:
         if fault:
             print(f"{edit.relative_to(TOP)}: {fault}")
@@ -106,6 +115,18 @@ def write_sums(tried, top=TOP):
     (top / SUMS).write_text("".join(f"{crate} {sums[crate]}\n" for crate in sorted(planted(top)) if crate in sums))
 
 
+def lay_out(crates, edits, to):
+    """Copies crates, given with their lines of crates.txt, into a repository of their own, in which `rt ci` tries these edits."""
+    for crate in crates:
+        shutil.copytree(TOP / "crates" / crate, to / "crates" / crate, ignore=shutil.ignore_patterns("out", "must-fail", "planted"))
+    for edit in edits:
+        folder = to / "crates" / edit.parent.parent.name / "must-fail"
+        folder.mkdir(exist_ok=True)
+        shutil.copy(edit, folder)
+    (to / "crates.txt").write_text("".join(f"{line}\n" for line in crates.values()))
+    shutil.copy(TOP / "HANDLES", to)
+
+
 def refused(said):
     """How many edits of each crate were refused, by what `rt ci` said."""
     return collections.Counter(re.findall(r"^rt: must-fail (\w+)/[\w.-]+\.edit: refused, as it must be", said, re.M))
@@ -116,16 +137,14 @@ def try_them(names):
     lacking = set(names) - set(crates)
     if lacking:
         sys.exit(f"no planted edits: {' '.join(sorted(lacking))}")
+    lines, below = sources.lines_in(sources.crates_txt(TOP)), sources.all_crates(TOP)
+    needed = {*crates, *(other for crate in crates for other in sources.all_below(crate, below))}
     sums = {crate: sum_of(crate) for crate in crates}
     with tempfile.TemporaryDirectory(prefix="planted-") as room:
         copy = pathlib.Path(room) / "copy"
-        shutil.copytree(TOP / "crates", copy / "crates", ignore=shutil.ignore_patterns("out", "must-fail"))
-        for file in ("crates.txt", "HANDLES"):
-            shutil.copy(TOP / file, copy)
-        for crate in crates:
-            (copy / "crates" / crate / "planted").rename(copy / "crates" / crate / "must-fail")
+        lay_out({name: line for name, line in lines.items() if name in needed}, sum(crates.values(), []), copy)
         said = ""
-        with subprocess.Popen(["rt", "ci", *crates], cwd=copy, stdout=subprocess.PIPE, stderr=subprocess.STDOUT, text=True) as running:
+        with subprocess.Popen(["rt", "ci"], cwd=copy, stdout=subprocess.PIPE, stderr=subprocess.STDOUT, text=True) as running:
             for line in running.stdout:
                 said += line
                 print(line.replace(f"{copy}/", ""), end="", flush=True)

@@ -81,7 +81,7 @@ fn lend_results<'a>(
 
 impl OwnedRange {
     /// A range without results.
-    pub fn new(alloc: Global, start: Bytes, end: Bytes, exhausted: bool) -> OwnedRange
+    pub(crate) fn new(alloc: Global, start: Bytes, end: Bytes, exhausted: bool) -> OwnedRange
         requires start { IsTrue (is_bound start) }
         requires end { IsTrue (is_bound end) }
         ensures { result ≡ record { start = start; end = end; exhausted = exhausted; results = [] } }

@@ -1,0 +1,13 @@
+//! Calls of public functions that nothing else in the product calls. A proof of them shows that a caller outside of their
+//! crates can meet what they require.
+#![tactic(auto)]
+
+mod block_job;
+mod message_code;
+mod plain_block;
+mod publishing;
+
+pub use block_job::job_of;
+pub use message_code::message_code;
+pub use plain_block::flags_of;
+pub use publishing::{is_linked, publish_linked};
