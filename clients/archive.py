@@ -45,13 +45,22 @@ def missing():
     return [name for name in sources.all_below(CRATE, sources.crates_below(CRATE)) if not library(name).exists()]
 
 
+def is_current():
+    """Whether the archive is there, and newer than all sources."""
+    return ARCHIVE.exists() and ARCHIVE.stat().st_mtime >= newest_source(sources.crates_below(CRATE))
+
+
+def paths():
+    """That of the crate, and the kit's, by which it allocates."""
+    return [ARCHIVE, sources.kit() / "c" / "liblibc_c.a"]
+
+
 def archives():
-    """That of the crate, which is built unless it is newer than all sources, and the kit's, by which it allocates."""
-    kit, crates = sources.kit(), sources.crates_below(CRATE)
-    if not ARCHIVE.exists() or ARCHIVE.stat().st_mtime < newest_source(crates):
+    """Both. That of the crate is built unless it is current."""
+    if not is_current():
         print("archive: builds the library", flush=True)
         if not missing():
-            build(kit, crates)
+            build(sources.kit(), sources.crates_below(CRATE))
         elif subprocess.run(["rt", "lib"], cwd=TOP / "crates" / CRATE, stdout=subprocess.DEVNULL).returncode:
             sys.exit(f"archive: rt lib doesn't build {CRATE}")
-    return [ARCHIVE, kit / "c" / "liblibc_c.a"]
+    return paths()
