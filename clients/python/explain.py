@@ -1,29 +1,27 @@
 #!/usr/bin/env python3
 """explain.py [--verify] CHANNEL KEYS BLOCK..: prints the lines of `fabcommit explain`.
 
-With --verify the signatures are checked here, as run.py does. The library is libfabcommit_c.so, or what FABCOMMIT_SO names.
+With --verify the signatures are checked here, as run.py does.
 """
 import sys
 
-from binding import ROLES
-from fabcommit import Ledger
-from run import keys_in, verifier
+from fabcommit.reasons import (
+    AdminUnsatisfied, BadSignature, ChaincodeUnsatisfied, KeyUnsatisfied, NamedUnsatisfied, NamespaceRepeats, NoAdminPolicy, NoFault,
+    NotAlone, NoTransaction, OtherChannel, OtherId, PhantomConflict, PolicyUnreadable, PolicyWriteRepeats, ReadConflict, ReadRepeats,
+    ResultFalls, ResultLeaves, Touched, Undefined, UpdateUndefined, UpdateUnreadable, UsedId, WriteRepeats,
+)
+from run import opened
 
-NAMES = {
-    0: "VALID", 2: "BAD_PAYLOAD", 4: "BAD_CREATOR_SIGNATURE", 6: "INVALID_CONFIG_TRANSACTION", 8: "BAD_PROPOSAL_TXID",
-    9: "DUPLICATE_TXID", 10: "ENDORSEMENT_POLICY_FAILURE", 11: "MVCC_READ_CONFLICT", 12: "PHANTOM_READ_CONFLICT",
-    14: "TARGET_CHAIN_NOT_FOUND", 22: "BAD_RWSET", 25: "INVALID_CHAINCODE",
+# of each kind of reason its first word, and what follows: parts of the reason, or words as they are
+WORDS = {
+    NoFault: "", NoTransaction: "", BadSignature: "creator creator", OtherChannel: "channel name", OtherId: "wanted id",
+    UsedId: "used used used_flag", NotAlone: "not-alone", NoAdminPolicy: "no-admin-policy", UpdateUndefined: "undefined name",
+    UpdateUnreadable: "policy text_fault", AdminUnsatisfied: "admin lack", Undefined: "undefined name", NamespaceRepeats: "repeated name",
+    ReadRepeats: "repeated name reads key", WriteRepeats: "repeated name writes key", PolicyWriteRepeats: "repeated name policies key",
+    ResultFalls: "fallen range places", ResultLeaves: "outside range places", PolicyUnreadable: "policy name key text_fault",
+    Touched: "touched name key tx", KeyUnsatisfied: "key name key lack", ChaincodeUnsatisfied: "chaincode name key lack",
+    NamedUnsatisfied: "named name lack", ReadConflict: "read name key versions by", PhantomConflict: "range range versions exhausted by",
 }
-# of each kind of reason its first words, and which of the parts below follow
-KINDS = [
-    [], [], ["creator", "identities"], ["channel", "name"], ["wanted", "id"], ["used", "use"], ["not-alone"], ["no-admin-policy"],
-    ["undefined", "name"], ["policy", "text_fault"], ["admin", "lack"], ["undefined", "name"], ["repeated", "name"],
-    ["repeated", "name", "reads", "key"], ["repeated", "name", "writes", "key"], ["repeated", "name", "policies", "key"],
-    ["fallen", "range", "places"], ["outside", "range", "places"], ["policy", "name", "key", "text_fault"],
-    ["touched", "name", "key", "tx"], ["key", "name", "key", "lack"], ["chaincode", "name", "key", "lack"], ["named", "name", "lack"],
-    ["read", "name", "key", "versions", "by"], ["range", "range", "versions", "exhausted", "by"],
-]
-TEXT_FAULTS = [None, "too-large", "syntax", "role", "threshold", "too-deep"]
 
 
 def word(octets):
@@ -31,93 +29,90 @@ def word(octets):
     return "".join(spelled) or "%"
 
 
-class Words:
+def who(identity):
+    return f"{word(identity.org)}:{identity.role.name.lower()}:{word(identity.label)}"
+
+
+def flag(number):
+    return [int(number), number.name]
+
+
+def version(seen):
+    return ["absent"] if seen is None else [seen.block, seen.tx]
+
+
+class Parts:
     """The words of the parts of a reason, each by its name."""
 
-    def __init__(self, reason, identities, pool):
-        self.reason, self.pool = reason, pool
-        self.named = identities[reason.first_identity : reason.first_identity + reason.signers + reason.refused]
+    def __init__(self, reason):
+        self.reason = reason
 
-    def bytes(self, piece):
-        return self.pool[piece.at : piece.at + piece.len]
+    def creator(self):
+        return [who(self.reason.creator)]
 
-    def who(self, identities):
-        return [f"{word(self.bytes(i.org))}:{ROLES[i.role].decode()}:{word(self.bytes(i.label))}" for i in identities]
+    def used(self):
+        return version(self.reason.used)
 
-    def identities(self):
-        return self.who(self.named)
-
-    def use(self):
-        reason = self.reason
-        return [reason.block, reason.tx, reason.used_flag, NAMES[reason.used_flag]]
+    def used_flag(self):
+        return flag(self.reason.used_flag)
 
     def text_fault(self):
-        return [TEXT_FAULTS[self.reason.text_fault]]
+        return [self.reason.text_fault.name.lower().replace("_", "-")]
 
     def lack(self):
-        reason = self.reason
-        signers, refused = self.named[: reason.signers], self.named[reason.signers :]
-        words = [self.bytes(reason.policy).decode(), *self.who(signers), *["refused"] * bool(refused), *self.who(refused)]
-        if reason.has_missing:
-            role = "member" if reason.missing_role == 4 else ROLES[reason.missing_role].decode()
-            words += ["missing", f"{word(self.bytes(reason.missing_org))}.{role}"]
-        return words + ["order"] * reason.another_order
+        lack = self.reason.lack
+        words = [lack.policy, *map(who, lack.signers), *["refused"] * bool(lack.refused), *map(who, lack.refused)]
+        if lack.missing:
+            role = "member" if lack.missing.role is None else lack.missing.role.name.lower()
+            words += ["missing", f"{word(lack.missing.org)}.{role}"]
+        return words + ["order"] * lack.another_order
 
     def range(self):
-        return [*(word(self.bytes(getattr(self.reason, part))) for part in ("name", "start", "end")), "key", *self.piece("key")]
+        reason = self.reason
+        return [word(reason.name), word(reason.start), word(reason.end), "key", word(reason.key)]
 
     def places(self):
         return ["range", self.reason.range_place, "result", self.reason.result_place]
 
-    def tx(self):
-        return [self.reason.tx]
-
     def versions(self):
-        seen = lambda version: [version.block, version.tx] if version.is_there else ["absent"]
-        return ["was", *seen(self.reason.read), "is", *seen(self.reason.there)]
+        return ["was", *version(self.reason.read), "is", *version(self.reason.there)]
 
     def exhausted(self):
         return ["all" if self.reason.exhausted else "part"]
 
     def by(self):
-        return ["by", self.reason.tx] if self.reason.has_tx else []
+        return [] if self.reason.by is None else ["by", self.reason.by]
 
-    def piece(self, name):
-        return [word(self.bytes(getattr(self.reason, name)))]
-
-    def all(self):
-        """Those behind the flag."""
-        first, *parts = KINDS[self.reason.kind] or [None]
-        words = [first] if first else []
-        for part in parts:
-            if part in ("name", "key", "id"):
-                words += self.piece(part)
-            else:
-                words += getattr(self, part)() if hasattr(self, part) else [part]
-        return words
+    def named(self, name):
+        if hasattr(self, name):
+            return getattr(self, name)()
+        plain = getattr(self.reason, name, name)
+        return [word(plain) if isinstance(plain, bytes) else plain]
 
 
-def lines(reasons, identities, pool):
+def words_of(reason):
+    """Those after the flag."""
+    first, _, rest = WORDS[type(reason)].partition(" ")
+    parts = Parts(reason)
+    return [first] * bool(first) + [said for name in rest.split() for said in parts.named(name)]
+
+
+def lines(reasons):
     for place, reason in enumerate(reasons):
-        yield " ".join(map(str, [place, reason.flag, NAMES[reason.flag], *Words(reason, identities, pool).all()]))
+        yield " ".join(map(str, [place, *flag(reason.flag), *words_of(reason)]))
 
 
 def main(words):
-    verified = words[:1] == ["--verify"]
-    channel, keys, *paths = words[verified:]
-    channel, keys = open(channel, "rb").read(), open(keys, "rb").read()
-    verify = verifier(keys_in(keys)) if verified else None
-    ledger = Ledger(channel, b"" if verified else keys)
-    *before, last = (open(path, "rb").read() for path in paths)
-    for block in before:
-        ledger.submit(block, verify)
-    explained = ledger.explain(last, verify)
-    # which tells the block's header hash
-    receipt = ledger.submit(last, verify)
-    print("block", receipt.number, bytes(receipt.header_hash).hex())
-    for line in lines(*explained):
+    ledger, verify, (*before, last) = opened(words)
+    with ledger:
+        for block in before:
+            ledger.submit(block, verify)
+        reasons = ledger.explain(last, verify)
+        # which tells the block's header hash
+        receipt = ledger.submit(last, verify)
+    print("block", receipt.number, receipt.header_hash.hex())
+    for line in lines(reasons):
         print(line)
-    ledger.close()
 
 
 if __name__ == "__main__":

@@ -1,67 +1,45 @@
 #!/usr/bin/env python3
 """run.py [--verify] CHANNEL KEYS BLOCK..: prints the lines of `fabcommit run`.
 
-With --verify the signatures are checked here, by HMAC as the key book does, and the library is given no keys. The library is
-libfabcommit_c.so, or what FABCOMMIT_SO names.
+With --verify the signatures are checked here, by HMAC as the key book does, and the library is given no keys.
 """
-import hashlib
-import hmac
-import re
 import sys
+from pathlib import Path
 
-from binding import MALFORMED, MEMORY, OLD_VERSION, WRONG_NUMBER
-from fabcommit import Ledger, Refused
-
-
-def word_bytes(word):
-    """What a word spells: %XX is a byte, % alone no bytes."""
-    return b"" if word == b"%" else re.sub(rb"%([0-9A-Fa-f]{2})", lambda found: bytes.fromhex(found[1].decode()), word)
+from fabcommit import Ledger, Malformed, OldVersion, OutOfMemory, Refused, WrongNumber
+from keybook import keys_in, verifier
 
 
-def keys_in(text):
-    keys = {}
-    for line in text.split(b"\n"):
-        words = line.split()
-        if words and not words[0].startswith(b"#"):
-            org, role, label = words[0].split(b":", 2)
-            keys[org, role, word_bytes(label)] = bytes.fromhex(words[1].decode())
-    return keys
-
-
-def verifier(keys):
-    def verify(org, role, label, message, signature):
-        key = keys.get((org, role, label))
-        return key is not None and hmac.digest(key, message, hashlib.sha256) == signature
-
-    return verify
+def opened(words):
+    """A ledger of what the command line names, what it checks signatures by if the library doesn't, and the blocks."""
+    verified = words[:1] == ["--verify"]
+    channel, keys, *blocks = (Path(word).read_bytes() for word in words[verified:])
+    return Ledger(channel, b"" if verified else keys), verifier(keys_in(keys)) if verified else None, blocks
 
 
 def refusal(place, refused):
-    line = f"refused {place} C{8 if refused.code == OLD_VERSION else refused.code}"
-    if refused.code == MALFORMED:
-        line += f" B{refused.receipt.got}"
-    if refused.code == WRONG_NUMBER:
-        line += f" want {refused.receipt.number} got {refused.receipt.got}"
+    # the command line has one more code before that of an old version
+    line = f"refused {place} C{8 if isinstance(refused, OldVersion) else refused.code}"
+    if isinstance(refused, Malformed):
+        line += f" B{refused.fault}"
+    if isinstance(refused, WrongNumber):
+        line += f" want {refused.wanted} got {refused.got}"
     return line
 
 
 def main(words):
-    verified = words[:1] == ["--verify"]
-    channel, keys, *blocks = words[verified:]
-    channel, keys = open(channel, "rb").read(), open(keys, "rb").read()
-    verify = verifier(keys_in(keys)) if verified else None
-    ledger = Ledger(channel, b"" if verified else keys)
+    ledger, verify, blocks = opened(words)
     status = 0
-    for place, path in enumerate(blocks, 1):
-        try:
-            receipt = ledger.submit(open(path, "rb").read(), verify)
-            print("accepted", receipt.number, bytes(receipt.header_hash).hex(), *ledger.flags(receipt.number))
-        except Refused as refused:
-            if refused.code == MEMORY:
+    with ledger:
+        for place, block in enumerate(blocks, 1):
+            try:
+                receipt = ledger.submit(block, verify)
+                print("accepted", receipt.number, receipt.header_hash.hex(), *map(int, ledger.flags(receipt.number)))
+            except OutOfMemory:
                 return 4
-            print(refusal(place, refused))
-            status = 1
-    ledger.close()
+            except Refused as refused:
+                print(refusal(place, refused))
+                status = 1
     return status
 
 

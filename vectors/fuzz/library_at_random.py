@@ -24,17 +24,19 @@ TOP = pathlib.Path(__file__).resolve().parent.parent.parent
 sys.path += [str(TOP / "vectors"), str(TOP / "vectors" / "fuzz"), str(TOP / "clients" / "python")]
 
 import answers
-from asking import Refused
-from binding import CLOSED, NONE, SMALL, Identity, Piece, Reason, ReasonSizes, Receipt, Row, S, Sizes, Verdict, lib
 from committer import World
-from explain import KINDS, lines as lines_said
+from explain import lines as lines_said
 from explained import CHANNEL, KEYS, each_kind
 from explaining import explained
-from fabcommit import Ledger
+from fabcommit import Refused
+from fabcommit.binding import Identity, Piece, Reason, ReasonSizes, Receipt, Row, S, Sizes, Verdict, lib
+from fabcommit.reasons import KINDS
+from keybook import keys_in, verifier
 from policies import read_policy
-from run import keys_in, refusal, verifier
+from run import refusal
 from scripts import accepts, drafted, keys_of
 from scripts_at_random import ADMIN, Trial, good_lines, raw_lines, second_lines, words_said
+from tuples import CLOSED, NONE, SMALL, Ledger
 from updates_at_random import UpdateTrial
 from words import word
 
