@@ -1,0 +1,143 @@
+//! Rows and past writes, one by one. What `ledger.rs` says of its calls goes for those here.
+use crate::handle::Handle;
+use crate::pool::copied;
+use crate::{Error, Row, Version, Write};
+use fabcommit_sys as sys;
+use std::iter::FusedIterator;
+use std::vec::IntoIter;
+
+/// The rows of a namespace, in order of their keys. After an error there are none.
+pub struct Rows<'a> {
+    handle: &'a mut Handle,
+    namespace: Vec<u8>,
+    start: Vec<u8>,
+    end: Vec<u8>,
+    at_once: usize,
+    taken: IntoIter<Row>,
+    more: bool,
+}
+
+impl<'a> Rows<'a> {
+    pub(crate) fn new(handle: &'a mut Handle, namespace: &[u8], start: &[u8], end: &[u8]) -> Rows<'a> {
+        let (namespace, start, end) = (namespace.to_vec(), start.to_vec(), end.to_vec());
+        Rows { handle, namespace, start, end, at_once: 256, taken: vec![].into_iter(), more: true }
+    }
+
+    /// Has each call of the library take so many rows, at least one, in place of 256.
+    pub fn at_once(self, rows: usize) -> Rows<'a> {
+        Rows { at_once: rows.max(1), ..self }
+    }
+
+    /// Takes the next rows.
+    fn take_more(&mut self) -> Result<(), Error> {
+        let (mut pool, mut rows) = (vec![0; 1 << 12], vec![sys::fabcommit_scanned_row::default(); self.at_once]);
+        let (mut sizes, handle) = (sys::fabcommit_scan_sizes::default(), self.handle.raw());
+        loop {
+            let code = unsafe {
+                sys::fabcommit_scan(
+                    handle,
+                    self.namespace.as_ptr(),
+                    self.namespace.len(),
+                    self.start.as_ptr(),
+                    self.start.len(),
+                    self.end.as_ptr(),
+                    self.end.len(),
+                    pool.as_mut_ptr(),
+                    pool.len(),
+                    rows.as_mut_ptr(),
+                    rows.len(),
+                    &mut sizes,
+                )
+            };
+            match code {
+                sys::FABCOMMIT_OK => break,
+                sys::FABCOMMIT_SMALL => pool.resize(sizes.pool, 0),
+                _ => return Err(Error::of(code, 0, 0)),
+            }
+        }
+        let row = |row: &sys::fabcommit_scanned_row| Row {
+            key: copied(&pool, row.key),
+            value: copied(&pool, row.value),
+            version: Version { block: row.block, tx: row.tx },
+        };
+        let taken: Vec<Row> = rows[..sizes.rows].iter().map(row).collect();
+        if let Some(last) = taken.last() {
+            // the least key above
+            self.start = [&last.key, &[0][..]].concat();
+        }
+        self.more = sizes.more;
+        self.taken = taken.into_iter();
+        Ok(())
+    }
+}
+
+impl Iterator for Rows<'_> {
+    type Item = Result<Row, Error>;
+
+    fn next(&mut self) -> Option<Result<Row, Error>> {
+        if self.taken.len() == 0 && self.more {
+            if let Err(error) = self.take_more() {
+                self.more = false;
+                return Some(Err(error));
+            }
+        }
+        self.taken.next().map(Ok)
+    }
+}
+
+impl FusedIterator for Rows<'_> {}
+
+/// The value writes and deletes of a key, the newest first.
+pub struct History {
+    pool: Vec<u8>,
+    writes: IntoIter<sys::fabcommit_past_write>,
+}
+
+impl History {
+    pub(crate) fn of(handle: &mut Handle, namespace: &[u8], key: &[u8]) -> Result<History, Error> {
+        let (mut pool, mut writes, mut sizes) = (vec![], vec![], sys::fabcommit_history_sizes::default());
+        loop {
+            let code = unsafe {
+                sys::fabcommit_history(
+                    handle.raw(),
+                    namespace.as_ptr(),
+                    namespace.len(),
+                    key.as_ptr(),
+                    key.len(),
+                    pool.as_mut_ptr(),
+                    pool.len(),
+                    writes.as_mut_ptr(),
+                    writes.len(),
+                    &mut sizes,
+                )
+            };
+            match code {
+                sys::FABCOMMIT_OK => return Ok(History { pool, writes: writes.into_iter() }),
+                sys::FABCOMMIT_SMALL => {
+                    pool.resize(sizes.pool, 0);
+                    writes.resize(sizes.writes, Default::default());
+                }
+                _ => return Err(Error::of(code, 0, 0)),
+            }
+        }
+    }
+}
+
+impl Iterator for History {
+    type Item = Write;
+
+    fn next(&mut self) -> Option<Write> {
+        self.writes.next().map(|write| Write {
+            id: copied(&self.pool, write.id),
+            value: (!write.deleted).then(|| copied(&self.pool, write.value)),
+            version: Version { block: write.block, tx: write.tx },
+        })
+    }
+
+    fn size_hint(&self) -> (usize, Option<usize>) {
+        self.writes.size_hint()
+    }
+}
+
+impl ExactSizeIterator for History {}
+impl FusedIterator for History {}
