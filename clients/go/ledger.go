@@ -1,6 +1,9 @@
-// A ledger of libfabcommit_c.a, by include/fabcommit.h.
-package main
+// Package fabcommit is the ledger of a committing peer, by include/fabcommit.h.
+//
+// It is linked by pkg-config, or, with the build tag nopkgconfig, by CGO_CFLAGS and CGO_LDFLAGS alone.
+package fabcommit
 
+// #cgo !nopkgconfig pkg-config: fabcommit
 // #include "fabcommit.h"
 // #include <stdlib.h>
 import "C"
@@ -9,11 +12,10 @@ import (
 	"fmt"
 	"runtime"
 	"sync"
-	"time"
 	"unsafe"
 )
 
-// What was refused: a code, and what was told of the block.
+// Refused tells why a call was refused: a code, and what was told of the block.
 type Refused struct {
 	Code        uint32
 	Number, Got uint64
@@ -21,21 +23,24 @@ type Refused struct {
 
 func (r Refused) Error() string { return fmt.Sprintf("code %d", r.Code) }
 
+// Receipt tells of an accepted block, and how many flags it has.
 type Receipt struct {
 	Number                 uint64
 	Flags                  int
 	HeaderHash, CommitHash [32]byte
 }
 
-// What a verifier is asked. It may be asked by several goroutines at once.
+// Request is a signature, with who is said to have signed what.
 type Request struct {
 	Org, Label, Message, Signature []byte
 	Role                           uint8
 }
 
+// Verify tells whether a signature is good. It may be asked by several goroutines at once.
 type Verify func(Request) bool
 
-// A ledger. One call at a time; C allocates the handle, so that no pointer of C's stands in Go's memory.
+// Ledger is a channel's ledger, for one call at a time. C allocates the handle, so that no pointer of C's stands in Go's
+// memory.
 type Ledger struct{ handle *C.fabcommit_handle }
 
 func at(bytes []byte) *C.uint8_t {
@@ -48,6 +53,7 @@ func at(bytes []byte) *C.uint8_t {
 // no pointer is null, also of an empty buffer
 var none [1]byte
 
+// Open gives the ledger of height 0 of a channel's text, with a text of keys if the library checks signatures.
 func Open(channel, keys []byte) (*Ledger, error) {
 	ledger := &Ledger{(*C.fabcommit_handle)(C.calloc(1, C.sizeof_fabcommit_handle))}
 	code := C.fabcommit_open(ledger.handle, at(channel), C.size_t(len(channel)), at(keys), C.size_t(len(keys)))
@@ -58,6 +64,7 @@ func Open(channel, keys []byte) (*Ledger, error) {
 	return ledger, nil
 }
 
+// Close frees what the ledger holds. It isn't used after that.
 func (l *Ledger) Close() {
 	C.fabcommit_close(l.handle)
 	C.free(unsafe.Pointer(l.handle))
@@ -82,51 +89,64 @@ func (l *Ledger) Submit(block []byte) (Receipt, error) {
 
 // SubmitBy hands in a block, whose signatures are checked by a verifier, side by side.
 func (l *Ledger) SubmitBy(block []byte, verify Verify) (Receipt, error) {
-	var spent time.Duration
-	return l.submitTimed(block, verify, &spent)
-}
-
-// submitTimed also tells how long the verifier took.
-func (l *Ledger) submitTimed(block []byte, verify Verify, spent *time.Duration) (Receipt, error) {
-	pool, verdicts, code := list(block)
-	if code != C.FABCOMMIT_OK {
+	listing, err := List(block)
+	if err != nil {
 		return l.Submit(block) // which says why it is no block
 	}
-	began := time.Now()
-	answer(pool, verdicts, verify)
-	*spent = time.Since(began)
+	listing.Answer(verify)
+	return l.SubmitListing(listing)
+}
+
+// SubmitListing hands in a block whose signatures were checked.
+func (l *Ledger) SubmitListing(listing *Listing) (Receipt, error) {
 	var r C.fabcommit_receipt
 	var first C.fabcommit_verdict
-	v := &first
-	if len(verdicts) > 0 {
-		v = &verdicts[0]
+	block, pool, v := listing.block, listing.pool, &first
+	if len(listing.verdicts) > 0 {
+		v = &listing.verdicts[0]
 	}
-	code = C.fabcommit_submit_by(l.handle, at(block), C.size_t(len(block)), at(pool), C.size_t(len(pool)), v, C.size_t(len(verdicts)), &r)
+	count := C.size_t(len(listing.verdicts))
+	code := C.fabcommit_submit_by(l.handle, at(block), C.size_t(len(block)), at(pool), C.size_t(len(pool)), v, count, &r)
 	return told(code, &r)
 }
 
-func list(block []byte) ([]byte, []C.fabcommit_verdict, C.uint32_t) {
+// Listing has the signatures that a block may ask about. It needs no ledger, so blocks may be listed and checked before
+// their turn.
+type Listing struct {
+	block, pool []byte
+	verdicts    []C.fabcommit_verdict
+}
+
+// List gives those of a block, none of which is accepted at first.
+func List(block []byte) (*Listing, error) {
 	var sizes C.fabcommit_sizes
 	var first C.fabcommit_verdict
 	code := C.fabcommit_list(at(block), C.size_t(len(block)), at(nil), 0, &first, 0, &sizes)
+	if code == C.FABCOMMIT_OK {
+		return &Listing{block: block}, nil
+	}
 	if code != C.FABCOMMIT_SMALL {
-		return nil, nil, code
+		return nil, Refused{Code: uint32(code)}
 	}
 	pool, verdicts := make([]byte, sizes.pool), make([]C.fabcommit_verdict, sizes.verdicts)
 	code = C.fabcommit_list(at(block), C.size_t(len(block)), at(pool), sizes.pool, &verdicts[0], sizes.verdicts, &sizes)
-	return pool, verdicts, code
+	if code != C.FABCOMMIT_OK {
+		return nil, Refused{Code: uint32(code)}
+	}
+	return &Listing{block, pool, verdicts}, nil
 }
 
-func answer(pool []byte, verdicts []C.fabcommit_verdict, verify Verify) {
-	part := func(p C.fabcommit_piece) []byte { return pool[p.at : p.at+p.len] }
+// Answer has a verifier answer each request, in goroutines.
+func (l *Listing) Answer(verify Verify) {
+	part := func(p C.fabcommit_piece) []byte { return l.pool[p.at : p.at+p.len] }
 	workers := runtime.GOMAXPROCS(0)
 	var done sync.WaitGroup
 	for w := 0; w < workers; w++ {
 		done.Add(1)
 		go func(w int) {
 			defer done.Done()
-			for i := w; i < len(verdicts); i += workers {
-				v := &verdicts[i]
+			for i := w; i < len(l.verdicts); i += workers {
+				v := &l.verdicts[i]
 				v.accepted = C.bool(verify(Request{part(v.org), part(v.label), part(v.message), part(v.signature), uint8(v.role)}))
 			}
 		}(w)

@@ -46,10 +46,11 @@ fn link_installed() {
     let mut asked = Command::new(&program);
     // of folders like /usr/lib, too, which the linker knows and rustc doesn't
     asked.args(["--libs", "fabcommit"]).args(is_static.then_some("--static")).env("PKG_CONFIG_ALLOW_SYSTEM_LIBS", "1");
-    let told = asked.output().unwrap_or_else(|e| failed(format!("{} doesn't run: {e}", program.to_string_lossy())));
+    let told =
+        asked.output().unwrap_or_else(|e| failed(format!("FABCOMMIT_LIB isn't set, and {program:?} doesn't run: {e}")));
     if !told.status.success() {
         let why = String::from_utf8_lossy(&told.stderr);
-        failed(format!("pkg-config knows no fabcommit, and FABCOMMIT_LIB isn't set\n{why}"));
+        failed(format!("FABCOMMIT_LIB isn't set, and pkg-config knows no fabcommit:\n{why}"));
     }
     for word in words(&String::from_utf8_lossy(&told.stdout)) {
         match word.split_at_checked(2) {

@@ -1,8 +1,8 @@
-//! threads CHANNEL BLOCK..: checks the signatures of the blocks on several threads, and hands them in one after the other.
+//! threads CHANNEL BLOCK..: checks the signatures of blocks on several threads, and hands these in one after the other.
 use fabcommit::{Error, Ledger, Listing, Request};
 use std::thread::{available_parallelism, scope};
 
-/// Your network's check of a signature stands here: an identity's certificate, and ECDSA over the message.
+/// Stands for your network's check, as by certificates and ECDSA. This one takes all signatures that aren't empty.
 fn is_good(request: &Request) -> bool {
     !request.signature.is_empty()
 }
@@ -14,7 +14,7 @@ fn checked(block: &[u8]) -> Result<Listing<'_>, Error> {
 }
 
 fn main() -> Result<(), Box<dyn std::error::Error>> {
-    let mut files = std::env::args().skip(1).map(std::fs::read);
+    let mut files = std::env::args().skip(1).map(|path| std::fs::read(&path).map_err(|e| format!("{path}: {e}")));
     let mut ledger = Ledger::open(&files.next().ok_or("threads CHANNEL BLOCK..")??, b"")?;
     let blocks = files.collect::<Result<Vec<_>, _>>()?;
     // each thread of a group checks a block
@@ -23,12 +23,10 @@ fn main() -> Result<(), Box<dyn std::error::Error>> {
             let checks: Vec<_> = group.iter().map(|block| threads.spawn(|| checked(block))).collect();
             for check in checks {
                 let receipt = ledger.submit_by(&check.join().expect("a check doesn't panic")?)?;
+                let hash: String = receipt.header_hash.iter().map(|byte| format!("{byte:02x}")).collect();
                 let flags = ledger.flags(receipt.number)?.unwrap_or_default();
-                println!(
-                    "block {}:{}",
-                    receipt.number,
-                    flags.iter().map(|flag| format!(" {}", flag.number())).collect::<String>()
-                );
+                let flags: String = flags.iter().map(|flag| format!(" {}", flag.number())).collect();
+                println!("accepted {} {hash}{flags}", receipt.number);
             }
             Ok::<_, Error>(())
         })?;

@@ -7,6 +7,7 @@ import (
 	"crypto/hmac"
 	"crypto/sha256"
 	"encoding/hex"
+	"fabcommit"
 	"flag"
 	"fmt"
 	"net/url"
@@ -25,7 +26,7 @@ func wordBytes(word string) string {
 	return spelled
 }
 
-func verifier(text []byte) Verify {
+func verifier(text []byte) fabcommit.Verify {
 	keys := map[string][]byte{}
 	for _, line := range bytes.Split(text, []byte("\n")) {
 		words := bytes.Fields(line)
@@ -35,7 +36,7 @@ func verifier(text []byte) Verify {
 			keys[parts[0]+":"+parts[1]+":"+wordBytes(parts[2])] = key
 		}
 	}
-	return func(r Request) bool {
+	return func(r fabcommit.Request) bool {
 		key, there := keys[string(r.Org)+":"+roles[r.Role]+":"+string(r.Label)]
 		code := hmac.New(sha256.New, key)
 		code.Write(r.Message)
@@ -52,7 +53,7 @@ func read(path string) []byte {
 	return bytes
 }
 
-func refusal(place int, r Refused) string {
+func refusal(place int, r fabcommit.Refused) string {
 	switch r.Code {
 	case 1:
 		return fmt.Sprintf("refused %d C1 B%d", place, r.Got)
@@ -77,7 +78,7 @@ func main() {
 	if *verified {
 		keys = nil
 	}
-	ledger, err := Open(channel, keys)
+	ledger, err := fabcommit.Open(channel, keys)
 	if err != nil {
 		fmt.Fprintln(os.Stderr, err)
 		os.Exit(2)
@@ -86,13 +87,13 @@ func main() {
 	status := 0
 	for i, path := range flag.Args()[2:] {
 		block := read(path)
-		var receipt Receipt
+		var receipt fabcommit.Receipt
 		if *verified {
 			receipt, err = ledger.SubmitBy(block, verify)
 		} else {
 			receipt, err = ledger.Submit(block)
 		}
-		if refused, is := err.(Refused); is {
+		if refused, is := err.(fabcommit.Refused); is {
 			fmt.Println(refusal(i+1, refused))
 			status = 1
 			continue

@@ -11,6 +11,7 @@ import (
 	"crypto/x509/pkix"
 	"encoding/binary"
 	"encoding/hex"
+	"fabcommit"
 	"fmt"
 	"math/big"
 	"os"
@@ -87,7 +88,7 @@ func (m member) sign(message []byte) []byte {
 	return counted(2, must(ecdsa.SignASN1(rand.Reader, m.key, digest[:])))
 }
 
-func (n *network) verify(r Request) bool {
+func (n *network) verify(r fabcommit.Request) bool {
 	certificate, there := n.certificates[string(identity(string(r.Org), r.Role, string(r.Label)))]
 	digest := sha256.Sum256(r.Message)
 	return there && ecdsa.VerifyASN1(certificate.PublicKey.(*ecdsa.PublicKey), digest[:], r.Signature)
@@ -128,10 +129,13 @@ func timeMade(size int) {
 	n := makeNetwork()
 	block := n.block(size)
 	for turn := 0; turn < 5; turn++ {
-		ledger := must(Open([]byte(channelText), nil))
+		ledger := must(fabcommit.Open([]byte(channelText), nil))
 		began := time.Now()
-		checking := time.Duration(0)
-		receipt := must(ledger.submitTimed(block, n.verify, &checking))
+		listing := must(fabcommit.List(block))
+		listed := time.Now()
+		listing.Answer(n.verify)
+		checking := time.Since(listed)
+		receipt := must(ledger.SubmitListing(listing))
 		whole := time.Since(began)
 		valid := 0
 		for _, flag := range must(ledger.Flags(receipt)) {
