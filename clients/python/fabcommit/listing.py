@@ -15,9 +15,8 @@ class Listing:
 
     def __init__(self, block: bytes) -> None:
         sizes = Sizes()
-        pool, verdicts = filled(
-            lambda *words: lib.fabcommit_list(block, len(block), *words, sizes), lambda: (sizes.pool, sizes.verdicts), (Octet, 0), (Verdict, 0)
-        )
+        call = lambda *room: lib.fabcommit_list(block, len(block), *room, sizes)
+        pool, verdicts = filled(call, lambda: (sizes.pool, sizes.verdicts), (Octet, 0), (Verdict, 0))
         self.block, self._pool, self._verdicts, self._sizes = block, pool, verdicts, sizes
         octets = pool.raw
         piece = lambda at: part(octets, at)
@@ -31,7 +30,8 @@ class Listing:
 
     def answer(self, answers: Iterable[bool]) -> "Listing":
         """Says of each request, in their order, whether its signature is good."""
-        for place, is_good in zip(range(len(self)), answers, strict=True):
+        # all are asked before the first is set, so that a fault leaves the listing as it was
+        for place, (_, is_good) in enumerate(list(zip(self.requests, answers, strict=True))):
             self._verdicts[place].accepted = is_good
         return self
 
