@@ -1,13 +1,14 @@
-/* The committing peer's ledger for C, and for what calls C: libfabcommit_c.a, of the crate fabcommit_c.
+/* The committing peer's ledger for C, and for what calls C: libfabcommit_c.a, of the crate fabcommit_c, of which clients/install makes
+ * libfabcommit.a and libfabcommit.so.
  *
  * What the caller owes, and nothing checks:
  * - A handle is 16 bytes of the caller's. Of zeros it is closed. It is read and written by these calls alone, and never used from two
  *   copies. Calls on one handle come one after the other; from thread to thread it may go, as under a lock.
- * - No buffer overlaps another one or the handle. No pointer is null, also where its length is 0. A bool is 0 or 1.
+ * - No buffer overlaps another one or the handle. No pointer is null, even if its length is 0. A bool is 0 or 1.
  * - malloc, realloc and free are one allocator's; no call comes from a signal handler, or from a forked child of a process with threads.
  *
  * What a call promises: it answers a code below, whatever else it is given. A code other than FABCOMMIT_OK has changed nothing, but what
- * is told as said. A buffer is written whole or, where it is too small, not at all: then the code is FABCOMMIT_SMALL, and what is needed
+ * is told as said. A buffer is written whole or, if it is too small, not at all: then the code is FABCOMMIT_SMALL, and what is needed
  * was told. Beside a length stands how many there are, not how much was given. */
 #ifndef FABCOMMIT_H
 #define FABCOMMIT_H
@@ -28,7 +29,7 @@ enum {
     FABCOMMIT_WRONG_NUMBER = 2,    /* the block's number isn't the height */
     FABCOMMIT_WRONG_PREVIOUS = 3,  /* its previous hash isn't the last header hash */
     FABCOMMIT_WRONG_DATA_HASH = 4, /* its data hash isn't that of its transactions */
-    FABCOMMIT_OLD_VERSION = 5,     /* a block of version 1 behind one of version 2 */
+    FABCOMMIT_OLD_VERSION = 5,     /* a block of version 1 after one of version 2 */
     FABCOMMIT_MEMORY = 6,          /* an allocation was refused */
     FABCOMMIT_CLOSED = 7,          /* the handle is closed */
     FABCOMMIT_NO_TEXT = 8,         /* a text isn't UTF-8 */
@@ -70,7 +71,7 @@ typedef struct { uint64_t block; uint32_t tx; size_t len; } fabcommit_row;
 /* Where an id was used first, and that transaction's flag. */
 typedef struct { uint64_t block; uint32_t tx; uint8_t flag; } fabcommit_use;
 
-/* A row of a scan, whose key and value are pieces of a pool. `more` tells whether rows are left behind those. */
+/* A row of a scan, whose key and value are pieces of a pool. `more` tells whether rows are left after those. */
 typedef struct { fabcommit_piece key, value; uint64_t block; uint32_t tx; } fabcommit_scanned_row;
 typedef struct { size_t pool, rows; bool more; } fabcommit_scan_sizes;
 
@@ -107,7 +108,7 @@ enum {
     FABCOMMIT_REASON_PHANTOM_CONFLICT = 24        /* range: the same, and start, end, exhausted */
 };
 
-/* The version of a key that was read, or that is there. Where the key was absent, `is_there` is false and the others are 0. */
+/* The version of a key that was read, or that is there. If the key was absent, `is_there` is false and the others are 0. */
 typedef struct { uint64_t block; uint32_t tx; bool is_there; } fabcommit_seen;
 
 /* An identity, whose role is as in a verdict. */
@@ -141,7 +142,7 @@ typedef struct { uint64_t number, got; size_t pool, reasons, identities; } fabco
 /* Tells the version of the interface, and the first and last version of the blocks that the library reads. */
 void fabcommit_versions(fabcommit_version_numbers *versions);
 
-/* Opens the ledger of height 0 of a channel text, with a text of keys, which is empty where the caller checks all signatures. What the
+/* Opens the ledger of height 0 of a channel text, with a text of keys, which is empty if the caller checks all signatures. What the
  * handle held is freed. */
 uint32_t fabcommit_open(fabcommit_handle *handle, const uint8_t *channel, size_t channel_len, const uint8_t *keys, size_t keys_len);
 
@@ -157,7 +158,7 @@ uint32_t fabcommit_submit(fabcommit_handle *handle, const uint8_t *block, size_t
 uint32_t fabcommit_list(const uint8_t *block, size_t block_len, uint8_t *pool, size_t pool_len, fabcommit_verdict *verdicts,
                         size_t verdicts_len, fabcommit_sizes *sizes);
 
-/* Hands in the next block where the caller has checked the signatures: one is good if a verdict on its identity, message and bytes
+/* Hands in the next block, whose signatures the caller has checked: one is good if a verdict on its identity, message and bytes
  * accepts it. What no verdict speaks of is refused. */
 uint32_t fabcommit_submit_by(fabcommit_handle *handle, const uint8_t *block, size_t block_len, const uint8_t *pool, size_t pool_len,
                              const fabcommit_verdict *verdicts, size_t verdicts_len, fabcommit_receipt *receipt);
@@ -183,7 +184,7 @@ uint32_t fabcommit_definition(fabcommit_handle *handle, const uint8_t *chaincode
 uint32_t fabcommit_first_use(fabcommit_handle *handle, const uint8_t *id, size_t id_len, fabcommit_use *first);
 
 /* Tells the rows of a namespace from a start to before an end, which is no bound if it is empty: as many as `rows` has room for. To go on
- * where `more` is set, start at the last key with a zero byte behind it. In the pool stand, for one row after the other, key and value. */
+ * if `more` is set, start at the last key with a zero byte after it. In the pool stand, for one row after the other, key and value. */
 uint32_t fabcommit_scan(fabcommit_handle *handle, const uint8_t *ns, size_t ns_len, const uint8_t *start, size_t start_len,
                         const uint8_t *end, size_t end_len, uint8_t *pool, size_t pool_len, fabcommit_scanned_row *rows, size_t rows_len,
                         fabcommit_scan_sizes *sizes);
