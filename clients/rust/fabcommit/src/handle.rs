@@ -1,20 +1,19 @@
 //! A handle of the library, open from its making on, and closed as it is dropped.
+use crate::calls::call;
 use crate::Error;
 use fabcommit_sys as sys;
 use std::ptr::null_mut;
 
 pub(crate) struct Handle(sys::fabcommit_handle);
 
-// SAFETY: a handle with all that it holds may go to another thread (`c_handle::a_handle_may_be_sent`). It isn't `Sync`,
-// but then all its calls take `&mut self`, since each takes the ledger out of the handle and puts it back.
+// SAFETY: a handle with all that it holds may go to another thread (`c_handle::a_handle_may_be_sent`). It isn't `Sync`:
+// each call takes the ledger out of the handle and puts it back, also one that only asks.
 unsafe impl Send for Handle {}
 
 impl Handle {
     pub(crate) fn open(channel: &[u8], keys: &[u8]) -> Result<Handle, Error> {
         let mut handle = Handle(sys::fabcommit_handle { at: null_mut(), is_open: false });
-        // SAFETY: the handle is closed, and this value's alone; a slice's pointer isn't null.
-        let code =
-            unsafe { sys::fabcommit_open(&mut handle.0, channel.as_ptr(), channel.len(), keys.as_ptr(), keys.len()) };
+        let code = call!(fabcommit_open, to handle.raw(), in channel, in keys);
         if code == sys::FABCOMMIT_OK {
             Ok(handle)
         } else {
@@ -30,7 +29,6 @@ impl Handle {
 
 impl Drop for Handle {
     fn drop(&mut self) {
-        // SAFETY: the handle is this value's alone, and nothing uses it after this.
-        unsafe { sys::fabcommit_close(&mut self.0) }
+        call!(fabcommit_close, to self.raw())
     }
 }

@@ -1,8 +1,5 @@
 //! A ledger, and what it is asked.
-//!
-//! SAFETY of each call here: the handle is open, and the ledger's alone, which `&mut` lends for the call. The buffers are
-//! slices and vectors of the lengths that stand beside them, so no pointer is null, and what is written is borrowed by
-//! `&mut` and overlaps nothing.
+use crate::calls::call;
 use crate::explaining::Record;
 use crate::handle::Handle;
 use crate::{Error, Flag, History, Listing, Reason, Receipt, Row, Rows, Use, Version, Versions};
@@ -11,8 +8,7 @@ use fabcommit_sys as sys;
 /// The versions of the library.
 pub fn versions() -> Versions {
     let mut told = sys::fabcommit_version_numbers::default();
-    // SAFETY: it writes the numbers.
-    unsafe { sys::fabcommit_versions(&mut told) }
+    call!(fabcommit_versions, to &mut told);
     Versions { interface: told.interface, first_block: told.first_block, last_block: told.last_block }
 }
 
@@ -45,65 +41,30 @@ impl Ledger {
 
     /// Hands in the next block, whose signatures are checked by the ledger's keys.
     pub fn submit(&mut self, block: &[u8]) -> Result<Receipt, Error> {
-        let handle = self.handle.raw();
-        receipt(|told| unsafe { sys::fabcommit_submit(handle, block.as_ptr(), block.len(), told) })
+        receipt(|told| call!(fabcommit_submit, to self.handle.raw(), in block, to told))
     }
 
     /// Hands in the next block, whose signatures were checked.
     pub fn submit_by(&mut self, listing: &Listing) -> Result<Receipt, Error> {
-        let (handle, Listing { block, pool, verdicts }) = (self.handle.raw(), listing);
-        receipt(|told| unsafe {
-            sys::fabcommit_submit_by(
-                handle,
-                block.as_ptr(),
-                block.len(),
-                pool.as_ptr(),
-                pool.len(),
-                verdicts.as_ptr(),
-                verdicts.len(),
-                told,
-            )
-        })
+        let Listing { block, pool, verdicts } = listing;
+        receipt(|told| call!(fabcommit_submit_by, to self.handle.raw(), in block, in pool, in verdicts, to told))
     }
 
     /// Tells why each transaction of the next block would have its flag, by the ledger's keys, and commits nothing.
     pub fn explain(&mut self, block: &[u8]) -> Result<Vec<Reason>, Error> {
         let handle = self.handle.raw();
-        reasons(|pool, reasons, identities, sizes| unsafe {
-            sys::fabcommit_explain(
-                handle,
-                block.as_ptr(),
-                block.len(),
-                pool.as_mut_ptr(),
-                pool.len(),
-                reasons.as_mut_ptr(),
-                reasons.len(),
-                identities.as_mut_ptr(),
-                identities.len(),
-                sizes,
-            )
-        })
+        reasons(
+            |pool, reasons, identities, sizes| call!(fabcommit_explain, to handle, in block, out pool, out reasons, out identities, to sizes),
+        )
     }
 
     /// The same of a block whose signatures were checked.
     pub fn explain_by(&mut self, listing: &Listing) -> Result<Vec<Reason>, Error> {
         let (handle, Listing { block, pool: said, verdicts }) = (self.handle.raw(), listing);
-        reasons(|pool, reasons, identities, sizes| unsafe {
-            sys::fabcommit_explain_by(
-                handle,
-                block.as_ptr(),
-                block.len(),
-                said.as_ptr(),
-                said.len(),
-                verdicts.as_ptr(),
-                verdicts.len(),
-                pool.as_mut_ptr(),
-                pool.len(),
-                reasons.as_mut_ptr(),
-                reasons.len(),
-                identities.as_mut_ptr(),
-                identities.len(),
-                sizes,
+        reasons(|pool, reasons, identities, sizes| {
+            call!(
+                fabcommit_explain_by,
+                to handle, in block, in said, in verdicts, out pool, out reasons, out identities, to sizes
             )
         })
     }
@@ -111,33 +72,26 @@ impl Ledger {
     /// The number of the next block.
     pub fn height(&mut self) -> Result<u64, Error> {
         let mut height = 0;
-        done(unsafe { sys::fabcommit_height(self.handle.raw(), &mut height) })?;
+        done(call!(fabcommit_height, to self.handle.raw(), to &mut height))?;
         Ok(height)
     }
 
     /// The receipt of an accepted block.
     pub fn block(&mut self, number: u64) -> Result<Option<Receipt>, Error> {
-        let handle = self.handle.raw();
-        if_there(receipt(|told| unsafe { sys::fabcommit_block(handle, number, told) }))
+        if_there(receipt(|told| call!(fabcommit_block, to self.handle.raw(), to number, to told)))
     }
 
     /// The flags of an accepted block, one for each transaction.
     pub fn flags(&mut self, number: u64) -> Result<Option<Vec<Flag>>, Error> {
-        let handle = self.handle.raw();
-        let told =
-            octets(|flags, len| unsafe { sys::fabcommit_flags(handle, number, flags.as_mut_ptr(), flags.len(), len) });
+        let told = octets(|flags, len| call!(fabcommit_flags, to self.handle.raw(), to number, out flags, to len));
         Ok(if_there(told)?.map(|flags| flags.into_iter().map(Flag::of).collect()))
     }
 
     /// The row of a key.
     pub fn get(&mut self, namespace: &[u8], key: &[u8]) -> Result<Option<Row>, Error> {
-        let (handle, mut row) = (self.handle.raw(), sys::fabcommit_row::default());
+        let mut row = sys::fabcommit_row::default();
         let told = octets(|value, len| {
-            let (ns, room) = (namespace, value.len());
-            let code = unsafe {
-                let (ns, ns_len, key, key_len) = (ns.as_ptr(), ns.len(), key.as_ptr(), key.len());
-                sys::fabcommit_get(handle, ns, ns_len, key, key_len, &mut row, value.as_mut_ptr(), room)
-            };
+            let code = call!(fabcommit_get, to self.handle.raw(), in namespace, in key, to &mut row, out value);
             *len = row.len;
             code
         });
@@ -158,27 +112,20 @@ impl Ledger {
     /// The canonical text of the policy that a key has of its own.
     pub fn key_policy(&mut self, namespace: &[u8], key: &[u8]) -> Result<Option<String>, Error> {
         let handle = self.handle.raw();
-        text(octets(|text, len| unsafe {
-            let (ns, ns_len, key, key_len) = (namespace.as_ptr(), namespace.len(), key.as_ptr(), key.len());
-            sys::fabcommit_key_policy(handle, ns, ns_len, key, key_len, text.as_mut_ptr(), text.len(), len)
-        }))
+        text(octets(|text, len| call!(fabcommit_key_policy, to handle, in namespace, in key, out text, to len)))
     }
 
     /// The canonical text of a chaincode's policy.
     pub fn definition(&mut self, chaincode: &[u8]) -> Result<Option<String>, Error> {
-        let handle = self.handle.raw();
-        text(octets(|text, len| unsafe {
-            let (name, name_len) = (chaincode.as_ptr(), chaincode.len());
-            sys::fabcommit_definition(handle, name, name_len, text.as_mut_ptr(), text.len(), len)
-        }))
+        text(octets(|text, len| call!(fabcommit_definition, to self.handle.raw(), in chaincode, out text, to len)))
     }
 
     /// Where an id of 64 bytes was used first.
     pub fn first_use(&mut self, id: &[u8]) -> Result<Option<Use>, Error> {
         let mut first = sys::fabcommit_use::default();
-        let code = unsafe { sys::fabcommit_first_use(self.handle.raw(), id.as_ptr(), id.len(), &mut first) };
+        let told = done(call!(fabcommit_first_use, to self.handle.raw(), in id, to &mut first));
         let version = Version { block: first.block, tx: first.tx };
-        Ok(if_there(done(code))?.map(|()| Use { version, flag: Flag::of(first.flag) }))
+        Ok(if_there(told)?.map(|()| Use { version, flag: Flag::of(first.flag) }))
     }
 }
 

@@ -17,6 +17,7 @@
 //! [`Ledger::submit_by`].
 #![warn(missing_docs)]
 
+mod calls;
 mod error;
 mod explaining;
 mod handle;

@@ -1,4 +1,5 @@
 //! The signatures of a block, for a caller that checks them.
+use crate::calls::call;
 use crate::pool::part;
 use crate::{Error, Role};
 use fabcommit_sys as sys;
@@ -32,25 +33,13 @@ impl<'a> Listing<'a> {
     pub fn of(block: &'a [u8]) -> Result<Listing<'a>, Error> {
         let (mut pool, mut verdicts, mut sizes) = (vec![], vec![], sys::fabcommit_sizes::default());
         loop {
-            // SAFETY: buffers of this frame and of these lengths, of which none overlap; a slice's pointer isn't null.
-            let code = unsafe {
-                sys::fabcommit_list(
-                    block.as_ptr(),
-                    block.len(),
-                    pool.as_mut_ptr(),
-                    pool.len(),
-                    verdicts.as_mut_ptr(),
-                    verdicts.len(),
-                    &mut sizes,
-                )
-            };
-            match code {
+            match call!(fabcommit_list, in block, out pool, out verdicts, to &mut sizes) {
                 sys::FABCOMMIT_OK => return Ok(Listing { block, pool, verdicts }),
                 sys::FABCOMMIT_SMALL => {
                     pool.resize(sizes.pool, 0);
                     verdicts.resize(sizes.verdicts, Default::default());
                 }
-                _ => return Err(Error::of(code, 0, 0)),
+                code => return Err(Error::of(code, 0, 0)),
             }
         }
     }

@@ -1,4 +1,5 @@
-//! Rows and past writes, one by one. What `ledger.rs` says of its calls goes for those here.
+//! Rows and past writes, one by one.
+use crate::calls::call;
 use crate::handle::Handle;
 use crate::pool::copied;
 use crate::{Error, Row, Version, Write};
@@ -33,26 +34,11 @@ impl<'a> Rows<'a> {
         let (mut pool, mut rows) = (vec![0; 1 << 12], vec![sys::fabcommit_scanned_row::default(); self.at_once]);
         let (mut sizes, handle) = (sys::fabcommit_scan_sizes::default(), self.handle.raw());
         loop {
-            let code = unsafe {
-                sys::fabcommit_scan(
-                    handle,
-                    self.namespace.as_ptr(),
-                    self.namespace.len(),
-                    self.start.as_ptr(),
-                    self.start.len(),
-                    self.end.as_ptr(),
-                    self.end.len(),
-                    pool.as_mut_ptr(),
-                    pool.len(),
-                    rows.as_mut_ptr(),
-                    rows.len(),
-                    &mut sizes,
-                )
-            };
-            match code {
+            let (namespace, start, end) = (&self.namespace, &self.start, &self.end);
+            match call!(fabcommit_scan, to handle, in namespace, in start, in end, out pool, out rows, to &mut sizes) {
                 sys::FABCOMMIT_OK => break,
                 sys::FABCOMMIT_SMALL => pool.resize(sizes.pool, 0),
-                _ => return Err(Error::of(code, 0, 0)),
+                code => return Err(Error::of(code, 0, 0)),
             }
         }
         let row = |row: &sys::fabcommit_scanned_row| Row {
@@ -97,27 +83,13 @@ impl History {
     pub(crate) fn of(handle: &mut Handle, namespace: &[u8], key: &[u8]) -> Result<History, Error> {
         let (mut pool, mut writes, mut sizes) = (vec![], vec![], sys::fabcommit_history_sizes::default());
         loop {
-            let code = unsafe {
-                sys::fabcommit_history(
-                    handle.raw(),
-                    namespace.as_ptr(),
-                    namespace.len(),
-                    key.as_ptr(),
-                    key.len(),
-                    pool.as_mut_ptr(),
-                    pool.len(),
-                    writes.as_mut_ptr(),
-                    writes.len(),
-                    &mut sizes,
-                )
-            };
-            match code {
+            match call!(fabcommit_history, to handle.raw(), in namespace, in key, out pool, out writes, to &mut sizes) {
                 sys::FABCOMMIT_OK => return Ok(History { pool, writes: writes.into_iter() }),
                 sys::FABCOMMIT_SMALL => {
                     pool.resize(sizes.pool, 0);
                     writes.resize(sizes.writes, Default::default());
                 }
-                _ => return Err(Error::of(code, 0, 0)),
+                code => return Err(Error::of(code, 0, 0)),
             }
         }
     }
