@@ -26,6 +26,7 @@ class Staged:
         for folder in reversed(place.parents):
             if not folder.exists():
                 folder.mkdir()
+                folder.chmod(0o755)
                 self.made.append(folder)
         path = place.with_name(f".{place.name}.{os.getpid()}")
         self.ready.append((path, place))
