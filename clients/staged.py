@@ -34,8 +34,11 @@ class Staged:
 
     def file(self, place, content, mode=0o644):
         path = self.beside(place)
-        path.write_bytes(content)
-        path.chmod(mode)
+        try:
+            path.write_bytes(content)
+            path.chmod(mode)
+        except OSError as fault:
+            raise OSError(fault.errno, fault.strerror, str(place)) from None
 
     def link(self, place, target):
         self.beside(place).symlink_to(target)

@@ -40,28 +40,36 @@ class Lack:
 
 @dataclass(frozen=True)
 class Reason:
+    """A transaction's flag, and why it has it."""
+
     flag: Flag
     kind: ClassVar[int]
 
 
 @dataclass(frozen=True)
 class Named(Reason):
+    """It is about a namespace, a chaincode or a channel."""
+
     name: bytes
 
 
 @dataclass(frozen=True)
 class Keyed(Named):
+    """It is about a key of a namespace."""
+
     key: bytes
 
 
 @dataclass(frozen=True)
 class Unsatisfied(Keyed):
+    """A policy isn't satisfied that goes for a key."""
+
     lack: Lack
 
 
 @dataclass(frozen=True)
 class FaultyResult(Named):
-    """`key` is that of the result, and the places are those of the range in its namespace and of the result in the range."""
+    """It is about a result of a range. `key` is that of the result, and the places are those of the range in its namespace and of the result in the range."""
 
     start: bytes
     end: bytes

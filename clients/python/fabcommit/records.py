@@ -41,6 +41,8 @@ class Versions:
 
 @dataclass(frozen=True, slots=True)
 class Identity:
+    """A label and a role in an organization."""
+
     org: bytes
     role: Role
     label: bytes
@@ -79,6 +81,8 @@ class Version:
 
 @dataclass(frozen=True, slots=True)
 class Row:
+    """A key's value, and where it was written last."""
+
     key: bytes
     value: bytes
     version: Version
