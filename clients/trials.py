@@ -95,7 +95,7 @@ class Trials:
         """A prefix of its own, as it is installed there; and the environment in which that is found."""
         prefix = self.work / folder
         env = {"PKG_CONFIG_PATH": str(prefix / "lib" / "pkgconfig"), "LD_LIBRARY_PATH": str(prefix / "lib")}
-        return self.install("--prefix", prefix), env
+        return self.install("--destdir", "", "--prefix", prefix), env
 
     def installed(self):
         """For C programs: below a DESTDIR, linked as pkg-config says to the shared object or the archive, and taken away."""

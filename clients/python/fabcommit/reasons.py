@@ -69,7 +69,10 @@ class Unsatisfied(Keyed):
 
 @dataclass(frozen=True)
 class FaultyResult(Named):
-    """It is about a result of a range. `key` is that of the result, and the places are those of the range in its namespace and of the result in the range."""
+    """It is about a result of a range, which has the key `key`.
+
+    The places are those of the range in its namespace, and of the result in the range.
+    """
 
     start: bytes
     end: bytes
