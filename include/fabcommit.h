@@ -184,7 +184,8 @@ uint32_t fabcommit_definition(fabcommit_handle *handle, const uint8_t *chaincode
 uint32_t fabcommit_first_use(fabcommit_handle *handle, const uint8_t *id, size_t id_len, fabcommit_use *first);
 
 /* Tells the rows of a namespace from a start to before an end, which is no bound if it is empty: as many as `rows` has room for. To go on
- * if `more` is set, start at the last key with a zero byte after it. In the pool stand, for one row after the other, key and value. */
+ * if `more` is set, start at the last key with a zero byte after it. A key of 1024 bytes has no such bound: leave its last bytes 255 out
+ * and add 1 to the byte before them. In the pool stand, for one row after the other, key and value. */
 uint32_t fabcommit_scan(fabcommit_handle *handle, const uint8_t *ns, size_t ns_len, const uint8_t *start, size_t start_len,
                         const uint8_t *end, size_t end_len, uint8_t *pool, size_t pool_len, fabcommit_scanned_row *rows, size_t rows_len,
                         fabcommit_scan_sizes *sizes);

@@ -17,6 +17,18 @@ from .told import Record
 Octets = bytes | str
 
 
+# A key has so many bytes at the most, and so has a bound of `scan`.
+LONGEST = 1024
+
+
+def least_above(key: bytes) -> bytes:
+    """The least bound above a key. Nothing is above a longest key of bytes 255: then it is the key, after which no row is left."""
+    if len(key) < LONGEST:
+        return key + b"\0"
+    front = key.rstrip(b"\xff")
+    return front[:-1] + bytes([front[-1] + 1]) if front else key
+
+
 def words(*given: Octets) -> list[Any]:
     """Each with its length, as the calls take it."""
     octets = [one.encode() if isinstance(one, str) else one for one in given]
@@ -159,7 +171,7 @@ class Ledger:
             octets, room, more = pool.raw, len(pool) - 1, sizes.more
             for row in rows[: sizes.rows]:
                 yield Row(part(octets, row.key), part(octets, row.value), Version(row.block, row.tx))
-                start = part(octets, row.key) + b"\0"
+                start = least_above(part(octets, row.key))
 
     def history(self, namespace: Octets, key: Octets) -> Iterator[Write]:
         """The value writes and deletes of a key, the newest first."""

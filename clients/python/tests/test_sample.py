@@ -8,6 +8,7 @@ from fabcommit import (
     Closed, Flag, Ledger, Listing, Malformed, NoBlock, NoChannel, NoKeys, NoName, NoText, Refused, Use, Version, WrongNumber, reasons,
     versions,
 )
+from fabcommit.ledger import least_above
 
 SAMPLE = Path(__file__).resolve().parent.parent.parent.parent / "sample"
 CHANNEL, KEYS = ((SAMPLE / name).read_bytes() for name in ("channel.txt", "keys.txt"))
@@ -98,6 +99,12 @@ class Sample(unittest.TestCase):
             pass
         self.assertRaises(Closed, ledger.height)
         ledger.close()
+
+    def test_bounds_above_keys(self):
+        self.assertEqual(least_above(b"car1"), b"car1\0")
+        self.assertEqual(least_above(b"k" * 1023 + b"a"), b"k" * 1023 + b"b")
+        self.assertEqual(least_above(b"k" * 1022 + b"a\xff"), b"k" * 1022 + b"b")
+        self.assertEqual(least_above(b"\xff" * 1024), b"\xff" * 1024)
 
     def test_threads_may_share_it(self):
         rows, found = list(self.ledger.scan("cc")), []

@@ -18,6 +18,20 @@ pub struct Rows<'a> {
     more: bool,
 }
 
+/// A key has so many bytes at the most, and so has a bound of a scan.
+const LONGEST: usize = 1024;
+
+/// The least bound above a key. Nothing is above a longest key of bytes 255: then it is the key, after which no row is left.
+fn least_above(key: &[u8]) -> Vec<u8> {
+    if key.len() < LONGEST {
+        return [key, &[0]].concat();
+    }
+    match key.iter().rposition(|&byte| byte < u8::MAX) {
+        Some(last) => [&key[..last], &[key[last] + 1]].concat(),
+        None => key.to_vec(),
+    }
+}
+
 impl<'a> Rows<'a> {
     pub(crate) fn new(handle: &'a mut Handle, namespace: &[u8], start: &[u8], end: &[u8]) -> Rows<'a> {
         let (namespace, start, end) = (namespace.to_vec(), start.to_vec(), end.to_vec());
@@ -48,8 +62,7 @@ impl<'a> Rows<'a> {
         };
         let taken: Vec<Row> = rows[..sizes.rows].iter().map(row).collect();
         if let Some(last) = taken.last() {
-            // the least key above
-            self.start = [&last.key, &[0][..]].concat();
+            self.start = least_above(&last.key);
         }
         self.more = sizes.more;
         self.taken = taken.into_iter();
@@ -113,3 +126,17 @@ impl Iterator for History {
 
 impl ExactSizeIterator for History {}
 impl FusedIterator for History {}
+
+#[cfg(test)]
+mod tests {
+    use super::{least_above, LONGEST};
+
+    #[test]
+    fn bounds_above_keys() {
+        let longest = |end: &[u8]| [&vec![b'k'; LONGEST - end.len()], end].concat();
+        assert_eq!(least_above(b"car1"), b"car1\0");
+        assert_eq!(least_above(&longest(b"a")), longest(b"b"));
+        assert_eq!(least_above(&longest(b"a\xff")), longest(b"b\0")[..LONGEST - 1]);
+        assert_eq!(least_above(&[255; LONGEST]), [255; LONGEST]);
+    }
+}
