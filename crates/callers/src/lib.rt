@@ -3,11 +3,11 @@
 #![tactic(auto)]
 
 mod block_job;
-mod message_code;
+mod hmac;
 mod plain_block;
 mod publishing;
 
 pub use block_job::job_of;
-pub use message_code::message_code;
+pub use hmac::message_code;
 pub use plain_block::flags_of;
 pub use publishing::{is_linked, publish_linked};
