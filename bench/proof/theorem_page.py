@@ -175,8 +175,7 @@ or from this page alone: `rt ci theorem` checks it, and all crates below. [In fu
 ## What isn't here
 
 - The contracts of the code, and [{for_laws}](../crates/theorem/specs/{for_laws}.antt), which says what a committer
-  has shown by what it published. The statements from contracts rest on both. What they say of a handle's answers they
-  say if the handle learns, now or later, what its committer published; no contract says so of one that never does.
+  has shown by what it published. The statements from contracts rest on both.
 - How channel texts and key books are read, what the program prints, explanations, conflicts, the library for C:
   [assurance](assurance.md).
 - What is trusted, and what is open: [README](../README.md#what-isnt-proved). The names of the kit, listed

@@ -54,7 +54,7 @@ fn ask(mut handle: QueryHandle) -> Result<u64, QueryFault> {
     Ok(height)
 }
 
-/// Hands the blocks in, and has the handle learn each receipt, so that it never answers from before.
+/// Hands the blocks in, and has the handle learn each receipt that it doesn't know, so that it never answers from before.
 fn commit_each<R: Threads + Wait + Sync, W: Write>(
     rt: &R,
     committer: &mut Committer,
@@ -66,7 +66,9 @@ fn commit_each<R: Threads + Wait + Sync, W: Write>(
 {
     for block in blocks {
         let receipt = committer.submit(rt, block.as_slice(), &ByLength, &Open)?;
-        own.learn(&receipt);
+        if !own.knows(&receipt) {
+            own.learn(&receipt);
+        }
         let flags = receipt.flags.as_slice();
         write_accepted(
             out,

@@ -1,5 +1,6 @@
 //! The handles by which threads query.
-ghost use Rattle.std.specs.Prelude.{◌≡◌, IfOk, OnOk, OnErr};
+ghost use Rattle.std.specs.Prelude.{◌≡◌, IfOk, OnOk, OnErr, MatchBool};
+ghost use mathlib.Core.List.{IsPrefix};
 ghost use Rattle.left_right.specs.Sides.{view};
 ghost use Rattle.rules.specs.Answers.{reply, row_answer, range_answer, history_answer, first_use_answer, definition_answer, block_answer, height_answer};
 ghost use Rattle.query.specs.Published.{GoesOn, Learns, watched_world};
@@ -68,6 +69,16 @@ impl QueryHandle {
         if self.known.begins(&receipt.front) {
             self.known = receipt.front.again();
         }
+    }
+
+    /// Whether the handle knows all that a receipt does, which is of the publisher that the handle was opened with: then
+    /// it answers from no height below the receipt's. Else the receipt knows all that the handle does. Constant time, no
+    /// memory.
+    pub fn knows(&self, receipt: &Receipt) -> bool
+        requires { receipt.now.front.book ≡ self.now.book }
+        ensures { MatchBool result (IsPrefix receipt.now.front.list self.now.list) (IsPrefix self.now.list receipt.now.front.list) }
+    {
+        receipt.front.begins(&self.known)
     }
 
     fn ask<Q: Question>(&mut self, question: Q) -> Result<Reply<Q::Answer>, QueryFault>

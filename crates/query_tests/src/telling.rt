@@ -72,8 +72,11 @@ fn publish_and_tell<R: Wait>(
     requires { handle.old.book ≡ publisher.old.book }
 {
     let receipt = publish_next(rt, alloc, publisher, delta)?;
+    if handle.knows(&receipt) {
+        return Ok(false);
+    }
     handle.learn(&receipt);
-    Ok(is_of_block(&receipt) && stays_told(alloc, handle)?)
+    Ok(handle.knows(&receipt) && is_of_block(&receipt) && stays_told(alloc, handle)?)
 }
 
 // Nobody tells this one.

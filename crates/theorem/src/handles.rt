@@ -1,13 +1,13 @@
-ghost use Rattle.std.specs.Prelude.{◌≡◌, ◌≤◌, ℕ, List, Some, Ok};
+ghost use Rattle.std.specs.Prelude.{◌≡◌, ◌≤◌, ℕ, Bool, List, Some, Ok, MatchBool};
+ghost use mathlib.Core.List.{IsPrefix};
 ghost use Rattle.policy_eval.specs.Accepts.{Accepts};
-ghost use Rattle.rules.specs.declared.delta.Delta.{Delta};
 ghost use Rattle.rules.specs.World.{empty_world};
 ghost use Rattle.query.specs.declared.receipt.Receipt.{Receipt};
 ghost use Rattle.query.specs.Published.{Watch, GoesOn, Learns, watched_world};
 ghost use Rattle.commit.specs.Committing as committing;
 ghost use Rattle.commit.specs.Committing.{Committing};
 ghost use Rattle.theorem.specs.Promise.{ledger_at, CatchesUp};
-ghost use Rattle.theorem.specs.ShownBy.{LearnsLater, shown_by, known_by};
+ghost use Rattle.theorem.specs.ShownBy.{IsHandleOf, shown_by, known_by};
 
 /// Proved: after a query a handle knows of no lower height than before, and after it was passed a receipt also of none
 /// lower than the receipt's.
@@ -18,9 +18,11 @@ pub fn handles_know_more_and_more()
         → CatchesUp (known_by old) r.height (known_by new) }
 {}
 
-/// Proved: if a handle that a committer opened learns, now or later, what the committer has published, then the ledger
-/// that it answers from is the one that the committer has shown at that height.
+/// Proved: the ledger that a handle answers from is the one that its committer has shown at that height. What
+/// `QueryHandle::knows` answers of the handle and a receipt makes it such a handle.
 pub fn handles_see_what_was_shown()
-    ensures shown { (c : Committing) (h : Watch) → LearnsLater c h → ledger_at (shown_by c) (known_by h) ≡ Some (watched_world h) }
-    ensures learns { (old mid new : Watch) (told : List Delta) → GoesOn old mid → Learns mid told new → Learns old told new }
+    ensures shown { (c : Committing) (h : Watch) → IsHandleOf c h → ledger_at (shown_by c) (known_by h) ≡ Some (watched_world h) }
+    ensures knows { (accepts : Accepts) (before after : Committing) (bytes : List ℕ) (r : Receipt) (h : Watch) (answer : Bool)
+        → committing.Submits accepts before bytes (Ok r) after → h.base ≡ empty_world after.channel.definitions → known_by h ≤ r.height
+        → MatchBool answer (IsPrefix r.front.list h.list) (IsPrefix h.list r.front.list) → IsHandleOf after h }
 {}
