@@ -1,2 +1,3 @@
 pub mod BlockLines
 pub mod ConflictLines
+pub mod RowLines

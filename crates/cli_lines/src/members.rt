@@ -1,5 +1,9 @@
 //! What lines are made of. A plain line is words with spaces between them, of which some are labels; of JSON it is an
 //! object, where what follows a label, or stands at its place, is a member with a name.
+ghost use Rattle.std.specs.Prelude.{◌++◌, OnOk};
+ghost use Rattle.std.specs.Io.KnownBytes.{Appends};
+ghost use Rattle.cli_lines.specs.RowLines as spec;
+
 use cli_values::Format;
 use json_lines::{write_string, write_value};
 use std::io;
@@ -8,14 +12,18 @@ use text_lines::Word;
 use transaction::Version;
 
 /// The line's first word, or its first member.
-pub(crate) fn write_kind<W: Write>(out: &mut W, format: Format, kind: &str) -> io::Result<()> {
+pub(crate) fn write_kind<W: Write>(out: &mut W, format: Format, kind: &str) -> io::Result<()>
+    ensures { OnOk result (Appends (W.contents out.old) (W.contents out.new) (spec.kind_of format kind.now)) }
+{
     match format {
         Format::Plain => write!(out, "{kind}"),
         Format::Json => write!(out, "{{\"kind\":\"{kind}\""),
     }
 }
 
-pub(crate) fn write_end<W: Write>(out: &mut W, format: Format) -> io::Result<()> {
+pub(crate) fn write_end<W: Write>(out: &mut W, format: Format) -> io::Result<()>
+    ensures { OnOk result (Appends (W.contents out.old) (W.contents out.new) (spec.end_of format)) }
+{
     match format {
         Format::Plain => writeln!(out),
         Format::Json => writeln!(out, "}}"),
@@ -23,7 +31,9 @@ pub(crate) fn write_end<W: Write>(out: &mut W, format: Format) -> io::Result<()>
 }
 
 /// What stands before a value: a space, or the member's name.
-pub(crate) fn write_name<W: Write>(out: &mut W, format: Format, name: &str) -> io::Result<()> {
+pub(crate) fn write_name<W: Write>(out: &mut W, format: Format, name: &str) -> io::Result<()>
+    ensures { OnOk result (Appends (W.contents out.old) (W.contents out.new) (spec.name_of format name.now)) }
+{
     match format {
         Format::Plain => write!(out, " "),
         Format::Json => write!(out, ",\"{name}\":"),
@@ -31,7 +41,9 @@ pub(crate) fn write_name<W: Write>(out: &mut W, format: Format, name: &str) -> i
 }
 
 /// A word that plain lines have before a value of this name. JSON has the name alone.
-pub(crate) fn write_label<W: Write>(out: &mut W, format: Format, label: &str) -> io::Result<()> {
+pub(crate) fn write_label<W: Write>(out: &mut W, format: Format, label: &str) -> io::Result<()>
+    ensures { OnOk result (Appends (W.contents out.old) (W.contents out.new) (spec.label_of format label.now)) }
+{
     match format {
         Format::Plain => write!(out, " {label}"),
         Format::Json => Ok(()),
@@ -43,7 +55,9 @@ pub(crate) fn write_number<W: Write>(
     format: Format,
     name: &str,
     number: u64,
-) -> io::Result<()> {
+) -> io::Result<()>
+    ensures { OnOk result (Appends (W.contents out.old) (W.contents out.new) (spec.number_of format name.now number)) }
+{
     write_name(out, format, name)?;
     write!(out, "{number}")
 }
@@ -54,7 +68,9 @@ pub(crate) fn write_text<W: Write>(
     format: Format,
     name: &str,
     text: &str,
-) -> io::Result<()> {
+) -> io::Result<()>
+    ensures { OnOk result (Appends (W.contents out.old) (W.contents out.new) (spec.name_of format name.now ++ spec.text_in format text.now)) }
+{
     write_name(out, format, name)?;
     match format {
         Format::Plain => write!(out, "{text}"),
@@ -68,7 +84,9 @@ pub(crate) fn write_bytes<W: Write>(
     format: Format,
     name: &str,
     bytes: &[u8],
-) -> io::Result<()> {
+) -> io::Result<()>
+    ensures { OnOk result (Appends (W.contents out.old) (W.contents out.new) (spec.name_of format name.now ++ spec.bytes_in format bytes.now)) }
+{
     write_name(out, format, name)?;
     match format {
         Format::Plain => {
@@ -85,7 +103,9 @@ pub(crate) fn write_none<W: Write>(
     format: Format,
     name: &str,
     word: &str,
-) -> io::Result<()> {
+) -> io::Result<()>
+    ensures { OnOk result (Appends (W.contents out.old) (W.contents out.new) (spec.name_of format name.now ++ spec.none_in format word.now)) }
+{
     write_name(out, format, name)?;
     match format {
         Format::Plain => write!(out, "{word}"),
@@ -99,7 +119,9 @@ pub(crate) fn write_place<W: Write>(
     format: Format,
     block: u64,
     tx: u32,
-) -> io::Result<()> {
+) -> io::Result<()>
+    ensures { OnOk result (Appends (W.contents out.old) (W.contents out.new) (spec.place_of format block tx)) }
+{
     write_number(out, format, "block", block)?;
     write_number(out, format, "tx", u64::from(tx))
 }

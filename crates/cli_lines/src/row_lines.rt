@@ -1,4 +1,9 @@
 //! The lines in which the ledger's contents are told.
+ghost use Rattle.std.specs.Prelude.{◌++◌, OnOk, codes};
+ghost use Rattle.std.specs.Option.{option_copied};
+ghost use Rattle.std.specs.Io.KnownBytes.{Appends};
+ghost use Rattle.cli_lines.specs.RowLines as spec;
+
 use crate::line_fault::LineFault;
 use crate::members::{
     write_bytes, write_end, write_kind, write_label, write_name, write_none, write_number,
@@ -13,7 +18,9 @@ use std::io;
 use std::io::Write;
 
 /// Writes `height H`. Takes no memory.
-pub fn write_height<W: Write>(out: &mut W, format: Format, height: u64) -> io::Result<()> {
+pub fn write_height<W: Write>(out: &mut W, format: Format, height: u64) -> io::Result<()>
+    ensures { OnOk result (Appends (W.contents out.old) (W.contents out.new) (spec.height_line format height)) }
+{
     write_kind(out, format, "height")?;
     write_number(out, format, "height", height)?;
     write_end(out, format)
@@ -25,7 +32,9 @@ pub fn write_reader<W: Write>(
     format: Format,
     place: u64,
     height: u64,
-) -> io::Result<()> {
+) -> io::Result<()>
+    ensures { OnOk result (Appends (W.contents out.old) (W.contents out.new) (spec.reader_line format place height)) }
+{
     write_kind(out, format, "reader")?;
     write_number(out, format, "reader", place)?;
     write_label(out, format, "height")?;
@@ -34,19 +43,25 @@ pub fn write_reader<W: Write>(
 }
 
 /// Writes `absent`. Takes no memory.
-pub fn write_absent<W: Write>(out: &mut W, format: Format) -> io::Result<()> {
+pub fn write_absent<W: Write>(out: &mut W, format: Format) -> io::Result<()>
+    ensures { OnOk result (Appends (W.contents out.old) (W.contents out.new) (spec.absent_line format)) }
+{
     write_kind(out, format, "absent")?;
     write_end(out, format)
 }
 
 /// Writes `more`. Takes no memory.
-pub fn write_more<W: Write>(out: &mut W, format: Format) -> io::Result<()> {
+pub fn write_more<W: Write>(out: &mut W, format: Format) -> io::Result<()>
+    ensures { OnOk result (Appends (W.contents out.old) (W.contents out.new) (spec.more_line format)) }
+{
     write_kind(out, format, "more")?;
     write_end(out, format)
 }
 
 // All of a row but the policy.
-fn write_contents<W: Write>(out: &mut W, format: Format, key: &[u8], row: &Row) -> io::Result<()> {
+fn write_contents<W: Write>(out: &mut W, format: Format, key: &[u8], row: &Row) -> io::Result<()>
+    ensures { OnOk result (Appends (W.contents out.old) (W.contents out.new) (spec.row_contents format key.now row.now)) }
+{
     write_kind(out, format, "row")?;
     write_bytes(out, format, "key", key)?;
     write_place(out, format, row.version.block, row.version.tx)?;
@@ -61,7 +76,9 @@ pub fn write_row<W: Write>(
     format: Format,
     key: &[u8],
     row: &Row,
-) -> Result<(), LineFault> {
+) -> Result<(), LineFault>
+    ensures { OnOk result (Appends (W.contents out.old) (W.contents out.new) (spec.row_line format key.now row.now)) }
+{
     match &row.policy {
         Some(policy) => {
             let policy = policy.get().text(alloc)?;
@@ -76,7 +93,9 @@ pub fn write_row<W: Write>(
     Ok(write_end(out, format)?)
 }
 
-fn write_policy<W: Write>(out: &mut W, format: Format, text: &str) -> io::Result<()> {
+fn write_policy<W: Write>(out: &mut W, format: Format, text: &str) -> io::Result<()>
+    ensures { OnOk result (Appends (W.contents out.old) (W.contents out.new) (spec.kind_of format (codes "definition") ++ ((spec.name_of format (codes "policy") ++ spec.text_in format text.now) ++ spec.end_of format))) }
+{
     write_kind(out, format, "definition")?;
     write_text(out, format, "policy", text)?;
     write_end(out, format)
@@ -89,7 +108,9 @@ pub fn write_definition<W: Write>(
     out: &mut W,
     format: Format,
     policy: Option<&Policy>,
-) -> Result<(), LineFault> {
+) -> Result<(), LineFault>
+    ensures { OnOk result (Appends (W.contents out.old) (W.contents out.new) (spec.definition_line format (option_copied policy.entry))) }
+{
     match policy {
         Some(policy) => {
             let text = policy.text(alloc)?;
@@ -101,7 +122,9 @@ pub fn write_definition<W: Write>(
 }
 
 // A value, which isn't taken for a deletion.
-fn write_written<W: Write>(out: &mut W, format: Format, value: &[u8]) -> io::Result<()> {
+fn write_written<W: Write>(out: &mut W, format: Format, value: &[u8]) -> io::Result<()>
+    ensures { OnOk result (Appends (W.contents out.old) (W.contents out.new) (spec.name_of format (codes "value") ++ spec.written_in format value.now)) }
+{
     write_name(out, format, "value")?;
     match format {
         Format::Plain => {
@@ -113,7 +136,9 @@ fn write_written<W: Write>(out: &mut W, format: Format, value: &[u8]) -> io::Res
 }
 
 /// Writes `entry BLOCK TX ID VALUE`, or `deleted` in the value's place. Takes no memory.
-pub fn write_entry<W: Write>(out: &mut W, format: Format, entry: &HistoryEntry) -> io::Result<()> {
+pub fn write_entry<W: Write>(out: &mut W, format: Format, entry: &HistoryEntry) -> io::Result<()>
+    ensures { OnOk result (Appends (W.contents out.old) (W.contents out.new) (spec.entry_line format entry.now)) }
+{
     write_kind(out, format, "entry")?;
     write_place(out, format, entry.version.block, entry.version.tx)?;
     write_bytes(out, format, "id", &entry.id)?;

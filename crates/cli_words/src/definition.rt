@@ -1,4 +1,6 @@
 //! The words of `definition`.
+ghost use Rattle.std.specs.Prelude.{◌≡◌, IfOk};
+
 use crate::arguments::NAMESPACE;
 use crate::paths::{ANY_BLOCKS, CHANNEL, JSON, KEYS, LedgerPaths, QUIET};
 use crate::subcommand::Subcommand;
@@ -25,7 +27,7 @@ Example:
 #[derive(Drop)]
 pub struct DefinitionQuery<'a> {
     pub paths: LedgerPaths<'a>,
-    namespace: &'a str,
+    pub namespace: &'a str,
 }
 
 impl<'a> DefinitionQuery<'a> {
@@ -43,7 +45,9 @@ impl<'a> DefinitionQuery<'a> {
     }
 
     /// The chaincode that the words name. An `Err` is a bad name, or want of memory. Linear in the name.
-    pub fn chaincode(&self, alloc: Global) -> Result<Name, WordFault> {
+    pub fn chaincode(&self, alloc: Global) -> Result<Name, WordFault>
+        ensures { IfOk result (λ name. name ≡ self.now.namespace.now) }
+    {
         name_of(alloc, self.namespace)
     }
 }

@@ -1,4 +1,7 @@
 //! What is asked of one key.
+ghost use Rattle.std.specs.Prelude.{◌≡◌, Some, IfOk};
+ghost use Rattle.text_lines.specs.Words.{word_bytes};
+
 use crate::paths::LedgerPaths;
 use clap::ArgMatches;
 use cli_values::{WordFault, key_of, name_of};
@@ -9,8 +12,8 @@ use values::{Key, Name};
 #[derive(Drop)]
 pub struct KeyedQuery<'a> {
     pub paths: LedgerPaths<'a>,
-    namespace: &'a str,
-    key: &'a str,
+    pub namespace: &'a str,
+    pub key: &'a str,
 }
 
 /// A key in its namespace.
@@ -36,7 +39,10 @@ impl<'a> KeyedQuery<'a> {
     }
 
     /// The key that the words name. An `Err` is a bad name, then a bad key, or want of memory. Linear in the words.
-    pub fn asked_key(&self, alloc: Global) -> Result<NamespacedKey, WordFault> {
+    pub fn asked_key(&self, alloc: Global) -> Result<NamespacedKey, WordFault>
+        ensures namespace { IfOk result (λ asked. asked.namespace ≡ self.now.namespace.now) }
+        ensures key { IfOk result (λ asked. word_bytes self.now.key.now ≡ Some asked.key) }
+    {
         let namespace = name_of(alloc, self.namespace)?;
         let key = key_of(alloc, self.key)?;
         Ok(NamespacedKey { namespace, key })

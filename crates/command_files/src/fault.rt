@@ -3,6 +3,7 @@ ghost use Rattle.channel.specs.declared.fault.ChannelFault.TheVariants as channe
 ghost use Rattle.cli_lines.specs.declared.line_fault.LineFault.TheVariants as line_fault;
 ghost use Rattle.command_files.specs.declared.fault.Fault.TheVariants.{Memory};
 ghost use Rattle.command_files.specs.declared.files.FileFault.TheVariants as file_fault;
+ghost use Rattle.command_files.specs.Status.{status_of};
 ghost use Rattle.cli_values.specs.declared.word_fault.WordFault.TheVariants as word_fault;
 ghost use Rattle.key_book.specs.declared.fault.KeyBookFault.TheVariants as key_book_fault;
 
@@ -51,7 +52,9 @@ pub enum Fault<'a> {
 
 impl<'a> Fault<'a> {
     /// What the process ends with: 2, 3 or 4.
-    pub fn status(&self) -> u8 {
+    pub fn status(&self) -> u8
+        ensures { result ≡ status_of self.now }
+    {
         match self {
             Fault::Word | Fault::NoTransaction(_) | Fault::UnknownId(_) => USAGE,
             Fault::Memory => MEMORY,

@@ -1,4 +1,4 @@
-ghost use Rattle.std.specs.Prelude.{⊤, ℕ, List, IfOk};
+ghost use Rattle.std.specs.Prelude.{⊤, ℕ, List, IfOk, OnOk};
 
 use std::alloc::Global;
 use std::fs::File;
@@ -27,13 +27,17 @@ pub trait Files {
     // That a file's whole content may be these bytes. Who says nothing of it can still be read by its paths alone.
     ghost holds: { Self → List ℕ → List ℕ → Type 0 } = { λ _ _ _. ⊤ };
 
+    // That a file was written anew with these bytes.
+    ghost written: { Self → List ℕ → List ℕ → Type 0 } = { λ _ _ _. ⊤ };
+
     /// The whole content of the file of this path. The memory is linear in it.
     fn read(&self, alloc: Global, path: &str) -> Result<Bytes, FileFault>
         ensures { IfOk result (λ bytes. holds self.now path.now bytes) };
 
     /// Makes these bytes the file's whole content, whether there was a file of this path or not.
     /// After an error nothing is known of what it holds.
-    fn write(&self, path: &str, bytes: &[u8]) -> Result<(), FileFault>;
+    fn write(&self, path: &str, bytes: &[u8]) -> Result<(), FileFault>
+        ensures { OnOk result (written self.now path.now bytes.now) };
 }
 
 /// The files of the system that the process runs on.

@@ -1,6 +1,7 @@
 //! What the files hold, each read and checked before the next.
-ghost use Rattle.std.specs.Prelude.{IfOk};
-ghost use Rattle.command_files.specs.Reading.{AreHeld};
+ghost use Rattle.std.specs.Prelude.{◌≡◌, Ok, IfOk, IfErr};
+ghost use Rattle.command_files.specs.Reading.{AreHeld, HoldsChannel, HoldsKeys, HoldConfiguration};
+ghost use Rattle.std.specs.Str.{IsUtf8};
 
 use crate::fault::Fault;
 use crate::files::Files;
@@ -36,20 +37,22 @@ pub fn read_file<'a, F: Files>(alloc: Global, files: &F, path: &'a str) -> Resul
 
 /// The text in the bytes of the file of this path. An `Err` is the first line that isn't UTF-8, which so goes before
 /// every other fault of the file. Takes no memory.
-pub fn text_in<'a, 'b>(path: &'a str, bytes: &'b Bytes) -> Result<&'b str, Fault<'a>> {
+pub fn text_in<'a, 'b>(path: &'a str, bytes: &'b Bytes) -> Result<&'b str, Fault<'a>>
+    ensures { IfOk result (λ text. (text.now ≡ bytes.now) × IsUtf8 bytes.now) }
+{
     text_of(bytes.as_slice()).map_err(|line| Fault::Line(path, line))
 }
 
-fn read_channel<'a, F: Files>(
-    alloc: Global,
-    files: &F,
-    path: &'a str,
-) -> Result<Channel, Fault<'a>> {
+fn read_channel<'a, F: Files>(alloc: Global, files: &F, path: &'a str) -> Result<Channel, Fault<'a>>
+    ensures { IfOk result (HoldsChannel (F.holds files.now path.now)) }
+{
     let bytes = read_file(alloc, files, path)?;
     Channel::read(alloc, text_in(path, &bytes)?).map_err(|fault| Fault::of_channel(path, fault))
 }
 
-fn read_keys<'a, F: Files>(alloc: Global, files: &F, path: &'a str) -> Result<KeyBook, Fault<'a>> {
+fn read_keys<'a, F: Files>(alloc: Global, files: &F, path: &'a str) -> Result<KeyBook, Fault<'a>>
+    ensures { IfOk result (HoldsKeys (F.holds files.now path.now)) }
+{
     let bytes = read_file(alloc, files, path)?;
     KeyBook::read(alloc, text_in(path, &bytes)?).map_err(|fault| Fault::of_key_book(path, fault))
 }
@@ -60,7 +63,9 @@ impl Configuration {
         alloc: Global,
         files: &F,
         paths: &ConfigurationPaths<'a>,
-    ) -> Result<Configuration, Fault<'a>> {
+    ) -> Result<Configuration, Fault<'a>>
+        ensures { IfOk result (λ configuration. HoldConfiguration (F.holds files.now paths.now.channel.now) (F.holds files.now paths.now.keys.now) configuration.channel configuration.keys) }
+    {
         let channel = read_channel(alloc, files, paths.channel)?;
         let keys = read_keys(alloc, files, paths.keys)?;
         Ok(Configuration { channel, keys })
@@ -90,7 +95,8 @@ impl Inputs {
         files: &F,
         paths: &LedgerPaths<'a>,
     ) -> Result<Inputs, Fault<'a>>
-        ensures { IfOk result (λ inputs. AreHeld (λ path. F.holds files.now path.now) paths.now.blocks.items inputs.blocks.items) }
+        ensures blocks { IfOk result (λ inputs. AreHeld (λ path. F.holds files.now path.now) paths.now.blocks.items inputs.blocks.items) }
+        ensures configuration { IfOk result (λ inputs. HoldConfiguration (F.holds files.now paths.now.configuration.channel.now) (F.holds files.now paths.now.configuration.keys.now) inputs.configuration.channel inputs.configuration.keys) }
     {
         let configuration = Configuration::read(alloc, files, &paths.configuration)?;
         let blocks = read_files(alloc, files, &paths.blocks)?;

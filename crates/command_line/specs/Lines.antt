@@ -1,5 +1,5 @@
 -- The lines for the answers of a committer.
-use Rattle.std.specs.Prelude.{ℕ, suc, if◌then◌else◌, List, [], ◌∷◌, ◌++◌, Option, Some, None, Result, Ok, Err}
+use Rattle.std.specs.Prelude.{ℕ, suc, if◌then◌else◌, List, [], ◌∷◌, ◌++◌, Option, Some, None, option_map, Result, Ok, Err}
 use Rattle.query.specs.declared.receipt.Receipt.{Receipt}
 use Rattle.commit.specs.declared.not_committed.NotCommitted.{NotCommitted}
 use Rattle.commit.specs.declared.not_committed.NotCommitted.TheVariants.{Refused, MemoryInCommit, Stopped}
@@ -31,3 +31,8 @@ answer_lines style place (Err why) = line_of style place (refusal_in why)
 abbrev pub lines_behind : Style → ℕ → List (Result Receipt NotCommitted) → List ℕ
 lines_behind style before [] = []
 lines_behind style before (answer ∷ answers) = answer_lines style (suc before) answer ++ lines_behind style (suc before) answers
+
+-- what the process ends with for this answer, where all others are accepted; want of memory has nothing
+abbrev pub status_of : Result Receipt NotCommitted → Option ℕ
+status_of (Ok r) = Some 0
+status_of (Err why) = option_map (λ refusal. 1) (refusal_in why)

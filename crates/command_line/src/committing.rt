@@ -9,6 +9,7 @@ use commit::{Answer, Committer, Receipt};
 use gates::Open;
 use key_book::KeyBook;
 use ledger_commands::Progress;
+use std::alloc::Global;
 use std::io::Write;
 use std::sync::Wait;
 use std::thread::Threads;
@@ -42,14 +43,17 @@ struct Told<'a> {
     committed: Committed,
     /// Why no more is told.
     fault: Option<Fault<'a>>,
+    /// The lines for one answer, before they are written.
+    lines: Vec<u8>,
 }
 
 impl<'a> Told<'a> {
     // Nothing yet of so many blocks.
-    fn nothing(all: usize, style: Style) -> Told<'a>
+    fn nothing(alloc: Global, all: usize, style: Style) -> Told<'a>
         ensures style { result.style ≡ style }
         ensures done { result.done ≡ 0 }
         ensures last { result.committed.last ≡ None }
+        ensures status { result.committed.status ≡ 0 }
     {
         Told {
             style,
@@ -60,6 +64,7 @@ impl<'a> Told<'a> {
                 last: None,
             },
             fault: None,
+            lines: Vec::new(alloc),
         }
     }
 
@@ -81,7 +86,9 @@ impl<'a> Told<'a> {
     {
         progress.clear();
         self.done = self.done.wrapping_add(1);
-        let status = write_answer(out, self.done, &answer, self.style)?;
+        self.lines.clear();
+        let status = write_answer(&mut self.lines, self.done, &answer, self.style)?;
+        out.write_all(self.lines.as_slice())?;
         out.flush()?;
         self.committed.status = self.committed.status.max(status);
         if let Ok(receipt) = answer {
@@ -116,7 +123,8 @@ fn commit_told<'a, R: Threads + Wait + Sync, W: Write, P: Progress>(
     requires fits { length handing.now.blocks.now < 2 ^ 64 }
     requires done { told.old.done ≡ 0 }
     requires last { told.old.committed.last ≡ None }
-    ensures { OnOk result (AreHandedIn (accepts handing.now.keys.now) told.old.style committer.old (W.contents out.old) handing.now.blocks.now told.new.committed.last committer.new (W.contents out.new)) }
+    requires status { told.old.committed.status ≡ 0 }
+    ensures { OnOk result (AreHandedIn (accepts handing.now.keys.now) told.old.style committer.old (W.contents out.old) handing.now.blocks.now told.new.committed committer.new (W.contents out.new)) }
 {
     let all = committer.run_telling(
         handing.rt,
@@ -132,16 +140,16 @@ fn commit_told<'a, R: Threads + Wait + Sync, W: Write, P: Progress>(
 }
 
 /// Hands the blocks in, and writes lines for each as soon as it is done. Ends at the first fault.
-pub(crate) fn commit_each<'a, R: Threads + Wait + Sync, W: Write, P: Progress>(
+pub(crate) fn commit_each<'a, R: AllocGlobal + Threads + Wait + Sync, W: Write, P: Progress>(
     committer: &mut Committer,
     handing: &Handing<'_, R>,
     out: &mut W,
     progress: &mut P,
 ) -> Result<Committed, Fault<'a>>
-    ensures handed { IfOk result (λ committed. AreHandedIn (accepts handing.now.keys.now) handing.now.style committer.old (W.contents out.old) handing.now.blocks.now committed.last committer.new (W.contents out.new)) }
+    ensures handed { IfOk result (λ committed. AreHandedIn (accepts handing.now.keys.now) handing.now.style committer.old (W.contents out.old) handing.now.blocks.now committed committer.new (W.contents out.new)) }
     ensures last { IfOk result (λ committed. IfSome committed.last (λ receipt. receipt.front.book ≡ committer.old.book)) }
 {
-    let mut told = Told::nothing(handing.blocks.len(), handing.style);
+    let mut told = Told::nothing(handing.rt.alloc(), handing.blocks.len(), handing.style);
     told.show(progress);
     commit_told(committer, handing, &mut told, out, progress)?;
     progress.clear();

@@ -1,3 +1,7 @@
+ghost use Rattle.std.specs.Prelude.{◌≡◌, ◌<◌, IfOk, IfErr};
+ghost use Rattle.command_files.specs.Status.{status_of};
+ghost use Rattle.command_line.specs.Printed.{Does};
+
 use crate::performing::perform;
 use clap::error::ErrorKind;
 use cli_words::{Asked, not_text};
@@ -29,7 +33,10 @@ fn tell<'a, O: Write, E: Write>(
 }
 
 // A fault gets its line. Nothing is left to tell a failed write of that to.
-fn status_of<E: Write>(ended: Result<u8, Fault<'_>>, err: &mut E) -> u8 {
+fn status_of<E: Write>(ended: Result<u8, Fault<'_>>, err: &mut E) -> u8
+    ensures ok { IfOk ended.entry (λ status. result ≡ status) }
+    ensures fault { IfErr ended.entry (λ fault. result ≡ status_of fault) }
+{
     match ended {
         Ok(status) => status,
         Err(fault) => {
@@ -37,6 +44,30 @@ fn status_of<E: Write>(ended: Result<u8, Fault<'_>>, err: &mut E) -> u8 {
             fault.status()
         }
     }
+}
+
+/// The program once its words are read: does what they ask for, and says why if that ends before. Returns what the
+/// process is to end with, as [`program`] does.
+///
+/// If it is 0 or 1, `out` was given exactly the text that the bytes of the files determine, for the subcommands of which
+/// the clause says one; of `explain` and `show` it says nothing.
+pub fn run_subcommand<R, F, O, E, P>(
+    asked: &Asked<'_>,
+    rt: &R,
+    files: &F,
+    out: &mut O,
+    err: &mut E,
+    progress: &mut P,
+) -> u8
+where
+    R: AllocGlobal + Threads + Wait + Sync,
+    F: Files + Sync,
+    O: Write,
+    E: Write,
+    P: Progress,
+    ensures { result < 2 → Does (F.holds files.now) (F.written files.now) asked.now (O.contents out.old) result (O.contents out.new) }
+{
+    status_of(perform(asked, rt, files, out, progress), err)
 }
 
 /// The program `fabcommit` on these words, of which the first is its own name. Returns what the process is to end with:
@@ -49,7 +80,7 @@ fn status_of<E: Write>(ended: Result<u8, Fault<'_>>, err: &mut E) -> u8 {
 /// that fails changes nothing. `progress` is told how many blocks are in, unless the words ask for silence.
 ///
 /// The memory is the files' bytes, what the ledger or the committer keeps, what one block takes (with `run` those that
-/// [`commit::Committer::run`] takes in ahead), and a buffer of a fixed size. `run` alone has threads, which have ended
+/// [`commit::Committer::run`] takes in ahead), and the lines that are kept. `run` alone has threads, which have ended
 /// when this returns.
 pub fn program<R, S, F, O, E, P>(
     rt: &R,
@@ -67,11 +98,10 @@ where
     E: Write,
     P: Progress,
 {
-    let ended = match Asked::from_words(rt.alloc(), words) {
-        Ok(asked) => perform(&asked, rt, files, out, progress),
-        Err(error) => tell(&error, out, err),
-    };
-    status_of(ended, err)
+    match Asked::from_words(rt.alloc(), words) {
+        Ok(asked) => run_subcommand(&asked, rt, files, out, err, progress),
+        Err(error) => status_of(tell(&error, out, err), err),
+    }
 }
 
 fn tell_not_text<'a, O: Write, E: Write>(

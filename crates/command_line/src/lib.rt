@@ -11,7 +11,8 @@ mod reading;
 mod run;
 
 pub use cli_values::{Format, printed_values_are_read_back};
+pub use cli_words::Asked;
 pub use command_files::{DiskFiles, Fault, FileFault, Files};
-pub use entry::{program, without_words};
+pub use entry::{program, run_subcommand, without_words};
 pub use ledger_commands::{Progress, ProgressLine, Silent};
 pub use lines::{Style, write_answer};

@@ -63,7 +63,8 @@ pub fn write_answer<'a, W: Write>(
     answer: &Result<Receipt, NotCommitted>,
     style: Style,
 ) -> Result<u8, Fault<'a>>
-    ensures { OnOk result (Appends (W.contents out.old) (W.contents out.new) (spec.answer_lines style place answer.now)) }
+    ensures lines { OnOk result (Appends (W.contents out.old) (W.contents out.new) (spec.answer_lines style place answer.now)) }
+    ensures status { IfOk result (λ status. spec.status_of answer.now ≡ Some status) }
 {
     match answer {
         Ok(receipt) => {

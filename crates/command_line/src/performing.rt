@@ -1,3 +1,6 @@
+ghost use Rattle.std.specs.Prelude.{IfOk};
+ghost use Rattle.command_line.specs.Printed.{Does};
+
 use crate::run::run_blocks;
 use cli_words::Asked;
 use command_files::{Fault, Files};
@@ -17,7 +20,9 @@ pub(crate) fn perform<
     F: Files + Sync,
     W: Write,
     P: Progress,
->(asked: &Asked<'a>, rt: &R, files: &F, out: &mut W, progress: &mut P) -> Result<u8, Fault<'a>> {
+>(asked: &Asked<'a>, rt: &R, files: &F, out: &mut W, progress: &mut P) -> Result<u8, Fault<'a>>
+    ensures { IfOk result (λ status. Does (F.holds files.now) (F.written files.now) asked.now (W.contents out.old) status (W.contents out.new)) }
+{
     let alloc = rt.alloc();
     if asked.is_quiet() {
         progress.silence();

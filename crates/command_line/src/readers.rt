@@ -1,8 +1,9 @@
 //! Readers: threads that query while blocks are handed in.
-ghost use Rattle.std.specs.Prelude.{◌≡◌, All, IfOk, IfSome};
+ghost use Rattle.std.specs.Prelude.{◌≡◌, ◌<◌, ◌≤◌, ◌^◌, All, IfOk, IfSome, OnOk, length};
+ghost use Rattle.command_line.specs.Handing.{ReadersTold, known_list};
 
+use crate::lines::Style;
 use cli_lines::write_reader;
-use cli_values::Format;
 use command_files::Fault;
 use commit::{Committer, QueryFault, QueryHandle, Receipt};
 use std::alloc::{AllocError, Global};
@@ -56,7 +57,8 @@ pub(crate) fn start<'s, E>(
     handles: Vec<QueryHandle>,
 ) -> Result<Vec<Reader>, AllocError>
     requires { All (λ handle. handle.book ≡ committer.now.book) handles.items }
-    ensures { IfOk result (λ readers. All (λ reader. reader.promise.0.value.book ≡ committer.now.book) readers.items) }
+    ensures readers { IfOk result (λ readers. All (λ reader. reader.promise.0.value.book ≡ committer.now.book) readers.items) }
+    ensures count { IfOk result (λ readers. length readers.items ≡ length handles.items) }
 {
     let mut readers = Vec::with_capacity(alloc, handles.len())?;
     for handle in handles {
@@ -68,6 +70,7 @@ pub(crate) fn start<'s, E>(
 // What a handle answers that was told of the last block.
 fn height_behind(mut handle: QueryHandle, last: &Option<Receipt>) -> Result<u64, QueryFault>
     requires { IfSome last.now (λ receipt. handle.book ≡ receipt.front.book) }
+    ensures { IfOk result (λ height. length (known_list last.now) ≤ height) }
 {
     if let Some(receipt) = last {
         handle.learn(receipt);
@@ -78,6 +81,7 @@ fn height_behind(mut handle: QueryHandle, last: &Option<Receipt>) -> Result<u64,
 // What a reader, whose thread has ended, then finds. A query of a committer that isn't closed wants nothing but memory.
 fn height_of<R: Threads>(rt: &R, reader: Reader, last: &Option<Receipt>) -> Result<u64, QueryFault>
     requires { IfSome last.now (λ receipt. reader.promise.0.value.book ≡ receipt.front.book) }
+    ensures { IfOk result (λ height. length (known_list last.now) ≤ height) }
 {
     height_behind(reader.join(rt)?, last)
 }
@@ -88,16 +92,20 @@ pub(crate) fn write_heights<'a, R: Threads, W: Write>(
     rt: &R,
     readers: Vec<Reader>,
     last: &Option<Receipt>,
-    format: Format,
+    style: Style,
     out: &mut W,
 ) -> Result<(), Fault<'a>>
-    requires { All (λ reader. IfSome last.now (λ receipt. reader.promise.0.value.book ≡ receipt.front.book)) readers.items }
+    requires few { length readers.items < 2 ^ 63 }
+    requires books { All (λ reader. IfSome last.now (λ receipt. reader.promise.0.value.book ≡ receipt.front.book)) readers.items }
+    ensures { OnOk result (ReadersTold style (length readers.items) last.now (W.contents out.old) (W.contents out.new)) }
 {
     let mut place = 0u64;
     for reader in readers {
         place = place.wrapping_add(1);
-        let height = height_of(rt, reader, last).map_err(|_| Fault::Memory)?;
-        write_reader(out, format, place, height)?;
+        let Ok(height) = height_of(rt, reader, last) else {
+            return Err(Fault::Memory);
+        };
+        write_reader(out, style.format, place, height)?;
     }
     Ok(())
 }

@@ -1,2 +1,7 @@
+mod Adding
+mod Behind
+mod Bounds
+mod Buffers
 mod Counted
 mod Outcomes
+mod Scanned

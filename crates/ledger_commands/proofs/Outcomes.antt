@@ -1,14 +1,11 @@
--- What holds where a result is `Ok`.
-use Rattle.std.proofs.Common.{Result, Ok, Err, OnOk, IsOk}
+-- What holds if a result is `Ok`.
+use Rattle.std.proofs.Common.{◌≡◌, Result, Ok, Err, OnOk, IfOk, subst}
 
-pub on_ok : {T E : Type 0} (P : Type 0) (r : Result T E) → P → OnOk r P
-on_ok P (Ok x) p = p
-on_ok P (Err e) p = tt
+-- an outcome that is the one before it, with what is known of either
+pub follows : {T E : Type 0} (P R : T → Type 0) (Q : Type 0) (r before : Result T E) → IfOk r (λ x. before ≡ Ok x) → IfOk before P → OnOk r Q → ((x : T) → P x → Q → R x) → IfOk r R
+follows P R Q (Ok x) before same known also f = f x (subst (λ b. IfOk b P) same known) also
+follows P R Q (Err e) before same known also f = tt
 
-pub both : {T E : Type 0} (P Q R : Type 0) (r : Result T E) → OnOk r P → OnOk r Q → (P → Q → R) → OnOk r R
-both P Q R (Ok x) p q f = f p q
-both P Q R (Err e) p q f = tt
-
-pub where_ok : {T E : Type 0} (P : Type 0) (r : Result T E) → IsOk r → OnOk r P → P
-where_ok P (Ok x) is p = p
-where_ok P (Err e) is p = absurd cc
+pub if_both : {T E : Type 0} (P Q R : T → Type 0) (r : Result T E) → IfOk r P → IfOk r Q → ((x : T) → P x → Q x → R x) → IfOk r R
+if_both P Q R (Ok x) p q f = f x p q
+if_both P Q R (Err e) p q f = tt

@@ -1,2 +1,5 @@
+pub mod Drafting
 pub mod Handing
+pub mod Kept
+pub mod Asking
 pub mod Counting

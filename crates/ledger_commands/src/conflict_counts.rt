@@ -1,4 +1,4 @@
-ghost use Rattle.std.specs.Prelude.{◌<◌, ◌≤◌, ℕ, List, IfOk, OnOk, IsOk};
+ghost use Rattle.std.specs.Prelude.{◌≡◌, ◌<◌, ◌≤◌, ℕ, List, Ok, IfOk, OnOk};
 ghost use Rattle.std.specs.Io.KnownBytes.{Appends};
 ghost use Rattle.key_book.specs.Book.{accepts};
 ghost use Rattle.rules.specs.World.{empty_world, height_of};
@@ -10,9 +10,8 @@ ghost use Rattle.conflicts.specs.Ranking.{AreFirst};
 ghost use Rattle.conflicts.specs.Tally.{Counts};
 ghost use Rattle.cli_lines.specs.ConflictLines.{IsReport, report_text};
 ghost use Rattle.ledger.specs.NextReasons.{AreNextReasons};
-ghost use Rattle.ledger_commands.specs.Counting.{CountedTakes, IsTold};
+ghost use Rattle.ledger_commands.specs.Counting.{CountedTakes, IsTold, Reports};
 
-use crate::buffered::finish;
 use crate::progress::Progress;
 use crate::question::{Taker, hand_in, status_of_refused};
 use cli_lines::write_report;
@@ -24,7 +23,7 @@ use key_book::KeyBook;
 use ledger::Ledger;
 use reasons::Reason;
 use std::alloc::{AllocError, Global};
-use std::io::{BufWriter, Write};
+use std::io::Write;
 use values::Items;
 
 // A ledger, and what made transactions invalid in its blocks from one on.
@@ -40,7 +39,7 @@ impl CountedLedger {
     // Takes a block that isn't counted.
     fn take_early(&mut self, bytes: &[u8], keys: &KeyBook) -> Result<u8, AllocError>
         requires { height_of self.old.ledger.world < self.old.from }
-        ensures { OnOk result (CountedTakes (accepts keys.now) self.old bytes.now self.new) }
+        ensures { IfOk result (λ status. CountedTakes (accepts keys.now) self.old bytes.now status self.new) }
     {
         match self.ledger.submit_one(bytes, keys) {
             Ok(_) => Ok(ACCEPTED),
@@ -57,7 +56,7 @@ impl CountedLedger {
     ) -> Result<u8, AllocError>
         requires late { self.old.from ≤ height_of self.old.ledger.world }
         requires reasons { AreNextReasons self.old.ledger.channel (accepts keys.now) self.old.ledger.world bytes.now reasons.now }
-        ensures { OnOk result (CountedTakes (accepts keys.now) self.old bytes.now self.new) }
+        ensures { IfOk result (λ status. CountedTakes (accepts keys.now) self.old bytes.now status self.new) }
     {
         match self.ledger.submit_one(bytes, keys) {
             Ok(_) => {
@@ -123,7 +122,7 @@ fn write_counted<'a, W: Write>(
     top: u16,
     out: &mut W,
 ) -> Result<u8, Fault<'a>>
-    ensures handed { OnOk result (IsOk handed.entry) }
+    ensures handed { IfOk result (λ status. handed.entry ≡ Ok status) }
     ensures report { OnOk result ((reasons : List Reason) → Counts reasons tally.now → (text : List ℕ) × IsReport format reasons top text × Appends (W.contents out.old) (W.contents out.new) text) }
 {
     let status = handed?;
@@ -140,7 +139,7 @@ fn count_in<'a, W: Write, P: Progress>(
     out: &mut W,
     progress: &mut P,
 ) -> Result<u8, Fault<'a>>
-    ensures { OnOk result (IsTold words.now.paths.format inputs.configuration.channel (accepts inputs.configuration.keys) words.now.from (empty_world inputs.configuration.channel.definitions) inputs.blocks.items words.now.top (W.contents out.old) (W.contents out.new)) }
+    ensures { IfOk result (λ status. IsTold words.now.paths.format inputs.configuration.channel (accepts inputs.configuration.keys) words.now.from (empty_world inputs.configuration.channel.definitions) inputs.blocks.items words.now.top (W.contents out.old) status (W.contents out.new)) }
 {
     let Inputs {
         configuration,
@@ -166,9 +165,13 @@ pub fn print_conflicts<'a, F: Files, W: Write, P: Progress>(
     words: &ConflictCounts<'a>,
     out: &mut W,
     progress: &mut P,
-) -> Result<u8, Fault<'a>> {
+) -> Result<u8, Fault<'a>>
+    ensures { IfOk result (λ status. Reports (F.holds files.now) words.now (W.contents out.old) status (W.contents out.new)) }
+{
     let inputs = Inputs::read(alloc, files, &words.paths)?;
-    let mut lines = BufWriter::new(alloc, out)?;
-    let ended = count_in(alloc, inputs, words, &mut lines, progress);
-    finish(lines, ended)
+    let mut lines = Vec::new(alloc);
+    let status = count_in(alloc, inputs, words, &mut lines, progress)?;
+    out.write_all(lines.as_slice())?;
+    out.flush()?;
+    Ok(status)
 }

@@ -1,3 +1,8 @@
+ghost use Rattle.std.specs.Prelude.{◌≡◌, ◌++◌, IfOk, OnOk};
+ghost use Rattle.std.specs.FinMap.{get};
+ghost use Rattle.cli_lines.specs.RowLines.{definition_line};
+ghost use Rattle.ledger_commands.specs.Asking.{Answers, IsDefinition};
+
 use crate::progress::Progress;
 use crate::question::{Question, answer};
 use cli_lines::write_definition;
@@ -13,28 +18,48 @@ use world::World;
 #[derive(Drop)]
 struct DefinitionOf(Name);
 
-impl Question for DefinitionOf {
-    fn write<'a, W: Write>(
+impl DefinitionOf {
+    fn write<'a>(
         &self,
         alloc: Global,
-        out: &mut W,
         format: Format,
         world: &World,
-    ) -> Result<(), Fault<'a>> {
+        out: &mut Vec<u8>,
+    ) -> Result<(), Fault<'a>>
+        ensures { OnOk result (out.new.items ≡ out.old.items ++ definition_line format (get world.now.definitions self.now.0)) }
+    {
         let policy = world.definitions().of(&self.0.lend());
-        Ok(write_definition(alloc, out, format, policy)?)
+        write_definition(alloc, out, format, policy)?;
+        Ok(())
+    }
+}
+
+impl Question for DefinitionOf {
+    ghost tells = { λ asked. IsDefinition asked.0 };
+
+    fn tell<'a, W: Write>(
+        &self,
+        alloc: Global,
+        format: Format,
+        world: &World,
+        kept: &mut Vec<u8>,
+        _out: &mut W,
+    ) -> Result<(), Fault<'a>> {
+        self.write(alloc, format, world, kept)
     }
 }
 
 /// Reads the name and the files, hands the blocks in, and writes the chaincode's policy. Beside what the blocks take,
-/// the memory is the name, the policy's text and a buffer of a fixed size.
+/// the memory is the name, the policy's text and the line.
 pub fn print_definition<'a, F: Files, W: Write, P: Progress>(
     alloc: Global,
     files: &F,
     words: &DefinitionQuery<'a>,
     out: &mut W,
     progress: &mut P,
-) -> Result<u8, Fault<'a>> {
+) -> Result<u8, Fault<'a>>
+    ensures { IfOk result (λ status. Answers (F.holds files.now) words.now.paths (IsDefinition words.now.namespace.now) (W.contents out.old) status (W.contents out.new)) }
+{
     let question = DefinitionOf(words.chaincode(alloc)?);
     answer(alloc, files, &words.paths, &question, out, progress)
 }

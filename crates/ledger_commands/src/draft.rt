@@ -1,6 +1,9 @@
 ghost use Rattle.std.specs.Prelude.{◌≡◌, ◌↔◌, ◌+◌, ◌<◌, ◌^◌, IfOk, IfSome};
+ghost use Rattle.std.specs.Str.{IsUtf8};
 ghost use Rattle.command_files.specs.declared.fault.Fault.TheVariants.{Memory};
 ghost use Rattle.drafts.specs.declared.fault.DraftFault.TheVariants as draft_fault;
+ghost use Rattle.drafts.specs.Drafted.{IsDrafted};
+ghost use Rattle.ledger_commands.specs.Drafting.{Drafts, IsDraftOf, IsHeaderOf, IsPrevious};
 
 use block::{BlockFault, Header, decode_block};
 use cli_words::Draft;
@@ -11,7 +14,8 @@ use values::Bytes;
 
 // This header, where another block can follow it.
 fn before_another<'a>(path: &'a str, header: Header) -> Result<Header, Fault<'a>>
-    ensures { IfOk result (λ header. header.number + 1 < 2 ^ 64) }
+    ensures same { IfOk result (λ it. it ≡ header) }
+    ensures before { IfOk result (λ it. it.number + 1 < 2 ^ 64) }
 {
     if header.number < u64::MAX {
         Ok(header)
@@ -22,7 +26,8 @@ fn before_another<'a>(path: &'a str, header: Header) -> Result<Header, Fault<'a>
 
 // The header in a block's bytes, where another block can follow it.
 fn header_in<'a>(alloc: Global, path: &'a str, bytes: &Bytes) -> Result<Header, Fault<'a>>
-    ensures { IfOk result (λ header. header.number + 1 < 2 ^ 64) }
+    ensures header { IfOk result (IsHeaderOf bytes.now) }
+    ensures before { IfOk result (λ header. header.number + 1 < 2 ^ 64) }
 {
     match decode_block(alloc, bytes.as_slice()) {
         Ok(block) => before_another(path, block.header),
@@ -36,7 +41,8 @@ fn read_header<'a, F: Files>(
     files: &F,
     after: Option<&'a str>,
 ) -> Result<Option<Header>, Fault<'a>>
-    ensures { IfOk result (λ header. IfSome header (λ h. h.number + 1 < 2 ^ 64)) }
+    ensures previous { IfOk result (IsPrevious (λ path. F.holds files.now path.now) after.entry) }
+    ensures before { IfOk result (λ header. IfSome header (λ h. h.number + 1 < 2 ^ 64)) }
 {
     let Some(path) = after else {
         return Ok(None);
@@ -64,6 +70,8 @@ fn drafted<'a>(
     script: &Bytes,
 ) -> Result<Bytes, Fault<'a>>
     requires { IfSome previous (λ h. h.number + 1 < 2 ^ 64) }
+    ensures utf8 { IfOk result (λ block. IsUtf8 script.now) }
+    ensures drafted { IfOk result (IsDrafted configuration.now.keys configuration.now.channel.name words.now.version previous script.now) }
 {
     let text = text_in(words.script, script)?;
     drafts::draft(
@@ -78,7 +86,9 @@ fn drafted<'a>(
 }
 
 // The block that the files draft, which the words name.
-fn block<'a, F: Files>(alloc: Global, files: &F, words: &Draft<'a>) -> Result<Bytes, Fault<'a>> {
+fn block<'a, F: Files>(alloc: Global, files: &F, words: &Draft<'a>) -> Result<Bytes, Fault<'a>>
+    ensures { IfOk result (IsDraftOf (F.holds files.now) words.now) }
+{
     let configuration = Configuration::read(alloc, files, &words.configuration)?;
     let previous = read_header(alloc, files, words.after)?;
     let script = read_file(alloc, files, words.script)?;
@@ -91,7 +101,9 @@ pub fn draft_block<'a, F: Files>(
     alloc: Global,
     files: &F,
     words: &Draft<'a>,
-) -> Result<u8, Fault<'a>> {
+) -> Result<u8, Fault<'a>>
+    ensures { IfOk result (Drafts (F.holds files.now) (F.written files.now) words.now) }
+{
     let block = block(alloc, files, words)?;
     files
         .write(words.out, block.as_slice())

@@ -1,3 +1,7 @@
+ghost use Rattle.std.specs.Prelude.{◌≡◌, ◌++◌, IfOk, OnOk};
+ghost use Rattle.rules.specs.Answers.{row_answer};
+ghost use Rattle.ledger_commands.specs.Asking.{AnswersKey, IsRow, row_or_absent};
+
 use crate::progress::Progress;
 use crate::question::{Question, answer};
 use cli_lines::{write_absent, write_row};
@@ -12,31 +16,51 @@ use world::World;
 #[derive(Drop)]
 struct RowOf(NamespacedKey);
 
-impl Question for RowOf {
-    fn write<'a, W: Write>(
+impl RowOf {
+    fn write<'a>(
         &self,
         alloc: Global,
-        out: &mut W,
         format: Format,
         world: &World,
-    ) -> Result<(), Fault<'a>> {
+        out: &mut Vec<u8>,
+    ) -> Result<(), Fault<'a>>
+        ensures { OnOk result (out.new.items ≡ out.old.items ++ row_or_absent self.now.0.key format (row_answer world.now (self.now.0.namespace, self.now.0.key))) }
+    {
         let key = self.0.key.lend();
         match world.row(&self.0.namespace.lend(), &key) {
-            Some(row) => Ok(write_row(alloc, out, format, key.as_slice(), row)?),
-            None => Ok(write_absent(out, format)?),
+            Some(row) => write_row(alloc, out, format, key.as_slice(), row)?,
+            None => write_absent(out, format)?,
         }
+        Ok(())
+    }
+}
+
+impl Question for RowOf {
+    ghost tells = { λ asked. IsRow asked.0.namespace asked.0.key };
+
+    fn tell<'a, W: Write>(
+        &self,
+        alloc: Global,
+        format: Format,
+        world: &World,
+        kept: &mut Vec<u8>,
+        _out: &mut W,
+    ) -> Result<(), Fault<'a>> {
+        self.write(alloc, format, world, kept)
     }
 }
 
 /// Reads the key and the files, hands the blocks in, and writes the row. Beside what the blocks
-/// take, the memory is the key, its policy's text and a buffer of a fixed size.
+/// take, the memory is the key, its policy's text and the line.
 pub fn print_row<'a, F: Files, W: Write, P: Progress>(
     alloc: Global,
     files: &F,
     words: &KeyedQuery<'a>,
     out: &mut W,
     progress: &mut P,
-) -> Result<u8, Fault<'a>> {
+) -> Result<u8, Fault<'a>>
+    ensures { IfOk result (λ status. AnswersKey (F.holds files.now) words.now IsRow (W.contents out.old) status (W.contents out.new)) }
+{
     let question = RowOf(words.asked_key(alloc)?);
     answer(alloc, files, &words.paths, &question, out, progress)
 }

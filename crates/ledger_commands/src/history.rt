@@ -1,3 +1,7 @@
+ghost use Rattle.std.specs.Prelude.{IfOk};
+ghost use Rattle.ledger_commands.specs.Asking.{AnswersKey, IsHistory};
+
+use crate::kept_lines::write_many;
 use crate::progress::Progress;
 use crate::question::{Question, answer};
 use cli_lines::write_entry;
@@ -13,29 +17,35 @@ use world::World;
 struct HistoryOf(NamespacedKey);
 
 impl Question for HistoryOf {
-    fn write<'a, W: Write>(
+    ghost tells = { λ asked. IsHistory asked.0.namespace asked.0.key };
+
+    fn tell<'a, W: Write>(
         &self,
         _alloc: Global,
-        out: &mut W,
         format: Format,
         world: &World,
+        kept: &mut Vec<u8>,
+        out: &mut W,
     ) -> Result<(), Fault<'a>> {
         for entry in world.history(&self.0.namespace.lend(), &self.0.key.lend()) {
-            write_entry(out, format, &entry.entry()?)?;
+            write_entry(kept, format, &entry.entry()?)?;
+            write_many(kept, out)?;
         }
         Ok(())
     }
 }
 
 /// Reads the key and the files, hands the blocks in, and writes the entries as they are met.
-/// Beside what the blocks take, the memory is the key and a buffer of a fixed size.
+/// Beside what the blocks take, the memory is the key, 32 KiB of lines and one more line.
 pub fn print_history<'a, F: Files, W: Write, P: Progress>(
     alloc: Global,
     files: &F,
     words: &KeyedQuery<'a>,
     out: &mut W,
     progress: &mut P,
-) -> Result<u8, Fault<'a>> {
+) -> Result<u8, Fault<'a>>
+    ensures { IfOk result (λ status. AnswersKey (F.holds files.now) words.now IsHistory (W.contents out.old) status (W.contents out.new)) }
+{
     let question = HistoryOf(words.asked_key(alloc)?);
     answer(alloc, files, &words.paths, &question, out, progress)
 }

@@ -9,6 +9,7 @@ mod draft;
 mod explain;
 mod get;
 mod history;
+mod kept_lines;
 mod progress;
 mod question;
 mod scan;

@@ -1,8 +1,12 @@
-ghost use Rattle.std.specs.Prelude.{OnOk};
+ghost use Rattle.std.specs.Prelude.{◌≡◌, ◌++◌, ℕ, List, Ok, Err, IfOk, OnOk};
+ghost use Rattle.std.specs.Io.KnownBytes.{Appends};
 ghost use Rattle.key_book.specs.Book.{accepts};
-ghost use Rattle.ledger_commands.specs.Handing.{AreTaken, LedgerTakes};
+ghost use Rattle.rules.specs.World.{empty_world, height_of};
+ghost use Rattle.cli_lines.specs.RowLines.{height_line};
+ghost use Rattle.ledger_commands.specs.Asking.{Answers, AnswersFrom};
+ghost use Rattle.ledger_commands.specs.Handing.{AreTaken, EndsWith, LedgerTakes};
 
-use crate::buffered::finish;
+use crate::kept_lines::write_kept;
 use crate::progress::Progress;
 use cli_lines::{Refusal, write_height};
 use cli_values::Format;
@@ -12,20 +16,30 @@ use key_book::KeyBook;
 use ledger::Ledger;
 use rules::Refused;
 use std::alloc::{AllocError, Global};
-use std::io::{BufWriter, Write};
+use std::io::Write;
 use values::Bytes;
 use world::World;
 
 /// What is asked of a ledger behind its blocks.
 pub(crate) trait Question {
-    /// Writes what the world answers, behind the line of its height.
-    fn write<'a, W: Write>(
+    ghost use Rattle.std.specs.Prelude.{⊤, ℕ, List};
+    ghost use Rattle.rules.specs.World as rules;
+    ghost use Rattle.cli_values.specs.declared.format.Format as format;
+    ghost use Rattle.ledger_commands.specs.Kept.{Adds};
+
+    /// What is told of a world.
+    ghost tells: { Self → format.Format → rules.World → List ℕ → Type 0 } = { λ _ _ _ _. ⊤ };
+
+    /// Adds what the world answers to the lines that are kept, and may write these.
+    fn tell<'a, W: Write>(
         &self,
         alloc: Global,
-        out: &mut W,
         format: Format,
         world: &World,
-    ) -> Result<(), Fault<'a>>;
+        kept: &mut Vec<u8>,
+        out: &mut W,
+    ) -> Result<(), Fault<'a>>
+        ensures { OnOk result ((text : List ℕ) × tells self.now format world.now text × Adds (W.contents out.old) kept.old.items (W.contents out.new) kept.new.items text) };
 }
 
 /// What blocks are handed in to.
@@ -33,17 +47,19 @@ pub(crate) trait Taker {
     ghost use Rattle.std.specs.Prelude.{ℕ, List};
     ghost use Rattle.policy_eval.specs.Accepts.{Accepts};
 
-    /// What a string of bytes makes of it.
-    ghost takes: { Accepts → Self → List ℕ → Self → Type 0 };
+    /// What a string of bytes makes of it, and what the process ends with for it.
+    ghost takes: { Accepts → Self → List ℕ → ℕ → Self → Type 0 };
 
     /// Takes the bytes of the next block, or refuses them. Returns what the process ends with for them. An `Err` is want
     /// of memory.
     fn take(&mut self, bytes: &[u8], keys: &KeyBook) -> Result<u8, AllocError>
-        ensures { OnOk result (takes (accepts keys.now) self.old bytes.now self.new) };
+        ensures { IfOk result (λ status. takes (accepts keys.now) self.old bytes.now status self.new) };
 }
 
 /// What the process ends with for a refused block, unless it was want of memory.
-pub(crate) fn status_of_refused(refused: Refused) -> Result<u8, AllocError> {
+pub(crate) fn status_of_refused(refused: Refused) -> Result<u8, AllocError>
+    ensures { IfOk result (EndsWith (Err refused)) }
+{
     Refusal::of(refused)?;
     Ok(REFUSED)
 }
@@ -65,7 +81,7 @@ fn hand_in_each<T: Taker, P: Progress>(
     keys: &KeyBook,
     progress: &mut P,
 ) -> Result<u8, AllocError>
-    ensures { OnOk result (AreTaken (T.takes (accepts keys.now)) taker.old blocks.items taker.new) }
+    ensures { IfOk result (λ status. AreTaken (T.takes (accepts keys.now)) taker.old 0 blocks.items status taker.new) }
 {
     let mut status = ACCEPTED;
     let mut place = 0;
@@ -85,35 +101,29 @@ pub(crate) fn hand_in<'a, T: Taker, P: Progress>(
     keys: &KeyBook,
     progress: &mut P,
 ) -> Result<u8, Fault<'a>>
-    ensures { OnOk result (AreTaken (T.takes (accepts keys.now)) taker.old blocks.items taker.new) }
+    ensures { IfOk result (λ status. AreTaken (T.takes (accepts keys.now)) taker.old 0 blocks.items status taker.new) }
 {
     let ended = hand_in_each(taker, blocks, keys, progress);
     progress.clear();
     Ok(ended?)
 }
 
+// The height, and then what the world answers.
 fn write_lines<'a, Q: Question, W: Write>(
     alloc: Global,
     out: &mut W,
     format: Format,
     world: &World,
     question: &Q,
-) -> Result<(), Fault<'a>> {
-    write_height(out, format, world.height())?;
-    question.write(alloc, out, format, world)
-}
-
-// Writes the lines through a buffer.
-fn write_through_buffer<'a, Q: Question, W: Write>(
-    alloc: Global,
-    out: &mut W,
-    format: Format,
-    world: &World,
-    question: &Q,
-) -> Result<(), Fault<'a>> {
-    let mut lines = BufWriter::new(alloc, out)?;
-    let ended = write_lines(alloc, &mut lines, format, world, question);
-    finish(lines, ended)
+) -> Result<(), Fault<'a>>
+    ensures { OnOk result ((text : List ℕ) × Q.tells question.now format world.now text × Appends (W.contents out.old) (W.contents out.new) (height_line format (height_of world.now) ++ text)) }
+{
+    let mut kept = Vec::new(alloc);
+    write_height(&mut kept, format, world.height())?;
+    question.tell(alloc, format, world, &mut kept, out)?;
+    write_kept(&mut kept, out)?;
+    out.flush()?;
+    Ok(())
 }
 
 // Writes what the world answers, unless the blocks couldn't be handed in. Returns what the process ends with.
@@ -124,9 +134,12 @@ fn write_answer<'a, Q: Question, W: Write>(
     world: &World,
     question: &Q,
     out: &mut W,
-) -> Result<u8, Fault<'a>> {
+) -> Result<u8, Fault<'a>>
+    ensures same { IfOk result (λ status. handed.entry ≡ Ok status) }
+    ensures text { OnOk result ((text : List ℕ) × Q.tells question.now format world.now text × Appends (W.contents out.old) (W.contents out.new) (height_line format (height_of world.now) ++ text)) }
+{
     let status = handed?;
-    write_through_buffer(alloc, out, format, world, question)?;
+    write_lines(alloc, out, format, world, question)?;
     Ok(status)
 }
 
@@ -138,7 +151,9 @@ fn answer_from<'a, Q: Question, W: Write, P: Progress>(
     question: &Q,
     out: &mut W,
     progress: &mut P,
-) -> Result<u8, Fault<'a>> {
+) -> Result<u8, Fault<'a>>
+    ensures { IfOk result (λ status. AnswersFrom inputs.configuration.channel inputs.configuration.keys inputs.blocks.items (Q.tells question.now) format (W.contents out.old) status (W.contents out.new)) }
+{
     let Inputs {
         configuration,
         blocks,
@@ -150,8 +165,8 @@ fn answer_from<'a, Q: Question, W: Write, P: Progress>(
 }
 
 /// Reads the files, hands the blocks in, one by one, and writes what the ledger behind them answers. Returns what the
-/// process ends with. The memory is the files' bytes, what the ledger keeps, what one block takes, and a buffer of a
-/// fixed size.
+/// process ends with. The memory is the files' bytes, what the ledger keeps, what one block takes, and
+/// the lines that are kept.
 pub(crate) fn answer<'a, F: Files, Q: Question, W: Write, P: Progress>(
     alloc: Global,
     files: &F,
@@ -159,7 +174,9 @@ pub(crate) fn answer<'a, F: Files, Q: Question, W: Write, P: Progress>(
     question: &Q,
     out: &mut W,
     progress: &mut P,
-) -> Result<u8, Fault<'a>> {
+) -> Result<u8, Fault<'a>>
+    ensures { IfOk result (λ status. Answers (F.holds files.now) paths.now (Q.tells question.now) (W.contents out.old) status (W.contents out.new)) }
+{
     let inputs = Inputs::read(alloc, files, paths)?;
     answer_from(alloc, inputs, paths.format, question, out, progress)
 }

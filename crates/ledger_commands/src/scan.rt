@@ -1,3 +1,11 @@
+ghost use Rattle.std.specs.Prelude.{◌≡◌, ◌⊎◌, [], take, Some, IfOk};
+ghost use Rattle.text_lines.specs.Words.{word_bytes};
+ghost use Rattle.std.specs.Ordering.{is_le};
+ghost use Rattle.values.specs.Order.{bytes_cmp};
+ghost use Rattle.rules.specs.Ranges.{is_below, is_within};
+ghost use Rattle.ledger_commands.specs.Asking.{AnswersScan, AreRows};
+
+use crate::kept_lines::write_many;
 use crate::progress::Progress;
 use crate::question::{Question, answer};
 use cli_lines::{write_more, write_row};
@@ -9,6 +17,19 @@ use std::io::Write;
 use values::{BoundRef, Bytes, MAX_KEY, Name};
 use world::World;
 
+fn is_from(start: &[u8], key: &[u8]) -> bool
+    ensures { result ≡ is_le (bytes_cmp start.now key.now) }
+{
+    start.cmp(&key).is_le()
+}
+
+// Whether the key is before the end, which is no bound if it is empty.
+fn is_below(key: &[u8], end: &[u8]) -> bool
+    ensures { result ≡ is_below key.now end.now }
+{
+    end.is_empty() || key.cmp(&end).is_lt()
+}
+
 // Which keys are asked for: from the start to before the end, an empty end being no bound. Either may be
 // longer than a key.
 #[derive(Drop)]
@@ -18,18 +39,32 @@ struct Bounds {
 }
 
 impl Bounds {
-    // The longest front of the start that a key can have. At most one key from there on is before the start.
-    fn first(&self) -> BoundRef<'_> {
+    // The start, or its longest front that a key can have. No key below it is in the bounds.
+    fn first(&self) -> BoundRef<'_>
+        ensures { (result ≡ self.now.start) ⊎ (result ≡ take 1024 self.now.start) }
+    {
         let start = self.start.as_slice();
-        BoundRef::new(&start[..start.len().min(MAX_KEY)])
+        if start.len() > MAX_KEY {
+            return BoundRef::new(&start[..MAX_KEY]);
+        }
+        BoundRef::new(start)
     }
 
-    fn is_before(&self, key: &[u8]) -> bool {
-        key < self.start.as_slice()
+    // The end, or none if it is longer than a key.
+    fn last(&self) -> BoundRef<'_>
+        ensures { (result ≡ self.now.end) ⊎ (result ≡ []) }
+    {
+        let end = self.end.as_slice();
+        if end.len() > MAX_KEY {
+            return BoundRef::new(b"");
+        }
+        BoundRef::new(end)
     }
 
-    fn is_behind(&self, key: &[u8]) -> bool {
-        !self.end.is_empty() && key >= self.end.as_slice()
+    fn has(&self, key: &[u8]) -> bool
+        ensures { result ≡ is_within self.now.start self.now.end key.now }
+    {
+        is_from(self.start.as_slice(), key) && is_below(key, self.end.as_slice())
     }
 }
 
@@ -42,30 +77,32 @@ struct RowsOf {
 }
 
 impl Question for RowsOf {
-    fn write<'a, W: Write>(
+    ghost tells = { λ asked. AreRows asked.namespace asked.bounds.start asked.bounds.end asked.limit };
+
+    fn tell<'a, W: Write>(
         &self,
         alloc: Global,
-        out: &mut W,
         format: Format,
         world: &World,
+        kept: &mut Vec<u8>,
+        out: &mut W,
     ) -> Result<(), Fault<'a>> {
         let mut left = self.limit;
         for keyed in world.state().range(
             &self.namespace.lend(),
             &self.bounds.first(),
-            &BoundRef::new(b""),
+            &self.bounds.last(),
         ) {
             let key = keyed.key();
-            if self.bounds.is_behind(key.as_slice()) {
-                break;
-            }
-            if self.bounds.is_before(key.as_slice()) {
+            if !self.bounds.has(key.as_slice()) {
                 continue;
             }
             if left == 0 {
-                return Ok(write_more(out, format)?);
+                write_more(kept, format)?;
+                return Ok(());
             }
-            write_row(alloc, out, format, key.as_slice(), keyed.row())?;
+            write_row(alloc, kept, format, key.as_slice(), keyed.row())?;
+            write_many(kept, out)?;
             left -= 1;
         }
         Ok(())
@@ -73,7 +110,11 @@ impl Question for RowsOf {
 }
 
 // What the words ask for, looked at in this order.
-fn rows_of<'a>(alloc: Global, words: &Scan<'a>) -> Result<RowsOf, Fault<'a>> {
+fn rows_of<'a>(alloc: Global, words: &Scan<'a>) -> Result<RowsOf, Fault<'a>>
+    ensures start { IfOk result (λ asked. word_bytes words.now.start.now ≡ Some asked.bounds.start) }
+    ensures end { IfOk result (λ asked. word_bytes words.now.end.now ≡ Some asked.bounds.end) }
+    ensures others { IfOk result (λ asked. (asked.namespace ≡ words.now.namespace.now) × (asked.limit ≡ words.now.limit)) }
+{
     let namespace = name_of(alloc, words.namespace)?;
     let start = bytes_of(alloc, words.start)?;
     let end = bytes_of(alloc, words.end)?;
@@ -85,14 +126,16 @@ fn rows_of<'a>(alloc: Global, words: &Scan<'a>) -> Result<RowsOf, Fault<'a>> {
 }
 
 /// Reads the bounds and the files, hands the blocks in, and writes the rows as they are met. Beside
-/// what the blocks take, the memory is the bounds, a policy's text and a buffer of a fixed size.
+/// what the blocks take, the memory is the bounds, a policy's text, 32 KiB of lines and one more line.
 pub fn print_rows<'a, F: Files, W: Write, P: Progress>(
     alloc: Global,
     files: &F,
     words: &Scan<'a>,
     out: &mut W,
     progress: &mut P,
-) -> Result<u8, Fault<'a>> {
+) -> Result<u8, Fault<'a>>
+    ensures { IfOk result (λ status. AnswersScan (F.holds files.now) words.now (W.contents out.old) status (W.contents out.new)) }
+{
     let question = rows_of(alloc, words)?;
     answer(alloc, files, &words.paths, &question, out, progress)
 }
