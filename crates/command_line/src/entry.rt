@@ -50,7 +50,7 @@ fn status_of<E: Write>(ended: Result<u8, Fault<'_>>, err: &mut E) -> u8
 /// process is to end with, as [`program`] does.
 ///
 /// If it is 0 or 1, `out` was given exactly the text that the bytes of the files determine, for the subcommands of which
-/// the clause says one; of `explain` and `show` it says nothing.
+/// the clause says one; of `explain` it says nothing.
 pub fn run_subcommand<R, F, O, E, P>(
     asked: &Asked<'_>,
     rt: &R,

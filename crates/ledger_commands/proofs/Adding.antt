@@ -4,20 +4,10 @@ use Rattle.std.proofs.lemmas.List.{append-nil}
 use Rattle.std.specs.Io.KnownBytes.{Appends}
 use Rattle.ledger_commands.specs.Kept.{Adds}
 
-pub nothing : (given : Option (List ℕ)) (kept : List ℕ) → Adds given kept given kept []
-nothing None kept = tt
-nothing (Some xs) kept = sym (append-nil (xs ++ kept))
-
 -- to what is kept alone
 pub kept_too : (given : Option (List ℕ)) (kept left text : List ℕ) → left ≡ kept ++ text → Adds given kept given left text
 kept_too None kept left text is = tt
 kept_too (Some xs) kept left text is = ap (λ l. xs ++ l) is ∙ sym (append_assoc xs kept text)
-
--- all that was kept was written
-pub all_written : (given now : Option (List ℕ)) (kept left : List ℕ) → left ≡ [] → Appends given now kept → Adds given kept now left []
-all_written None now kept left none written = tt
-all_written (Some xs) None kept left none written = absurd written
-all_written (Some xs) (Some ys) kept left none written = ap (λ l. ys ++ l) none ∙ (append-nil ys ∙ (written ∙ sym (append-nil (xs ++ kept))))
 
 -- a line that was kept, and what was added after it
 pub line_added : (a b c : Option (List ℕ)) (kept one more left line rest : List ℕ) → one ≡ kept ++ line → Adds a one b more [] → Adds b more c left rest → Adds a kept c left (line ++ rest)

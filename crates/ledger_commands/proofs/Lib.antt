@@ -5,3 +5,4 @@ mod Buffers
 mod Counted
 mod Outcomes
 mod Scanned
+mod Showing

@@ -1,5 +1,6 @@
 pub mod Drafting
 pub mod Handing
 pub mod Kept
+pub mod Showing
 pub mod Asking
 pub mod Counting
