@@ -47,7 +47,7 @@ told-by : (so_far : ℕ) (why : Option Refusal) (answers : List Answer) (end : �
 told-by so_far None answers end h = absurd cc
 told-by so_far (Some why) answers end h = (refl, h)
 
--- behind a refused block
+-- after a refused block
 stays : (answers : List Answer) (end : ℕ) → worst_of 1 answers ≡ Some end → (end ≡ 1) × AreTold (map answer_in answers)
 stays [] end h = (cc, tt)
 stays (Ok r ∷ answers) end h = stays answers end h

@@ -19,7 +19,7 @@ last_receipt before [] = before
 last_receipt before (Ok receipt ∷ answers) = last_receipt (Some receipt) answers
 last_receipt before (Err why ∷ answers) = last_receipt before answers
 
--- the worst that the process ends with for these answers, and so far; nothing where one is want of memory
+-- the worst status for these answers and those so far; none if one is out of memory
 abbrev pub worst_of : ℕ → List (Result Receipt NotCommitted) → Option ℕ
 worst_of so_far [] = Some so_far
 worst_of so_far (answer ∷ answers) = option_and_then (λ status. worst_of (max so_far status) answers) (status_of answer)
@@ -46,7 +46,7 @@ abbrev pub known_list : Option Receipt → List Delta
 known_list None = []
 known_list (Some receipt) = receipt.front.list
 
--- Behind these bytes, if they are known, a line was written for each of so many readers, with a height no less than this receipt's.
+-- After these bytes, if they are known, a line was written for each of `readers` readers, with a height no less than this receipt's.
 pub record ReadersTold (style : Style) (readers : ℕ) (last : Option Receipt) (before now : Option (List ℕ)) : Type 0 where
   pub heights : List ℕ
   pub each : length heights ≡ readers

@@ -32,7 +32,7 @@ abbrev pub lines_behind : Style → ℕ → List (Result Receipt NotCommitted) �
 lines_behind style before [] = []
 lines_behind style before (answer ∷ answers) = answer_lines style (suc before) answer ++ lines_behind style (suc before) answers
 
--- what the process ends with for this answer, where all others are accepted; want of memory has nothing
+-- the process's status for this answer, if all other blocks are accepted; out of memory has none
 abbrev pub status_of : Result Receipt NotCommitted → Option ℕ
 status_of (Ok r) = Some 0
 status_of (Err why) = option_map (λ refusal. 1) (refusal_in why)

@@ -49,8 +49,8 @@ fn status_of<E: Write>(ended: Result<u8, Fault<'_>>, err: &mut E) -> u8
 /// The program once its words are read: does what they ask for, and says why if that ends before. Returns what the
 /// process is to end with, as [`program`] does.
 ///
-/// If it is 0 or 1, `out` was given exactly the text that the bytes of the files determine, for the subcommands of which
-/// the clause says one; of `explain` it says nothing.
+/// If it is 0 or 1, `out` was given exactly a text that the clause describes by the bytes of the files: the only one, but
+/// for heights of readers, and for comments and bytes of faults of `show`. Of `explain` the clause says nothing.
 pub fn run_subcommand<R, F, O, E, P>(
     asked: &Asked<'_>,
     rt: &R,

@@ -191,7 +191,7 @@ fn commit_beside_readers<R: AllocGlobal + Threads + Wait + Sync, W: Write, P: Pr
     done
 }
 
-// All lines, those of the readers behind those of the blocks.
+// All lines, those of the readers after those of the blocks.
 fn write_lines<'a, R: AllocGlobal + Threads + Wait + Sync, W: Write, P: Progress>(
     committer: &mut Committer,
     handles: Vec<QueryHandle>,

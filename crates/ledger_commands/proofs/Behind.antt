@@ -1,4 +1,4 @@
--- The ledger behind strings that were taken, and what the process ends with.
+-- The ledger after byte strings that were taken, and the process's status.
 use Rattle.std.proofs.Common.{◌≡◌, ◌∷◌, ◌∙◌, ℕ, max, List, [], Result, Ok, Err, refl, ap, subst}
 use Rattle.channel.specs.Configuration.{Configuration}
 use Rattle.key_book.specs.Book.{accepts}

@@ -19,7 +19,7 @@ and-true true = refl
 and-true false = refl
 
 module _ (known : Option Configuration) (blocks : List (List ℕ)) (first : Option (List ℕ)) where
-  -- what is yet to be shown after so many strings
+  -- what is yet to be shown after `i` byte strings
   abbrev pub Left : ℕ → Bool → Option (List ℕ) → Type 0
   Left i so_far out = (now : Option (List ℕ)) → (text : List ℕ) → (others : Bool) → AreShown known i (drop i blocks) text others → Appends out now text → Prints known blocks first (so_far && others) now
 

@@ -1,4 +1,4 @@
--- What is printed of a ledger behind blocks, from what the files hold.
+-- What is printed of a ledger after its blocks, from what the files hold.
 use Rattle.std.specs.Prelude.{◌≡◌, ℕ, if◌then◌else◌, List, [], ◌∷◌, ◌++◌, map, Option, Some, None, Result, Ok, Err, IsSome}
 use Rattle.std.specs.FinMap.{get}
 use Rattle.std.specs.List.{flat_map}
@@ -32,21 +32,21 @@ status_for [] = 0
 status_for (Ok accepted ∷ answers) = status_for answers
 status_for (Err refused ∷ answers) = 1
 
--- none of the answers is want of memory
+-- none of the answers is out of memory
 abbrev pub AreTold : List (Result Accepted Refused) → Type 0
 AreTold [] = Unit {0}
 AreTold (Ok accepted ∷ answers) = AreTold answers
 AreTold (Err refused ∷ answers) = IsSome (refusal_of refused) × AreTold answers
 
 -- From the empty world of the channel, these strings of bytes are taken one after the other, each by one step of the rules, with
--- signatures by these keys. This is the world behind them, and the process ends with the status.
+-- signatures by these keys. This is the ledger after them, and the process ends with the status.
 pub record IsBehind (channel : Configuration) (keys : List Entry) (blocks : List (List ℕ)) (world : World) (status : ℕ) : Type 0 where
   pub answers : List (Result Accepted Refused)
   pub chain : Chain channel (empty_world channel.definitions) (submissions (accepts keys) blocks) answers world
   pub told : AreTold answers
   pub is_status : status ≡ status_for answers
 
--- The ledger behind the blocks of files with these paths, where files hold what `Holds` says.
+-- The ledger after the blocks of files with these paths, if files hold what `Holds` says.
 pub record IsLedgerOf (Holds : List ℕ → List ℕ → Type 0) (paths : LedgerPaths) (world : World) (status : ℕ) : Type 0 where
   pub channel : Configuration
   pub keys : List Entry
@@ -55,7 +55,7 @@ pub record IsLedgerOf (Holds : List ℕ → List ℕ → Type 0) (paths : Ledger
   pub held : AreHeld (λ path. Holds path.now) paths.blocks.items blocks
   pub behind : IsBehind channel keys blocks world status
 
--- Behind what the output held before, the height of that ledger and then what is told of its world; and the status.
+-- After what the output held before, the height of that ledger and then what is printed of it; and the status.
 pub record Answers (Holds : List ℕ → List ℕ → Type 0) (paths : LedgerPaths) (tells : Format → World → List ℕ → Type 0) (before : Option (List ℕ)) (status : ℕ) (now : Option (List ℕ)) : Type 0 where
   pub world : World
   pub of_files : IsLedgerOf Holds paths world status

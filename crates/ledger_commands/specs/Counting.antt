@@ -1,4 +1,4 @@
--- What is counted of the blocks that are handed in, and what is told of it.
+-- What `conflicts` counts of the blocks that are submitted, and what it prints.
 use Rattle.std.specs.Prelude.{◌≡◌, ℕ, nat_lt, Bool, true, false, List, [], ◌∷◌, ◌++◌, Option, Result, Ok, Err}
 use Rattle.std.specs.Io.KnownBytes.{Appends}
 use Rattle.channel.specs.Configuration.{Configuration}

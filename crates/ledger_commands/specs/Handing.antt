@@ -13,7 +13,7 @@ abbrev pub AreTaken : {T : Type 0} → (T → List ℕ → ℕ → T → Type 0)
 AreTaken Takes old before [] status new = (new ≡ old) × (status ≡ before)
 AreTaken {T} Takes old before (bytes ∷ more) status new = (mid : T) × (one : ℕ) × Takes old bytes one mid × AreTaken Takes mid (max before one) more status new
 
--- what the process ends with for this answer, where all others are accepted; want of memory has nothing
+-- the process's status for this answer, if all other blocks are accepted; out of memory has none
 abbrev pub EndsWith : Result Accepted Refused → ℕ → Type 0
 EndsWith (Ok accepted) status = status ≡ 0
 EndsWith (Err refused) status = IsSome (refusal_of refused) × (status ≡ 1)

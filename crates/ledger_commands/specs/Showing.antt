@@ -48,7 +48,7 @@ abbrev pub separator : ℕ → List ℕ
 separator zero = []
 separator (suc before) = codes "\n"
 
--- what is printed for strings after so many others, and whether all spell blocks
+-- what is printed for byte strings after `before` others, and whether all are blocks
 abbrev pub AreShown : Option Configuration → ℕ → List (List ℕ) → List ℕ → Bool → Type 0
 AreShown known before [] text are_blocks = (text ≡ []) × (are_blocks ≡ true)
 AreShown known before (bytes ∷ more) text are_blocks =

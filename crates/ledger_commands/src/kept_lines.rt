@@ -6,7 +6,7 @@ ghost use Rattle.ledger_commands.specs.Kept.{Adds};
 use std::io;
 use std::io::Write;
 
-// So many bytes are worth a write.
+// This many bytes are worth a write.
 const MANY: usize = 1 << 15;
 
 /// Writes what is kept, and keeps nothing.

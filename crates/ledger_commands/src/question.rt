@@ -27,7 +27,7 @@ pub(crate) trait Question {
     ghost use Rattle.cli_values.specs.declared.format.Format as format;
     ghost use Rattle.ledger_commands.specs.Kept.{Adds};
 
-    /// What is told of a world.
+    /// What is printed of a ledger.
     ghost tells: { Self → format.Format → rules.World → List ℕ → Type 0 } = { λ _ _ _ _. ⊤ };
 
     /// Adds what the world answers to the lines that are kept, and may write these.
