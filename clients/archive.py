@@ -6,6 +6,7 @@ import sys
 TOP = pathlib.Path(__file__).resolve().parent.parent
 sys.path.append(str(TOP / "launch"))
 
+import processor
 import sources
 
 CRATE = "fabcommit_c"
@@ -21,8 +22,8 @@ def newest_source(crates):
     return max(file.stat().st_mtime for file in files)
 
 
-def build(kit, crates):
-    """The prover's own call, over libraries that are there."""
+def build(kit, crates, to=ARCHIVE, level=processor.EVERYWHERE):
+    """The prover's own call, over libraries that are there, for processors of a level."""
     words = [kit / "bin" / "rattle", "build", "--crate-name", CRATE, "--crate-type", "staticlib", "src/lib.rt"]
     for name in sources.of_kit(CRATE, crates):
         words += ["--extern", f"{name}={kit}/rlibs/{name}.rlib"]
@@ -33,8 +34,9 @@ def build(kit, crates):
     for name in sources.all_below(CRATE, crates):
         words += ["-L", f"dependency={library(name).parent}"]
     words += ["--antt-project", kit / "rattle" / "logic" / "antt-project.json", "--logic-built", kit / "logic_built"]
-    words += ["--jobs", "2", "--links", f"{CRATE}=", "--toolchain", kit / "toolchain", "-o", ARCHIVE]
-    ARCHIVE.parent.mkdir(exist_ok=True)
+    words += ["--jobs", "2", "--links", f"{CRATE}=", "--toolchain", kit / "toolchain", "-o", to]
+    words += ["--cpu", level] if level != processor.EVERYWHERE else []
+    to.parent.mkdir(exist_ok=True)
     built = subprocess.run([str(word) for word in words], cwd=TOP / "crates" / CRATE, capture_output=True, text=True)
     if built.returncode:
         sys.exit(f"archive: {CRATE} isn't built:\n{(built.stdout + built.stderr)[-3000:]}")
@@ -50,9 +52,15 @@ def is_current():
     return ARCHIVE.exists() and ARCHIVE.stat().st_mtime >= newest_source(sources.crates_below(CRATE))
 
 
-def paths():
+def paths(of_crate=ARCHIVE):
     """That of the crate, and the kit's, by which it allocates."""
-    return [ARCHIVE, sources.kit() / "c" / "liblibc_c.a"]
+    return [of_crate, sources.kit() / "c" / "liblibc_c.a"]
+
+
+def faster(folder):
+    """Both, that of the crate in a folder and for processors of 2013 and later. The libraries below it have to be there."""
+    build(sources.kit(), sources.crates_below(CRATE), folder / ARCHIVE.name, processor.FASTER)
+    return paths(folder / ARCHIVE.name)
 
 
 def archives():

@@ -77,14 +77,19 @@ class Trials:
 
     def of_c(self):
         work = self.work
-        c = lambda name: ["cc", *C_FLAGS, CLIENTS / "c" / f"{name}.c", *self.archives, "-o", work / name]
+        c = lambda name: ["cc", *C_FLAGS, "-pthread", CLIENTS / "c" / f"{name}.c", *self.archives, "-o", work / name]
         valgrind = ["valgrind", "--quiet", "--leak-check=full", "--error-exitcode=9"]
+        drd = ["valgrind", "--quiet", "--tool=drd", "--error-exitcode=9"]
+        share = [work / "share", *FILES, *GOOD]
         return [
             Trial("fits", "cc", [c("fits")], [work / "fits"]),
             Trial("memory", "cc", [c("memory")], [work / "memory", *FILES, *GOOD]),
             Trial("hostile", "cc", [c("hostile")], [work / "hostile", *FILES, *GOOD]),
             Trial("hostile, by valgrind", "cc valgrind", [c("hostile")], [*valgrind, work / "hostile", *FILES, *GOOD]),
             Trial("C", "cc", [c("run")], [work / "run", *self.blocks], **self.run),
+            Trial("C, on threads", "cc", [c("share")], share, **self.all_good),
+            Trial("C, on threads, by valgrind", "cc valgrind", [c("share")], [*valgrind, *share], **self.all_good),
+            Trial("C, on threads, by drd", "cc valgrind", [c("share")], [*drd, *share], **self.all_good),
             Trial("C, which explains", "cc", [c("explain")], [work / "explain", *self.explained], **self.explain),
         ]
 
@@ -158,11 +163,13 @@ class Trials:
     def of_go(self):
         program = self.work / "run_go"
         build = ["go", "build", "-tags", "nopkgconfig", "-o", program, "./cmd/run"]
+        test = ["go", "test", "-tags", "nopkgconfig", "./..."]
         env = {
             "CGO_CFLAGS": f"-I{TOP / 'include'}", "CGO_LDFLAGS": " ".join(map(str, self.archives)), "GOFLAGS": "-mod=mod",
             "GO111MODULE": "on", "GOCACHE": str(self.work / "go_cache"), "GOPROXY": "off", "CGO_ENABLED": "1",
         }
         return [
             Trial("Go", "go", [build], [program, *self.blocks], env, CLIENTS / "go", **self.run),
+            Trial("Go, its tests", "go", [test], ["true"], env, CLIENTS / "go"),
             Trial("Go, which checks", "go", [build], [program, "-verify", *self.blocks], env, CLIENTS / "go", **self.run),
         ]

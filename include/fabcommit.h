@@ -3,8 +3,12 @@
  *
  * What the caller owes, and nothing checks:
  * - A handle is 16 bytes of the caller's. Of zeros it is closed. It is read and written by these calls alone, and never used from two
- *   copies. Calls on one handle come one after the other; from thread to thread it may go, as under a lock.
- * - No buffer overlaps another one or the handle. No pointer is null, even if its length is 0. A bool is 0 or 1.
+ *   copies.
+ * - A handle is one call's at a time, also in a query; from thread to thread it may go, as under a lock. To ask from
+ *   several threads, give each a handle by fabcommit_share, which is a call on both handles. A ledger takes blocks
+ *   while one handle holds it. Keep threads' handles on different cache lines: calls write them.
+ * - No buffer overlaps another one or a handle, and the two handles of fabcommit_share don't overlap. No pointer is
+ *   null, even if its length is 0. A bool is 0 or 1.
  * - malloc, realloc and free are one allocator's; no call comes from a signal handler, or from a forked child of a process with threads.
  *
  * What a call promises: it answers a code below, whatever else it is given. A code other than FABCOMMIT_OK has changed nothing, but what
@@ -21,7 +25,7 @@ extern "C" {
 #endif
 
 /* The version of this interface that the header declares. */
-#define FABCOMMIT_INTERFACE 2u
+#define FABCOMMIT_INTERFACE 3u
 
 enum {
     FABCOMMIT_OK = 0,
@@ -37,7 +41,8 @@ enum {
     FABCOMMIT_NO_KEYS = 10,        /* the text is no key book */
     FABCOMMIT_NO_NAME = 11,        /* a namespace or chaincode is no name, a key no key, an id no id */
     FABCOMMIT_NONE = 12,           /* there is no row, block, policy or use */
-    FABCOMMIT_SMALL = 13           /* a buffer is too small; what is needed was told */
+    FABCOMMIT_SMALL = 13,          /* a buffer is too small; what is needed was told */
+    FABCOMMIT_SHARED = 14          /* another handle holds the ledger: it takes no block until that one is closed */
 };
 
 typedef struct { void *at; bool is_open; } fabcommit_handle;
@@ -146,8 +151,15 @@ void fabcommit_versions(fabcommit_version_numbers *versions);
  * handle held is freed. */
 uint32_t fabcommit_open(fabcommit_handle *handle, const uint8_t *channel, size_t channel_len, const uint8_t *keys, size_t keys_len);
 
-/* Frees what the handle holds. A closed handle stays closed, and may be opened. */
+/* Frees what the handle holds, but a ledger that other handles hold stays theirs. A closed handle stays closed, and may
+ * be opened. */
 void fabcommit_close(fabcommit_handle *handle);
+
+/* Makes `other` one more handle of the same ledger, with the same keys. What `other` held is freed, but at
+ * FABCOMMIT_MEMORY and FABCOMMIT_CLOSED it stays as it was. Each handle may then be used by a thread of its own, at the
+ * same time. While two or more handles hold the ledger, fabcommit_submit and fabcommit_submit_by return
+ * FABCOMMIT_SHARED: close all but one, submit, and share again. */
+uint32_t fabcommit_share(fabcommit_handle *handle, fabcommit_handle *other);
 
 /* Hands in the next block, whose signatures are checked by the keys of the handle. The flags are had by fabcommit_flags. */
 uint32_t fabcommit_submit(fabcommit_handle *handle, const uint8_t *block, size_t block_len, fabcommit_receipt *receipt);

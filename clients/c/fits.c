@@ -45,12 +45,13 @@ static void wants(const char *what, uint64_t got, uint64_t want)
 int main(void)
 {
     /* what a call writes beside its parts would be seen here */
-    struct { fabcommit_handle before, handle, after; } h;
+    struct { fabcommit_handle before, handle, after; } h, other;
     struct { fabcommit_receipt receipt; uint8_t after[16]; } r;
     struct { fabcommit_row row; uint8_t after[16]; } w;
     uint8_t sevens[16];
     memset(&h, 7, sizeof h);
     memset(&h.handle, 0, sizeof h.handle);
+    other = h;
     memset(&r, 7, sizeof r);
     memset(&w, 7, sizeof w);
     memset(sevens, 7, sizeof sevens);
@@ -66,6 +67,8 @@ int main(void)
     wants("last version of blocks", versions.last_block, 2);
     wants("height of a closed one", fabcommit_height(&h.handle, &height), FABCOMMIT_CLOSED);
     wants("submit to a closed one", fabcommit_submit(&h.handle, BYTES("x"), &r.receipt), FABCOMMIT_CLOSED);
+    wants("share of a closed one", fabcommit_share(&h.handle, &other.handle), FABCOMMIT_CLOSED);
+    wants("height of the other one", fabcommit_height(&other.handle, &height), FABCOMMIT_CLOSED);
     wants("open without a channel", fabcommit_open(&h.handle, BYTES("x"), BYTES("")), FABCOMMIT_NO_CHANNEL);
     wants("open without text", fabcommit_open(&h.handle, BYTES("\377"), BYTES("")), FABCOMMIT_NO_TEXT);
     wants("open without keys", fabcommit_open(&h.handle, BYTES("channel c"), BYTES("x")), FABCOMMIT_NO_KEYS);
@@ -79,6 +82,14 @@ int main(void)
     wants("its fault", r.receipt.got, 1);
     wants("list of no block", fabcommit_list(BYTES("x"), bytes, 4, &verdict, 1, &sizes), FABCOMMIT_MALFORMED);
     wants("its size", sizes.pool, 7);
+    r.receipt.got = 7;
+    wants("share", fabcommit_share(&h.handle, &other.handle), FABCOMMIT_OK);
+    wants("height of the other one", fabcommit_height(&other.handle, &height), FABCOMMIT_OK);
+    wants("submit to a shared one", fabcommit_submit(&h.handle, BYTES("x"), &r.receipt), FABCOMMIT_SHARED);
+    wants("submit_by to a shared one",
+          fabcommit_submit_by(&other.handle, BYTES("BLK9"), bytes, 4, &verdict, 0, &r.receipt), FABCOMMIT_SHARED);
+    wants("what wasn't told", r.receipt.got, 7);
+    fabcommit_close(&other.handle);
     wants("get", fabcommit_get(&h.handle, BYTES("c"), BYTES("k"), &w.row, bytes, 4), FABCOMMIT_NONE);
     wants("get without a name", fabcommit_get(&h.handle, BYTES(""), BYTES("k"), &w.row, bytes, 4), FABCOMMIT_NO_NAME);
     wants("block", fabcommit_block(&h.handle, 0, &r.receipt), FABCOMMIT_NONE);
@@ -110,5 +121,6 @@ int main(void)
     fabcommit_close(&h.handle);
     wants("height of a closed one", fabcommit_height(&h.handle, &height), FABCOMMIT_CLOSED);
     wants("what stands beside", memcmp(&h.before, sevens, 16) || memcmp(&h.after, sevens, 16) || memcmp(r.after, sevens, 16) || memcmp(w.after, sevens, 16), 0);
+    wants("what stands beside the other", memcmp(&other.before, sevens, 16) || memcmp(&other.after, sevens, 16), 0);
     return failures != 0;
 }

@@ -1,6 +1,6 @@
-/* hostile CHANNEL KEYS BLOCK..: makes 2,000 calls of what comes, with spoiled blocks, pieces of no pool, buffers of any size and handles
- * that are closed. Each buffer is an allocation of its own, so that valgrind sees a byte beside it. A code other than FABCOMMIT_OK has
- * written nothing, and at the end nothing is left. Silent if so. */
+/* hostile CHANNEL KEYS BLOCK..: makes 2,000 calls of what comes, with spoiled blocks, pieces of no pool, buffers of any
+ * size, and handles that are closed or share a ledger. Each buffer is an allocation of its own, so that valgrind sees a
+ * byte beside it. A code other than FABCOMMIT_OK has written nothing, and at the end nothing is left. Silent if so. */
 #include "fabcommit.h"
 #include <stdio.h>
 #include <stdlib.h>
@@ -62,7 +62,7 @@ static struct bytes word(bool is_key)
 
 static void check(const char *call, uint32_t code, bool is_kept)
 {
-    if (code <= FABCOMMIT_SMALL && (code == FABCOMMIT_OK || is_kept)) return;
+    if (code <= FABCOMMIT_SHARED && (code == FABCOMMIT_OK || is_kept)) return;
     printf("%s: code %u%s\n", call, code, is_kept ? "" : ", and a buffer isn't as it was");
     exit(1);
 }
@@ -90,7 +90,7 @@ static struct bytes verdicts(size_t pool)
 #define OF(b) (b).at, (b).len
 #define RECORDS(type, b) (type *)(b).at, (b).len / sizeof(type)
 
-static void call(fabcommit_handle *h)
+static void call(fabcommit_handle *h, fabcommit_handle *other)
 {
     fabcommit_receipt receipt;
     fabcommit_row row;
@@ -105,7 +105,7 @@ static void call(fabcommit_handle *h)
     struct bytes said = verdicts(pool.len), table = buffer(pool.len);
     struct bytes text = h->is_open && any(4) ? d : channel, book = any(4) ? keys : a, id = any(2) ? pool : d;
     bool keeps = true;
-    uint32_t code = 0, which = any(18);
+    uint32_t code = 0, which = any(20);
     switch (which) {
     case 0: code = fabcommit_open(h, OF(text), OF(book)); break;
     case 1: if (!any(8)) fabcommit_close(h); break;
@@ -123,7 +123,9 @@ static void call(fabcommit_handle *h)
     case 15: code = fabcommit_key_policy(h, OF(a), OF(b), OF(pool), &len); break;
     case 16: code = fabcommit_explain(h, OF(d), OF(pool), RECORDS(fabcommit_reason, list), RECORDS(fabcommit_identity, more), &why); break;
     case 17: code = fabcommit_explain_by(h, OF(d), OF(table), RECORDS(fabcommit_verdict, said), OF(pool), RECORDS(fabcommit_reason, list),
-                                         RECORDS(fabcommit_identity, more), &why);
+                                         RECORDS(fabcommit_identity, more), &why); break;
+    case 18: code = fabcommit_share(h, other); break;
+    case 19: fabcommit_close(other);
     }
     keeps = is_kept(pool) && is_kept(list) && is_kept(more);
     char name[16];
@@ -138,10 +140,13 @@ int main(int argc, char **argv)
     channel = read_file(argv[1]);
     keys = read_file(argv[2]);
     for (; n_blocks < argc - 3; n_blocks++) blocks[n_blocks] = read_file(argv[n_blocks + 3]);
-    fabcommit_handle handle = {0};
-    for (int i = 0; i < 2000; i++) call(&handle);
-    fabcommit_close(&handle);
-    fabcommit_close(&handle);
+    fabcommit_handle handles[2] = {{0}, {0}};
+    for (int i = 0; i < 2000; i++) {
+        /* mostly the first one, so that the ledger has one handle at times, and takes blocks */
+        int one = !any(8);
+        call(&handles[one], &handles[!one]);
+    }
+    for (int i = 0; i < 4; i++) fabcommit_close(&handles[i % 2]);
     free(channel.at), free(keys.at);
     while (n_blocks) free(blocks[--n_blocks].at);
     return 0;

@@ -37,7 +37,7 @@ void free(void *at)
 struct bytes { uint8_t *at; size_t len; };
 static struct bytes channel, keys, blocks[16];
 static int n_blocks;
-static fabcommit_handle handle;
+static fabcommit_handle handle, other;
 static uint8_t pool[1 << 20];
 static fabcommit_verdict verdicts[4096];
 static fabcommit_past_write writes[64];
@@ -46,7 +46,7 @@ static fabcommit_reason reasons[64];
 static fabcommit_identity identities[256];
 
 /* how many calls there are besides those of the blocks */
-enum { OTHERS = 9 };
+enum { OTHERS = 10 };
 
 static struct bytes read_file(const char *path)
 {
@@ -58,6 +58,15 @@ static struct bytes read_file(const char *path)
     if (!bytes.at || fread(bytes.at, 1, bytes.len, file) != bytes.len) { perror(path); exit(2); }
     fclose(file);
     return bytes;
+}
+
+/* Shares the ledger, and gives the share back. If that fails the other handle stays closed. */
+static uint32_t share(void)
+{
+    uint32_t code = fabcommit_share(&handle, &other);
+    if (code && other.is_open) return FABCOMMIT_SHARED;
+    fabcommit_close(&other);
+    return code;
 }
 
 static uint32_t call(int step)
@@ -83,6 +92,7 @@ static uint32_t call(int step)
     case 8: return fabcommit_list(blocks[0].at, blocks[0].len, pool, sizeof pool, verdicts, 4096, &sizes) ? FABCOMMIT_MEMORY
         : fabcommit_explain_by(&handle, blocks[0].at, blocks[0].len, pool, sizes.pool, verdicts, sizes.verdicts, pool + sizes.pool,
                                sizeof pool - sizes.pool, reasons, 64, identities, 256, &why);
+    case 9: return share();
     case OTHERS: return fabcommit_list(blocks[0].at, blocks[0].len, pool, sizeof pool, verdicts, 4096, &sizes) ? FABCOMMIT_MEMORY
         : fabcommit_submit_by(&handle, blocks[0].at, blocks[0].len, pool, sizes.pool, verdicts, sizes.verdicts, &receipt);
     }

@@ -9,10 +9,10 @@
 #include <time.h>
 
 struct bytes { uint8_t *at; size_t len; };
-enum { TURNS = 1000, CALLS = 16, POOL = 1 << 24, RECORDS = 1 << 16 };
+enum { TURNS = 1000, CALLS = 18, POOL = 1 << 24, RECORDS = 1 << 16 };
 static const char *const NAMES[CALLS] = {
     "list", "explain", "explain_by", "submit", "submit_by", "height", "get", "key_policy", "block", "flags", "definition", "first_use",
-    "scan, 100 rows", "history", "open", "close",
+    "scan, 100 rows", "history", "open", "close", "share", "close of a share",
 };
 static double times[CALLS][TURNS];
 static int counts[CALLS];
@@ -116,11 +116,13 @@ int main(int argc, char **argv)
     for (int i = 0; i < TURNS; i++) {
         TIMED(14, 0, fabcommit_open(&other, channel.at, channel.len, keys.at, keys.len));
         TIMED(15, 0, (fabcommit_close(&other), 0));
+        TIMED(16, 0, fabcommit_share(&handle, &other));
+        TIMED(17, 0, (fabcommit_close(&other), 0));
     }
     fabcommit_close(&handle);
     for (int i = 0; i < CALLS; i++) {
         qsort(times[i], (size_t)counts[i], sizeof **times, in_order);
-        printf("%-15s %10.2f\n", NAMES[i], counts[i] ? times[i][counts[i] / 2] : 0.0);
+        printf("%-16s %10.2f\n", NAMES[i], counts[i] ? times[i][counts[i] / 2] : 0.0);
     }
     return 0;
 }

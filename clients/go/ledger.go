@@ -39,9 +39,12 @@ type Request struct {
 // Verify tells whether a signature is good. It may be asked by several goroutines at once.
 type Verify func(Request) bool
 
-// Ledger is a channel's ledger, for one call at a time. C allocates the handle, so that no pointer of C's stands in Go's
-// memory.
+// Ledger is a channel's ledger, for one call at a time: each goroutine has one of its own, by Share. C allocates the
+// handle, so that no pointer of C's stands in Go's memory.
 type Ledger struct{ handle *C.fabcommit_handle }
+
+// ErrShared refuses a block while another Ledger shares the ledger.
+var ErrShared = Refused{Code: C.FABCOMMIT_SHARED}
 
 func at(bytes []byte) *C.uint8_t {
 	if len(bytes) == 0 {
@@ -53,18 +56,33 @@ func at(bytes []byte) *C.uint8_t {
 // no pointer is null, also of an empty buffer
 var none [1]byte
 
-// Open gives the ledger of height 0 of a channel's text, with a text of keys if the library checks signatures.
-func Open(channel, keys []byte) (*Ledger, error) {
-	ledger := &Ledger{(*C.fabcommit_handle)(C.calloc(1, C.sizeof_fabcommit_handle))}
-	code := C.fabcommit_open(ledger.handle, at(channel), C.size_t(len(channel)), at(keys), C.size_t(len(keys)))
-	if code != C.FABCOMMIT_OK {
-		C.free(unsafe.Pointer(ledger.handle))
+// opened gives the ledger of the handle that a call opens.
+func opened(call func(*C.fabcommit_handle) C.uint32_t) (*Ledger, error) {
+	handle := (*C.fabcommit_handle)(C.calloc(1, handleRoom))
+	if code := call(handle); code != C.FABCOMMIT_OK {
+		C.free(unsafe.Pointer(handle))
 		return nil, Refused{Code: uint32(code)}
 	}
-	return ledger, nil
+	return &Ledger{handle}, nil
 }
 
-// Close frees what the ledger holds. It isn't used after that.
+// handleRoom keeps handles on different cache lines, since each call writes its handle.
+const handleRoom = 128
+
+// Open gives the ledger of height 0 of a channel's text, with a text of keys if the library checks signatures.
+func Open(channel, keys []byte) (*Ledger, error) {
+	return opened(func(handle *C.fabcommit_handle) C.uint32_t {
+		return C.fabcommit_open(handle, at(channel), C.size_t(len(channel)), at(keys), C.size_t(len(keys)))
+	})
+}
+
+// Share gives one more Ledger of the same ledger and keys, for another goroutine: both may be queried at the same time.
+// While more than one is open, a block is refused with ErrShared: close all but one, submit, and share again.
+func (l *Ledger) Share() (*Ledger, error) {
+	return opened(func(handle *C.fabcommit_handle) C.uint32_t { return C.fabcommit_share(l.handle, handle) })
+}
+
+// Close frees what the ledger holds, unless others share it. It isn't used after that.
 func (l *Ledger) Close() {
 	C.fabcommit_close(l.handle)
 	C.free(unsafe.Pointer(l.handle))

@@ -2,7 +2,7 @@
 import fabcommit
 from fabcommit import Code, NoBlock, binding
 
-CLOSED, NONE, SMALL = Code.CLOSED, Code.NONE, Code.SMALL
+CLOSED, NONE, SHARED, SMALL = Code.CLOSED, Code.NONE, Code.SHARED, Code.SMALL
 
 
 class Ledger(fabcommit.Ledger):

@@ -36,7 +36,7 @@ from policies import read_policy
 from run import refusal
 from scripts import accepts, drafted, keys_of
 from scripts_at_random import ADMIN, Trial, good_lines, raw_lines, second_lines, words_said
-from tuples import CLOSED, NONE, SMALL, Ledger
+from tuples import CLOSED, NONE, SHARED, SMALL, Ledger
 from updates_at_random import UpdateTrial
 from words import word
 
@@ -58,12 +58,27 @@ class LibraryTrial(UpdateTrial):
         verify = self.pick.choice([None, verifier(keys_in(keys))])
         return Ledger(channel, b"" if verify else keys), verify
 
+    @staticmethod
+    def check_shared(ledger, octets, verify):
+        """While a second handle holds the ledger, neither takes a block."""
+        with ledger.share() as share:
+            for one in (ledger, share):
+                before = one.height()
+                try:
+                    one.submit(octets, verify)
+                    assert False, "a shared ledger took a block"
+                except Refused as refused:
+                    assert refused.code == SHARED and one.height() == before
+
     def opened(self, files):
         """A ledger that took these files, their lines with and without hashes, and the status."""
         (ledger, verify), lines, hashes, status = self.blank_ledger(), [], [], 0
         for place, name in enumerate(files, 1):
+            octets = (self.folder / name).read_bytes()
+            if self.pick.random() < 0.3:
+                self.check_shared(ledger, octets, verify)
             try:
-                told = ledger.submit((self.folder / name).read_bytes(), verify)
+                told = ledger.submit(octets, verify)
                 flags = ledger.flags(told.number)
                 lines.append(" ".join(["accepted", str(told.number), bytes(told.header_hash).hex(), *map(str, flags)]) + "\n")
                 hashes += [lines[-1], f"commit {told.number} {bytes(told.commit_hash).hex()}\n"]
@@ -71,6 +86,10 @@ class LibraryTrial(UpdateTrial):
                 lines.append(refusal(place, refused) + "\n")
                 hashes.append(lines[-1])
                 status = 1
+        # what is asked of it may be asked of a share that outlives it
+        if self.pick.random() < 0.5:
+            with ledger:
+                ledger = ledger.share()
         return ledger, "".join(lines), "".join(hashes), status
 
     def definition(self, ledger, name):

@@ -7,8 +7,8 @@
 """
 from . import reasons
 from .errors import (
-    BlockRefused, Closed, Code, Malformed, NoBlock, NoChannel, NoKeys, NoName, NoText, OldVersion, OutOfMemory, Refused, WrongDataHash,
-    WrongNumber, WrongPrevious,
+    BlockRefused, Closed, Code, Malformed, NoBlock, NoChannel, NoKeys, NoName, NoText, OldVersion, OutOfMemory, Refused,
+    Shared, WrongDataHash, WrongNumber, WrongPrevious,
 )
 from .ledger import Ledger, versions
 from .listing import Listing
@@ -16,7 +16,8 @@ from .reasons import Reason
 from .records import Flag, Identity, Receipt, Request, Role, Row, Use, Verify, Version, Versions, Write
 
 __all__ = [
-    "BlockRefused", "Closed", "Code", "Flag", "Identity", "Ledger", "Listing", "Malformed", "NoBlock", "NoChannel", "NoKeys", "NoName",
-    "NoText", "OldVersion", "OutOfMemory", "Reason", "Receipt", "Refused", "Request", "Role", "Row", "Use", "Verify", "Version", "Versions",
-    "Write", "WrongDataHash", "WrongNumber", "WrongPrevious", "reasons", "versions",
+    "BlockRefused", "Closed", "Code", "Flag", "Identity", "Ledger", "Listing", "Malformed", "NoBlock", "NoChannel",
+    "NoKeys", "NoName", "NoText", "OldVersion", "OutOfMemory", "Reason", "Receipt", "Refused", "Request", "Role", "Row",
+    "Shared", "Use", "Verify", "Version", "Versions", "Write", "WrongDataHash", "WrongNumber", "WrongPrevious",
+    "reasons", "versions",
 ]

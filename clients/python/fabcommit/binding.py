@@ -40,7 +40,7 @@ Use = struct("Use", ("block", U64), ("tx", U32), ("flag", U8))
 lib: Any = load()
 H, P = ctypes.POINTER(Handle), ctypes.POINTER
 CALLS: tuple[tuple[Any, ...], ...] = (
-    ("versions", P(Versions)), ("open", H, B, S, B, S), ("close", H), ("submit", H, B, S, P(Receipt)),
+    ("versions", P(Versions)), ("open", H, B, S, B, S), ("close", H), ("share", H, H), ("submit", H, B, S, P(Receipt)),
     ("list", B, S, V, S, V, S, P(Sizes)), ("submit_by", H, B, S, V, S, V, S, P(Receipt)), ("height", H, P(U64)),
     ("get", H, B, S, B, S, P(Row), V, S), ("block", H, U64, P(Receipt)), ("flags", H, U64, V, S, P(S)),
     ("definition", H, B, S, V, S, P(S)), ("first_use", H, B, S, P(Use)),

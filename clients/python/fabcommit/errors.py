@@ -20,6 +20,7 @@ class Code(IntEnum):
     NO_NAME = 11
     NONE = 12
     SMALL = 13
+    SHARED = 14
 
 
 class Refused(Exception):
@@ -104,9 +105,16 @@ class NoBlock(Refused, LookupError):
     code, text = Code.NONE, "there is no such block"
 
 
+class Shared(Refused):
+    code, text = Code.SHARED, "the ledger takes no block while another handle shares it"
+
+
 WITHOUT_NUMBERS = {
     kind.code: kind
-    for kind in (WrongPrevious, WrongDataHash, OldVersion, OutOfMemory, Closed, NoText, NoChannel, NoKeys, NoName, NoBlock)
+    for kind in (
+        WrongPrevious, WrongDataHash, OldVersion, OutOfMemory, Closed, NoText, NoChannel, NoKeys, NoName, NoBlock,
+        Shared,
+    )
 }
 
 

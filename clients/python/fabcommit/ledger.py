@@ -44,15 +44,30 @@ def versions() -> Versions:
 class Ledger:
     """The ledger of a channel, which is closed as a context is left, or by `close`.
 
-    Threads may share it: its calls wait for each other. A call that is refused raises a `Refused` and changes nothing.
+    Threads may call it: its calls wait for each other. To query it from several threads at the same time, give each the
+    `Ledger` that `share` returns. A call that is refused raises a `Refused` and changes nothing.
     """
 
     def __init__(self, channel: Octets, keys: Octets = b"") -> None:
         """Opens the ledger of height 0 of a channel's text. A text of keys is needed only if the library checks signatures."""
-        self._lock, self._handle = threading.RLock(), c.Handle()
+        self._make_handle()
         self._checked("open", *words(channel, keys))
+
+    def _make_handle(self) -> None:
+        """A closed one. What it holds later is freed with this object."""
+        self._lock, self._handle = threading.RLock(), c.Handle()
         # at the process's end other threads may still be in a call
         weakref.finalize(self, c.lib.fabcommit_close, self._handle).atexit = False
+
+    def share(self) -> "Ledger":
+        """One more `Ledger` of the same ledger and keys, for another thread: the two don't wait for each other.
+
+        While more than one is open, a block is refused with `Shared`: close all but one, submit, and share again.
+        """
+        other = type(self).__new__(type(self))
+        other._make_handle()
+        self._checked("share", other._handle)
+        return other
 
     def __enter__(self) -> "Ledger":
         return self
@@ -61,7 +76,7 @@ class Ledger:
         self.close()
 
     def close(self) -> None:
-        """Frees what the ledger holds. A closed one answers all but `close` with `Closed`."""
+        """Frees what the ledger holds, unless others share it. A closed one answers all but `close` with `Closed`."""
         with self._lock:
             c.lib.fabcommit_close(self._handle)
 

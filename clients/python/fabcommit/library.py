@@ -4,7 +4,7 @@ import os
 import subprocess
 from pathlib import Path
 
-INTERFACE = 2
+INTERFACE = 3
 NAME = f"libfabcommit.so.{INTERFACE}"
 
 

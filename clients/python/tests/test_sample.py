@@ -5,8 +5,8 @@ import unittest
 from pathlib import Path
 
 from fabcommit import (
-    Closed, Flag, Ledger, Listing, Malformed, NoBlock, NoChannel, NoKeys, NoName, NoText, Refused, Use, Version, WrongNumber, reasons,
-    versions,
+    Closed, Flag, Ledger, Listing, Malformed, NoBlock, NoChannel, NoKeys, NoName, NoText, Refused, Shared, Use, Version,
+    WrongNumber, reasons, versions,
 )
 from fabcommit.ledger import least_above
 
@@ -23,7 +23,7 @@ class Sample(unittest.TestCase):
         self.addCleanup(self.ledger.close)
 
     def test_versions(self):
-        self.assertEqual(versions().interface, 2)
+        self.assertEqual(versions().interface, 3)
 
     def test_blocks_are_told_again(self):
         self.assertEqual(self.ledger.height(), 6)
@@ -105,6 +105,41 @@ class Sample(unittest.TestCase):
         self.assertEqual(least_above(b"k" * 1023 + b"a"), b"k" * 1023 + b"b")
         self.assertEqual(least_above(b"k" * 1022 + b"a\xff"), b"k" * 1022 + b"b")
         self.assertEqual(least_above(b"\xff" * 1024), b"\xff" * 1024)
+
+    def test_shares_are_queried_at_the_same_time(self):
+        rows, found = list(self.ledger.scan("cc")), []
+
+        def ask():
+            with self.ledger.share() as share:
+                shared.wait()
+                found.extend([list(share.scan("cc")) for _ in range(100)])
+
+        # all threads have their share before the first goes on
+        shared = threading.Barrier(5)
+        threads = [threading.Thread(target=ask) for _ in range(4)]
+        for thread in threads:
+            thread.start()
+        shared.wait()
+        self.ledger.scan("cc")
+        for thread in threads:
+            thread.join()
+        self.assertEqual(found, [rows] * 400)
+
+    def test_a_shared_ledger_takes_no_block(self):
+        with self.ledger.share() as share:
+            for ledger in (self.ledger, share):
+                with self.assertRaises(Shared):
+                    ledger.submit(EVERY_FLAG)
+                self.assertEqual(ledger.height(), 6)
+        self.ledger.submit(EVERY_FLAG)
+        self.assertRaises(Closed, share.height)
+        # a share outlives the ledger that it is of, and takes blocks when it is the last
+        share = self.ledger.share()
+        self.assertEqual(share.height(), 7)
+        self.ledger.close()
+        self.assertRaises(WrongNumber, share.submit, EVERY_FLAG)
+        self.assertRaises(Closed, self.ledger.share)
+        share.close()
 
     def test_threads_may_share_it(self):
         rows, found = list(self.ledger.scan("cc")), []

@@ -7,3 +7,4 @@ pub mod Asked
 pub mod Scanned
 pub mod Past
 pub mod Explained
+pub mod Shared

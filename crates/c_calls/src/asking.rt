@@ -23,7 +23,7 @@ pub fn fabcommit_height(alloc: Global, handle: &mut Handle, height: &mut u64) ->
     let Some(kept) = handle.take(alloc) else {
         return CLOSED;
     };
-    *height = kept.ledger.view().height();
+    *height = kept.ledger.get().view().height();
     handle.put(kept);
     OK
 }
@@ -57,7 +57,11 @@ fn get(kept: &Kept, namespace: &[u8], row_key: &[u8], row: &mut FoundRow, value:
         return NO_NAME;
     }
     let (namespace, row_key) = (NameRef::new(namespace), KeyRef::new(row_key));
-    tell_row(kept.ledger.view().row(&namespace, &row_key), row, value)
+    tell_row(
+        kept.ledger.get().view().row(&namespace, &row_key),
+        row,
+        value,
+    )
 }
 
 /// Tells the row of a key, and its value.
@@ -103,7 +107,7 @@ pub fn fabcommit_block(
     let Some(kept) = handle.take(alloc) else {
         return CLOSED;
     };
-    let code = give_block(kept.ledger.view().block(number), number, receipt);
+    let code = give_block(kept.ledger.get().view().block(number), number, receipt);
     handle.put(kept);
     code
 }
@@ -131,7 +135,7 @@ pub fn fabcommit_flags(
     let Some(kept) = handle.take(alloc) else {
         return CLOSED;
     };
-    let code = give_flags(kept.ledger.view().block(number), flags, len);
+    let code = give_flags(kept.ledger.get().view().block(number), flags, len);
     handle.put(kept);
     code
 }

@@ -41,3 +41,6 @@ pub const NONE: u32 = 12;
 
 /// A buffer is too small: what is needed was told.
 pub const SMALL: u32 = 13;
+
+/// Another handle shares the ledger, which takes no block until that one is closed.
+pub const SHARED: u32 = 14;

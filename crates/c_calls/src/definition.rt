@@ -40,7 +40,7 @@ fn definition(alloc: Global, kept: &Kept, chaincode: &[u8], text: &mut [u8], len
     if !is_name(chaincode) {
         return NO_NAME;
     }
-    let definitions = kept.ledger.view().definitions();
+    let definitions = kept.ledger.get().view().definitions();
     tell_text(alloc, definitions.of(&NameRef::new(chaincode)), text, len)
 }
 

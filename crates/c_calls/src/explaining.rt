@@ -102,7 +102,7 @@ fn tell(
 fn explained_by_keys(alloc: Global, kept: &Kept, block: &[u8]) -> Result<ListedReasons, Refused>
     ensures { MatchResult result (AreNextListed kept.now.ledger.channel (accepts kept.now.keys) kept.now.ledger.world block.now) (IsRefused kept.now.ledger.world block.now) }
 {
-    explained(alloc, &kept.ledger, block, &kept.keys)
+    explained(alloc, kept.ledger.get(), block, kept.keys.get())
 }
 
 fn explained_by_verdicts(
@@ -115,7 +115,7 @@ fn explained_by_verdicts(
     ensures { MatchResult result (AreNextListed kept.now.ledger.channel (accepted_by pool.now verdicts.now) kept.now.ledger.world block.now) (IsRefused kept.now.ledger.world block.now) }
 {
     let table = Table::new(alloc, pool, verdicts)?;
-    explained(alloc, &kept.ledger, block, &table)
+    explained(alloc, kept.ledger.get(), block, &table)
 }
 
 /// Tells why each transaction of the next block would have its flag, whose signatures are checked by the keys of the handle, and commits

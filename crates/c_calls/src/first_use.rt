@@ -39,7 +39,7 @@ fn first_use(kept: &Kept, id: &[u8], first: &mut FoundUse) -> u32
     let Ok(id) = TxId::try_from(id) else {
         return NO_NAME;
     };
-    tell_use(kept.ledger.view().flag_of(&id), first)
+    tell_use(kept.ledger.get().view().flag_of(&id), first)
 }
 
 /// Tells where an id was used first, of 64 bytes.

@@ -126,7 +126,7 @@ fn past_of(
         return NO_NAME;
     }
     let (namespace, row_key) = (NameRef::new(asked.namespace), KeyRef::new(asked.row_key));
-    let entries = kept.ledger.view().history(&namespace, &row_key);
+    let entries = kept.ledger.get().view().history(&namespace, &row_key);
     let past = list_writes(alloc, entries);
     tell(past, pool, writes, sizes)
 }

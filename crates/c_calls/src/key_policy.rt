@@ -42,7 +42,7 @@ fn key_policy(
         return NO_NAME;
     }
     let (namespace, row_key) = (NameRef::new(namespace), KeyRef::new(row_key));
-    let own = own_policy(kept.ledger.view().row(&namespace, &row_key));
+    let own = own_policy(kept.ledger.get().view().row(&namespace, &row_key));
     tell_text(alloc, own, text, len)
 }
 

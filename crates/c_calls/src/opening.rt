@@ -7,11 +7,11 @@ ghost use Rattle.c_handle.specs.declared.kept.Kept.{Kept};
 ghost use Rattle.c_calls.specs.Opened.{IsOpened, IsNoChannel, IsNoBook, IsNotOpened};
 
 use crate::codes::{MEMORY, NO_CHANNEL, NO_KEYS, NO_TEXT, OK};
-use c_handle::{Handle, Kept};
+use c_handle::{Handle, Kept, SharedLedger};
 use channel::{Channel, ChannelFault};
 use key_book::{KeyBook, KeyBookFault};
-use ledger::Ledger;
 use std::alloc::Global;
+use values::Shared;
 
 fn channel_in(alloc: Global, text: &[u8]) -> Result<Channel, u32>
     ensures channel { IfOk result (λ channel. configuration_of text.now ≡ Ok channel) }
@@ -46,7 +46,12 @@ fn boxed(alloc: Global, channel: Channel, keys: KeyBook) -> Result<Box<Kept>, u3
     ensures keys { IfOk result (λ kept. kept.value.keys ≡ keys) }
     ensures code { IfErr result (λ code. code ≡ MEMORY) }
 {
-    let ledger = Ledger::open(alloc, channel);
+    let Ok(ledger) = SharedLedger::open(alloc, channel) else {
+        return Err(MEMORY);
+    };
+    let Ok(keys) = Shared::new(alloc, keys) else {
+        return Err(MEMORY);
+    };
     match Box::new(alloc, Kept { ledger, keys }) {
         Ok(kept) => Ok(kept),
         Err(_) => Err(MEMORY),

@@ -86,7 +86,7 @@ fn found(
 ) -> Result<Listed, AllocError>
     ensures { IfOk result (IsScan (range_answer kept.now.ledger.world namespace.now start.now end.now limit)) }
 {
-    let view = kept.ledger.view();
+    let view = kept.ledger.get().view();
     let answer = view.range(alloc, namespace, start, end, limit)?;
     scan_all(alloc, &answer)
 }

@@ -1,11 +1,11 @@
-//! Blocks are handed in.
+//! Blocks are submitted.
 ghost use Rattle.std.specs.Prelude.{◌≡◌, None, Some};
 ghost use Rattle.c_handle.specs.declared.kept.Kept.{Kept};
 ghost use Rattle.key_book.specs.Book.{accepts};
 ghost use Rattle.verdicts.specs.Said.{accepted_by};
-ghost use Rattle.c_calls.specs.Submitted.{Submitted};
+ghost use Rattle.c_calls.specs.Submitted.{SubmittedUnlessShared};
 
-use crate::codes::CLOSED;
+use crate::codes::{CLOSED, SHARED};
 use crate::receipt::{Receipt, tell};
 use c_handle::{Handle, Kept};
 use rules::Refused;
@@ -13,10 +13,12 @@ use std::alloc::Global;
 use verdicts::{Table, Verdict};
 
 fn submit(kept: &mut Kept, block: &[u8], receipt: &mut Receipt) -> u32
-    ensures { Submitted (accepts kept.old.keys) kept.old block.now kept.new receipt.old receipt.new result }
+    ensures { SubmittedUnlessShared (accepts kept.old.keys) kept.old block.now kept.new receipt.old receipt.new result }
 {
-    let submitted = kept.ledger.submit_one(block, &kept.keys);
-    tell(receipt, submitted)
+    match kept.ledger.submit_one(block, kept.keys.get()) {
+        Some(submitted) => tell(receipt, submitted),
+        None => SHARED,
+    }
 }
 
 fn submit_by(
@@ -27,17 +29,20 @@ fn submit_by(
     verdicts: &[Verdict],
     receipt: &mut Receipt,
 ) -> u32
-    ensures { Submitted (accepted_by pool.now verdicts.now) kept.old block.now kept.new receipt.old receipt.new result }
+    ensures { SubmittedUnlessShared (accepted_by pool.now verdicts.now) kept.old block.now kept.new receipt.old receipt.new result }
 {
     let Ok(table) = Table::new(alloc, pool, verdicts) else {
         return tell(receipt, Err(Refused::Memory));
     };
-    let submitted = kept.ledger.submit_one(block, &table);
-    tell(receipt, submitted)
+    match kept.ledger.submit_one(block, &table) {
+        Some(submitted) => tell(receipt, submitted),
+        None => SHARED,
+    }
 }
 
 /// Hands in the bytes of the next block, whose signatures are checked by the keys of the handle. A code other than 0 leaves the
 /// ledger and the receipt as they were, but that this tells the two numbers of a wrong number, or the number of the fault of the bytes.
+/// If another handle shares the ledger the code is `SHARED`.
 pub fn fabcommit_submit(
     alloc: Global,
     handle: &mut Handle,
@@ -45,7 +50,7 @@ pub fn fabcommit_submit(
     receipt: &mut Receipt,
 ) -> u32
     ensures submitted { (old : Kept) → handle.old.held.value ≡ Some old
-        → (new : Kept) × (handle.new.held.value ≡ Some new) × Submitted (accepts old.keys) old block.now new receipt.old receipt.new result }
+        → (new : Kept) × (handle.new.held.value ≡ Some new) × SubmittedUnlessShared (accepts old.keys) old block.now new receipt.old receipt.new result }
     ensures closed { handle.old.held.value ≡ None → (handle.new.held.value ≡ None) × (receipt.new ≡ receipt.old) × (result ≡ CLOSED) }
 {
     let Some(mut kept) = handle.take(alloc) else {
@@ -69,7 +74,7 @@ pub fn fabcommit_submit_by(
     receipt: &mut Receipt,
 ) -> u32
     ensures submitted { (old : Kept) → handle.old.held.value ≡ Some old
-        → (new : Kept) × (handle.new.held.value ≡ Some new) × Submitted (accepted_by pool.now verdicts.now) old block.now new receipt.old receipt.new result }
+        → (new : Kept) × (handle.new.held.value ≡ Some new) × SubmittedUnlessShared (accepted_by pool.now verdicts.now) old block.now new receipt.old receipt.new result }
     ensures closed { handle.old.held.value ≡ None → (handle.new.held.value ≡ None) × (receipt.new ≡ receipt.old) × (result ≡ CLOSED) }
 {
     let Some(mut kept) = handle.take(alloc) else {

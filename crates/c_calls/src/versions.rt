@@ -1,7 +1,7 @@
 ghost use Rattle.std.specs.Prelude.{◌≡◌};
 
 /// The version of this interface, which grows with each change that a caller can notice.
-pub const INTERFACE: u32 = 2;
+pub const INTERFACE: u32 = 3;
 
 /// The version of the interface, and the first and last version of the blocks that the library reads.
 #[repr(C)]

@@ -1,4 +1,5 @@
-//! Tests of the calls for C, by a caller who checks signatures: the chain of 32 blocks, and what calls refuse.
+//! Tests of the calls for C, by a caller who checks signatures: the chain of 32 blocks, handles that share a ledger, and
+//! what calls refuse.
 #![tactic(auto)]
 
 #[cfg(test)]
@@ -9,3 +10,5 @@ mod caller;
 mod chain;
 #[cfg(test)]
 mod refusals;
+#[cfg(test)]
+mod sharing;

@@ -74,7 +74,8 @@ impl Drop for Handle {
 
 fn sent<T: Send>(_value: &T) {}
 
-/// A law, and no work: a handle may go to another thread with all that it holds.
+/// Proved (the function does nothing at run time): a handle may go to another thread with all that it
+/// holds, also if other handles share that.
 pub fn a_handle_may_be_sent(handle: &Handle) {
     sent(handle);
 }

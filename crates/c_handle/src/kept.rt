@@ -1,9 +1,10 @@
+use crate::shared_ledger::SharedLedger;
 use key_book::KeyBook;
-use ledger::Ledger;
+use values::Shared;
 
-/// What stands behind a handle: a ledger, and the keys by which it may check signatures itself.
+/// What a handle holds: a ledger and the keys by which it may check signatures itself. Other handles may share both.
 #[derive(Drop)]
 pub struct Kept {
-    pub ledger: Ledger,
-    pub keys: KeyBook,
+    pub ledger: SharedLedger,
+    pub keys: Shared<KeyBook>,
 }

@@ -7,7 +7,7 @@ ghost use Rattle.verdict_lists.specs.declared.listing.ListedVerdicts.{ListedVerd
 ghost use Rattle.c_handle.specs.declared.kept.Kept.{Kept};
 ghost use Rattle.c_calls.specs.Explained.{ReasonsTold};
 ghost use Rattle.c_calls.specs.Lists.{IsListed, ListTold};
-ghost use Rattle.c_calls.specs.Submitted.{Submitted};
+ghost use Rattle.c_calls.specs.Submitted.{SubmittedUnlessShared};
 
 use c_calls::{CLOSED, ReasonSizes, Receipt, Sizes};
 use c_handle::Handle;
@@ -39,7 +39,7 @@ pub extern "C" fn fabcommit_submit(
     receipt: &mut Receipt,
 ) -> u32
     ensures submitted { (old : Kept) → handle.old.held.value ≡ Some old
-        → (new : Kept) × (handle.new.held.value ≡ Some new) × Submitted (accepts old.keys) old block.now new receipt.old receipt.new result }
+        → (new : Kept) × (handle.new.held.value ≡ Some new) × SubmittedUnlessShared (accepts old.keys) old block.now new receipt.old receipt.new result }
     ensures closed { handle.old.held.value ≡ None → (handle.new.held.value ≡ None) × (receipt.new ≡ receipt.old) × (result ≡ CLOSED) }
 {
     c_calls::fabcommit_submit(alloc, handle, block, receipt)
@@ -56,7 +56,7 @@ pub extern "C" fn fabcommit_submit_by(
     receipt: &mut Receipt,
 ) -> u32
     ensures submitted { (old : Kept) → handle.old.held.value ≡ Some old
-        → (new : Kept) × (handle.new.held.value ≡ Some new) × Submitted (accepted_by pool.now verdicts.now) old block.now new receipt.old receipt.new result }
+        → (new : Kept) × (handle.new.held.value ≡ Some new) × SubmittedUnlessShared (accepted_by pool.now verdicts.now) old block.now new receipt.old receipt.new result }
     ensures closed { handle.old.held.value ≡ None → (handle.new.held.value ≡ None) × (receipt.new ≡ receipt.old) × (result ≡ CLOSED) }
 {
     c_calls::fabcommit_submit_by(alloc, handle, block, pool, verdicts, receipt)

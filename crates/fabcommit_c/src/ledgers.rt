@@ -2,6 +2,7 @@
 ghost use Rattle.std.specs.Prelude.{◌≡◌, ◌≢◌, None, Some};
 ghost use Rattle.c_handle.specs.declared.kept.Kept.{Kept};
 ghost use Rattle.c_calls.specs.Opened.{IsOpened, IsNotOpened};
+ghost use Rattle.c_calls.specs.Shared.{SharedBy};
 
 use c_calls::{INTERFACE, OK, Versions};
 use c_handle::Handle;
@@ -35,4 +36,13 @@ pub extern "C" fn fabcommit_close(alloc: Global, handle: &mut Handle)
     ensures { handle.new.held.value ≡ None }
 {
     c_calls::fabcommit_close(alloc, handle)
+}
+
+/// [`c_calls::fabcommit_share`].
+#[unsafe(no_mangle)]
+pub extern "C" fn fabcommit_share(alloc: Global, handle: &mut Handle, other: &mut Handle) -> u32
+    ensures same { handle.new.held.value ≡ handle.old.held.value }
+    ensures told { SharedBy handle.old.held.value other.old.held.value other.new.held.value result }
+{
+    c_calls::fabcommit_share(alloc, handle, other)
 }

@@ -1,7 +1,7 @@
 //! The numbers of the header: its interface, the codes, and the kinds of reasons.
 
 /// The version of the interface that these declarations are of.
-pub const FABCOMMIT_INTERFACE: u32 = 2;
+pub const FABCOMMIT_INTERFACE: u32 = 3;
 
 pub const FABCOMMIT_OK: u32 = 0;
 pub const FABCOMMIT_MALFORMED: u32 = 1;
@@ -17,6 +17,7 @@ pub const FABCOMMIT_NO_KEYS: u32 = 10;
 pub const FABCOMMIT_NO_NAME: u32 = 11;
 pub const FABCOMMIT_NONE: u32 = 12;
 pub const FABCOMMIT_SMALL: u32 = 13;
+pub const FABCOMMIT_SHARED: u32 = 14;
 
 pub const FABCOMMIT_REASON_NO_FAULT: u8 = 0;
 pub const FABCOMMIT_REASON_NO_TRANSACTION: u8 = 1;

@@ -63,6 +63,7 @@ unsafe extern "C" {
         keys_len: usize,
     ) -> u32;
     pub fn fabcommit_close(handle: *mut fabcommit_handle);
+    pub fn fabcommit_share(handle: *mut fabcommit_handle, other: *mut fabcommit_handle) -> u32;
     pub fn fabcommit_submit(
         handle: *mut fabcommit_handle,
         block: *const u8,

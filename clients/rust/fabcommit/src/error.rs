@@ -34,6 +34,8 @@ pub enum Error {
     NoKeys,
     /// A namespace or chaincode is no name, a key no key, or an id no id.
     NoName,
+    /// Another [`crate::Ledger`] shares the ledger, which takes no block until that one is dropped.
+    Shared,
     /// A code that this version of the interface doesn't give here.
     Other(u32),
 }
@@ -51,6 +53,7 @@ impl Error {
             sys::FABCOMMIT_NO_CHANNEL => Error::NoChannel,
             sys::FABCOMMIT_NO_KEYS => Error::NoKeys,
             sys::FABCOMMIT_NO_NAME => Error::NoName,
+            sys::FABCOMMIT_SHARED => Error::Shared,
             other => Error::Other(other),
         }
     }
@@ -68,6 +71,7 @@ impl Error {
             Error::NoChannel => sys::FABCOMMIT_NO_CHANNEL,
             Error::NoKeys => sys::FABCOMMIT_NO_KEYS,
             Error::NoName => sys::FABCOMMIT_NO_NAME,
+            Error::Shared => sys::FABCOMMIT_SHARED,
             Error::Other(code) => *code,
         }
     }
@@ -87,6 +91,7 @@ impl Display for Error {
             Error::NoChannel => f.write_str("the text is no channel's"),
             Error::NoKeys => f.write_str("the text is no key book"),
             Error::NoName => f.write_str("a namespace or chaincode is no name, a key no key, or an id no id"),
+            Error::Shared => f.write_str("the ledger takes no block while another handle shares it"),
             Error::Other(code) => write!(f, "the library answered with code {code}"),
         }
     }

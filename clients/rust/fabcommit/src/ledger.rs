@@ -15,7 +15,8 @@ pub fn versions() -> Versions {
 /// The ledger of a channel, which is freed as it is dropped.
 ///
 /// It may go from thread to thread, but takes one call at a time: each call takes `&mut self`, also one that only asks,
-/// since the library writes the handle in every call. Threads that share a ledger have it in a `Mutex`.
+/// since the library writes the handle in every call. Threads have it in a `Mutex`, or each has one of its own by
+/// [`Ledger::share`].
 ///
 /// ```
 /// fn may_be_sent<T: Send>() {}
@@ -37,6 +38,28 @@ impl Ledger {
     pub fn open(channel: &[u8], keys: &[u8]) -> Result<Ledger, Error> {
         assert_eq!(versions().interface, sys::FABCOMMIT_INTERFACE, "the interface of the library, and of this crate");
         Ok(Ledger { handle: Handle::open(channel, keys)? })
+    }
+
+    /// One more `Ledger` of the same ledger and keys, for another thread. Both may be queried at the same time.
+    ///
+    /// While there is more than one of them a block is refused with [`Error::Shared`]: drop all but one, submit, and
+    /// share again.
+    ///
+    /// ```
+    /// use fabcommit::{Error, Ledger};
+    ///
+    /// # fn main() -> Result<(), Error> {
+    /// let mut ledger = Ledger::open(b"channel ch\n", b"")?;
+    /// let mut share = ledger.share()?;
+    /// assert_eq!(ledger.submit(b"no block"), Err(Error::Shared));
+    /// assert_eq!(std::thread::spawn(move || share.height()).join().unwrap(), Ok(0));
+    /// // the thread has dropped its own
+    /// assert_eq!(ledger.submit(b"no block"), Err(Error::Malformed { fault: Some(1) }));
+    /// # Ok(())
+    /// # }
+    /// ```
+    pub fn share(&mut self) -> Result<Ledger, Error> {
+        Ok(Ledger { handle: self.handle.share()? })
     }
 
     /// Hands in the next block, whose signatures are checked by the ledger's keys.

@@ -115,6 +115,36 @@ fn rows_come_in_parts() {
 }
 
 #[test]
+fn shares_are_queried_at_the_same_time() {
+    let (mut ledger, _) = committed();
+    let rows: Vec<_> = ledger.scan(b"cc", b"", b"").collect();
+    let shares: Vec<_> = (0..4).map(|_| ledger.share().unwrap()).collect();
+    std::thread::scope(|threads| {
+        let scans = |mut share: Ledger| move || (0..100).map(|_| share.scan(b"cc", b"", b"").collect()).collect();
+        let asked: Vec<_> = shares.into_iter().map(|share| threads.spawn(scans(share))).collect();
+        assert_eq!(ledger.scan(b"cc", b"", b"").collect::<Vec<_>>(), rows);
+        for thread in asked {
+            let found: Vec<Vec<_>> = thread.join().unwrap();
+            assert!(found.len() == 100 && found.iter().all(|scan| *scan == rows));
+        }
+    });
+}
+
+#[test]
+fn a_shared_ledger_takes_no_block() {
+    let (mut ledger, _) = committed();
+    let block = file("every_flag.blk");
+    let mut share = ledger.share().unwrap();
+    for ledger in [&mut ledger, &mut share] {
+        assert_eq!(ledger.submit(&block), Err(Error::Shared));
+        assert_eq!(ledger.height(), Ok(6));
+    }
+    drop(ledger);
+    assert_eq!(share.submit(&block).unwrap().number, 6);
+    assert_eq!(share.share().unwrap().height(), Ok(7));
+}
+
+#[test]
 fn ledgers_go_to_other_threads() {
     let (mut ledger, _) = committed();
     assert_eq!(std::thread::spawn(move || ledger.height()).join().unwrap(), Ok(6));
