@@ -157,6 +157,13 @@ pub(crate) fn run<J: Tasks + Send + Sync, R: Threads + Wait + Sync, G: Gate + Sy
     let (mut owners, thieves) = deques::<J>(alloc, turns.workers());
     let thieves = thieves.as_slice();
     let last = owners.pop();
+    if owners.is_empty() {
+        // a scope makes calls of the system, even if it starts nobody
+        if let Some(own) = last {
+            work(rt, lent.job(), steps, turns, Ends { own, thieves }, gate);
+        }
+        return;
+    }
     thread::scope(
         thread::scope_env(),
         rt,

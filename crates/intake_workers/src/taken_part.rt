@@ -69,7 +69,7 @@ pub fn take_in_part<'a, V: Verify, G: Gate>(
 {
     let hash = hash_with(block, part);
     let (start, txs) = txs_of(block.txs(), part);
-    let items = take_txs(alloc, rules, block.version(), start, txs)?;
+    let items = take_txs(alloc, rules, block.version(), start, txs, false)?;
     Ok(TakenPart { hash, items })
 }
 

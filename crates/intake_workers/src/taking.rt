@@ -39,13 +39,15 @@ const MOST_BYTES: usize = 1 << 20;
 // A thread of its own costs as much as a few transactions.
 const WORTH_A_THREAD: usize = 16;
 
-/// Takes in transactions of a block of this version, of which the first one stands at this place.
+/// Takes in transactions of a block of this version, whose first one is at this place. Yields now and then if other
+/// threads are at work too.
 pub(crate) fn take_txs<'a, V: Verify, G: Gate>(
     alloc: Global,
     rules: &IntakeRules<'_, V, G>,
     version: BlockVersion,
     start: usize,
     txs: &[Slice<'a>],
+    is_alone: bool,
 ) -> Result<Vec<Taken<'a>>, AllocError>
     ensures { IfOk result (λ taken. map shown taken.items ≡ map (taken_of rules.now.channel.now (V.accepts rules.now.verifier.now)) (map (item_of version) txs.now)) }
 {
@@ -64,7 +66,7 @@ pub(crate) fn take_txs<'a, V: Verify, G: Gate>(
         )?)?;
         index = index.wrapping_add(1);
         // threads at work may be more than processors, and who commits isn't to wait for one until the block is taken in
-        if index % MOST_TXS == 0 {
+        if !is_alone && index % MOST_TXS == 0 {
             thread::yield_now();
         }
     }
@@ -95,7 +97,7 @@ fn take_in_alone<'a, V: Verify, G: Gate>(
     ensures items { IfOk result (λ t. map shown t.items.items ≡ map (taken_of rules.now.channel.now (V.accepts rules.now.verifier.now)) (items_of block.entry)) }
 {
     let hash = hash_of(&block);
-    let items = take_txs(alloc, rules, block.version(), 0, block.txs())?;
+    let items = take_txs(alloc, rules, block.version(), 0, block.txs(), true)?;
     Ok(TakenIn {
         block: block.with_data_hash(hash),
         items,

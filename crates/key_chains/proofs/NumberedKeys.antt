@@ -10,7 +10,7 @@ use Rattle.std.specs.List.Sorted.{IsStrictlySortedBy, IsSorted, IsNonDecreasingB
 use Rattle.std.proofs.lemmas.List.Sorted.{searchable_from_sorted}
 use Rattle.std.proofs.lemmas.Bool.Decides.{leb_tells}
 use Rattle.rules.specs.State.{StateKey, key_cmp, is_same_key}
-use Rattle.rules.proofs.Keys.{key_cmp_total, key_cmp-IsAntisymmetric, key_ties, same_as_itself}
+use Rattle.rules.proofs.Keys.{key_cmp_total, key_cmp-IsAntisymmetric, key_ties, same_key_is, same_as_itself}
 use Rattle.key_chains.specs.Numbers.{number_in}
 
 -- ---- later keys are greater
@@ -52,6 +52,10 @@ numbered (k ∷ ks) zero d h lt = ap (λ (b : Bool). cond b (Some 0) (option_map
 numbered (k ∷ ks) (suc n) d h lt =
     ap (λ (b : Bool). cond b (Some 0) (option_map suc (number_in ks (get_or ks n d)))) (apart k (get_or ks n d) (above k ks n d h.0 (omega arith)))
     ∙ ap (option_map suc) (numbered ks n d h.1 (omega arith))
+
+-- the place of a key that is the same is its number
+pub numbered_at : (ks : List StateKey) (n : ℕ) (found k : StateKey) → IsStrictlySortedBy key_cmp ks → n < length ks → found ≡ get_or ks n found → is_same_key found k ≡ true → number_in ks k ≡ Some n
+numbered_at ks n found k h lt at same = ap (number_in ks) (sym (same_key_is found k same) ∙ at) ∙ numbered ks n found h lt
 
 -- a key that no place ties with has none
 none_in : (ks : List StateKey) (k : StateKey) → ((n : ℕ) (d : StateKey) → n < length ks → is_same_key k (get_or ks n d) ≡ false) → ◌≡◌ {A = Option ℕ} (number_in ks k) None

@@ -41,6 +41,26 @@ pub(crate) struct Chains<'a> {
     pub first_written: Vec<usize>,
 }
 
+/// A key, looked up: its number, if somebody writes it, and the entry that its list begins with now.
+#[derive(Clone, Copy)]
+struct LookedUp {
+    number: Option<u32>,
+    newest: Option<u32>,
+}
+
+fn looked_up<T: Copy>(keys: &Numbering<'_>, lists: &KeyLists<T>, key: &StateKey<'_>) -> LookedUp
+    requires { length lists.now.1 ≡ length keys.now }
+    ensures link { IsLink lists.now.0 result.newest }
+    ensures list { chain_in lists.now.0 result.newest ≡ list_at keys.now lists.now key.now }
+{
+    let number = keys.number(key);
+    let newest = match number {
+        None => None,
+        Some(number) => lists.newest(number),
+    };
+    LookedUp { number, newest }
+}
+
 /// The entry that the list of a key begins with now, none where nobody writes the key.
 pub(crate) fn newest_on<T: Copy>(
     keys: &Numbering<'_>,
@@ -51,10 +71,7 @@ pub(crate) fn newest_on<T: Copy>(
     ensures link { IsLink lists.now.0 result }
     ensures list { chain_in lists.now.0 result ≡ list_at keys.now lists.now key.now }
 {
-    match keys.number(key) {
-        None => None,
-        Some(number) => lists.newest(number),
-    }
+    looked_up(keys, lists, key).newest
 }
 
 /// The keys that are read in one namespace.
@@ -77,9 +94,10 @@ fn add_read_keys<'a>(keys: &mut Vec<StateKey<'a>>, tx: &Tx<'a>) -> Result<(), Al
     Ok(())
 }
 
-/// Links of reads of these keys.
+/// Links of reads of these keys, and the numbers of those that somebody writes.
 fn link_reads(
     links: &mut Vec<Option<u32>>,
+    numbers: &mut Vec<u32>,
     keys: &Numbering<'_>,
     operations: &KeyLists<Operation>,
     read: &[StateKey<'_>],
@@ -89,7 +107,11 @@ fn link_reads(
     ensures links { OnOk result (All (IsLink operations.now.0) links.old.items → All (IsLink operations.now.0) links.new.items) }
 {
     for key in read {
-        links.push(newest_on(keys, operations, key))?;
+        let found = looked_up(keys, operations, key);
+        links.push(found.newest)?;
+        if let Some(number) = found.number {
+            numbers.push(number)?;
+        }
     }
     Ok(())
 }
@@ -141,6 +163,16 @@ fn kind_of(written: &WrittenKey<'_>) -> Kind
     }
 }
 
+/// The place of the first number, from a place on, that isn't below one. No clause speaks of it: what is there is a
+/// guess.
+fn passed(numbers: &[u32], from: usize, least: u32) -> usize {
+    let mut at = from;
+    while at < numbers.len() && numbers[at] < least {
+        at += 1;
+    }
+    at
+}
+
 /// The candidate writes the policy of the key, if it does.
 fn add_policy_writer(
     lists: &mut KeyLists<u32>,
@@ -177,15 +209,20 @@ impl<'a> Chains<'a> {
         })
     }
 
-    /// One key more that candidate i writes.
-    fn add_key(&mut self, i: u32, written: &WrittenKey<'_>) -> Result<(), AllocError>
+    /// One key more that candidate i writes, whose number may be guessed. Returns the number.
+    fn add_key(
+        &mut self,
+        i: u32,
+        written: &WrittenKey<'_>,
+        guess: Option<u32>,
+    ) -> Result<u32, AllocError>
         requires number { IsSome (number_in self.old.keys written.now.key) }
         requires whole { IsWhole self.old }
         ensures built { OnOk result ((cs : List seen_by_rules.Candidate) (p : ℕ) → IsNext cs i p written.now → IsBuilt cs i (suc i) p self.old → IsBuilt cs i (suc i) (suc p) self.new) }
         ensures keys { OnOk result (self.new.keys ≡ self.old.keys) }
         ensures whole { OnOk result (IsWhole self.new) }
     {
-        let Some(number) = self.keys.number(&written.key) else {
+        let Some(number) = self.keys.number_by(guess, &written.key) else {
             unreachable!()
         };
         let policy_writers = self.policy_writers.newest(number);
@@ -199,25 +236,38 @@ impl<'a> Chains<'a> {
         };
         self.operations.push(number, operation)?;
         add_policy_writer(&mut self.policy_writers, number, i, written)?;
-        Ok(())
+        Ok(number)
     }
 
-    /// The keys that candidate i writes.
-    fn add_written(&mut self, i: u32, written: &[WrittenKey<'_>]) -> Result<(), AllocError>
+    /// The keys that candidate i writes. It often reads them too: the numbers of keys that it reads are guesses.
+    fn add_written(
+        &mut self,
+        i: u32,
+        written: &[WrittenKey<'_>],
+        guesses: &[u32],
+    ) -> Result<(), AllocError>
         requires numbers { All (λ w. IsSome (number_in self.old.keys w.key)) written.now }
         requires whole { IsWhole self.old }
         ensures built { OnOk result ((cs : List seen_by_rules.Candidate) → AreNext cs i written.now → IsBuilt cs i (suc i) 0 self.old → IsBuilt cs i (suc i) (length written.now) self.new) }
         ensures keys { OnOk result (self.new.keys ≡ self.old.keys) }
         ensures whole { OnOk result (IsWhole self.new) }
     {
+        let mut at = 0;
         for one in written {
-            self.add_key(i, one)?;
+            let number = self.add_key(i, one, guesses.get(at).copied())?;
+            // mostly keys are in their order
+            at = passed(guesses, at, number.saturating_add(1));
         }
         Ok(())
     }
 
-    /// One candidate more.
-    fn add(&mut self, i: u32, candidate: &Candidate<'a>) -> Result<(), AllocError>
+    /// One candidate more. What numbers the list has goes.
+    fn add(
+        &mut self,
+        i: u32,
+        candidate: &Candidate<'a>,
+        numbers: &mut Vec<u32>,
+    ) -> Result<(), AllocError>
         requires numbers { (k : StateKey) → is_among k (written_by (seen candidate.now)) ≡ true → IsSome (number_in self.old.keys k) }
         requires whole { IsWhole self.old }
         ensures built { OnOk result ((cs : List seen_by_rules.Candidate) → candidate_in cs i ≡ seen candidate.now → IsBuilt cs i i 0 self.old → IsBuilt cs (suc i) (suc i) 0 self.new) }
@@ -230,13 +280,15 @@ impl<'a> Chains<'a> {
             Candidate::Updates(_) => Ok(()),
             Candidate::Opened(open_tx) => {
                 add_read_keys(&mut self.read_keys, &open_tx.tx)?;
+                numbers.clear();
                 link_reads(
                     &mut self.reads,
+                    numbers,
                     &self.keys,
                     &self.operations,
                     &self.read_keys.as_slice()[first..],
                 )?;
-                self.add_written(i, open_tx.written.as_slice())?;
+                self.add_written(i, open_tx.written.as_slice(), numbers.as_slice())?;
                 Ok(())
             }
         }
@@ -249,8 +301,10 @@ impl<'a> Chains<'a> {
     {
         let keys = Numbering::new(written_keys(alloc, candidates)?)?;
         let mut chains = Chains::new(alloc, keys)?;
+        // for all candidates, since it takes memory
+        let mut numbers = Vec::new(alloc);
         for (i, candidate) in candidates.iter().enumerate() {
-            chains.add(i as u32, candidate)?;
+            chains.add(i as u32, candidate, &mut numbers)?;
         }
         Ok(chains)
     }

@@ -1,5 +1,5 @@
 //! The keys that a block writes, numbered.
-ghost use Rattle.std.specs.Prelude.{◌≡◌, ◌<◌, ◌≤◌, ◌^◌, true, false, length, IfOk, IfSome};
+ghost use Rattle.std.specs.Prelude.{◌≡◌, ◌<◌, ◌≤◌, ◌^◌, true, false, Some, length, IfOk, IfSome};
 ghost use Rattle.std.specs.List.Sorted.{IsStrictlySortedBy, IsPartitionPoint};
 ghost use Rattle.rules.specs.State.{key_cmp};
 ghost use Rattle.std.specs.Ordering.{is_lt, is_le};
@@ -44,6 +44,18 @@ fn place_of<'k>(keys: &[StateKey<'k>], key: &StateKey<'k>) -> Option<usize>
     ensures bound { IfSome result (λ n. n < length keys.now) }
 {
     keys.binary_search(key).ok()
+}
+
+/// Whether the key at a place is this one: then the place is its number.
+fn is_at(keys: &[StateKey<'_>], place: usize, key: &StateKey<'_>) -> bool
+    requires { IsStrictlySortedBy key_cmp keys.now }
+    ensures value { result ≡ true → number_in keys.now key.now ≡ Some place }
+    ensures bound { result ≡ true → place < length keys.now }
+{
+    if place >= keys.len() {
+        return false;
+    }
+    keys[place].is_same(key)
 }
 
 /// Whether a key stands before a bound in a namespace.
@@ -132,6 +144,17 @@ impl<'a> Numbering<'a> {
         match place_of(self.keys.as_slice(), key) {
             None => None,
             Some(place) => Some(place as u32),
+        }
+    }
+
+    /// A key's number, as `number`. One comparison if a guess is right.
+    pub fn number_by(&self, guess: Option<u32>, key: &StateKey<'_>) -> Option<u32>
+        ensures value { result ≡ number_in self.now key.now }
+        ensures bound { IfSome result (λ n. n < length self.now) }
+    {
+        match guess {
+            Some(number) if is_at(self.keys.as_slice(), number as usize, key) => Some(number),
+            _ => self.number(key),
         }
     }
 

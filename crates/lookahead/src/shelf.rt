@@ -57,6 +57,11 @@ impl<J: Makeable<Y, X>, Y: Drop, X: Drop> Shelf<J, Y, X> {
         self.drawn >= self.taken.saturating_add(most)
     }
 
+    /// Whether at least half of this many pieces may be drawn now.
+    pub(crate) fn is_half_empty(&self, most: usize) -> bool {
+        self.drawn <= self.taken.saturating_add(most / 2)
+    }
+
     /// Whether a thread that wants a part waits: some are left, and so many pieces are drawn and not taken that there is no room.
     pub(crate) fn must_wait(&self, len: usize, most: usize) -> bool {
         !self.is_closed && self.drawn < len && self.is_full(most)

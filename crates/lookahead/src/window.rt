@@ -100,8 +100,10 @@ impl<J: Makeable<Y, X>, Y: Drop, X: Drop> Window<J, Y, X> {
             .ready
             .wait_while(rt, self.shelf.lock(rt), |shelf| !shelf.is_ready());
         let made = shelf.take(place);
-        // there is room for one more
-        self.room.notify_one();
+        // a small piece takes less time than to wake a thread
+        if shelf.is_half_empty(self.most) {
+            self.room.notify_all();
+        }
         made
     }
 

@@ -22,9 +22,9 @@ abbrev pub governing : Policies → List ℕ → Option Tree → Option Tree
 governing definitions namespace (Some own) = Some own
 governing definitions namespace None = get definitions namespace
 
--- A key may be written where its policy wasn't touched, that is written or removed by an earlier transaction of the block
--- that passed this rule (a delete alone touches nothing), and the policy that governs it in the state before the block is
--- satisfied.
+-- A key may be written if its policy wasn't touched, and the policy that governs it in the state before the block is
+-- satisfied. Touched is what an earlier transaction of the block that passed all tests before the reads writes or removes
+-- as a policy; a delete alone touches nothing.
 abbrev pub may_write : Policies → State → List StateKey → List Identity → StateKey → Bool
 may_write definitions before touched signers k =
     not (is_among k touched) && meets signers (governing definitions k.0 (policy_in before k))

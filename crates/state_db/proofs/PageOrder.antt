@@ -10,6 +10,7 @@ use Rattle.state_keys.specs.Head.{head_of, padded}
 use Rattle.state_db.specs.Search.{Keyed, IsSorted, is_below, leading, Falls}
 use Rattle.state_db.specs.Need.{AreBounded, AreOpen}
 use Rattle.state_db.specs.Pages.{ArePages, RowList, joined, AreFilled, AreSized, AreInOrder, is_page_below, home, last_head}
+use Rattle.state_db.proofs.Leading.{passes_at}
 use Rattle.state_db.proofs.Order.{any_append, alone, others_decide, none_behind, sorted_front, sorted_back, find_skip, find_in}
 
 -- ---- the last row
@@ -145,3 +146,16 @@ sized_bounded (p ∷ ps) h = (h.1, sized_bounded ps h.2)
 -- pages of which there are some
 pub opened : (ps : List RowList) → ArePages ps → 0 < length ps → AreOpen ps
 opened ps h some = record { some = some; sorted = h.0; filled = sized_filled ps h.1; bounded = sized_bounded ps h.1 }
+
+-- a page that ends before the key isn't its home, but if it is the last one
+others_at : (ps : List RowList) (n : ℕ) (d : RowList) → suc n < length ps → (n < length (others ps)) × (get_or (others ps) n d ≡ get_or ps n d)
+others_at [] n d lt = absurd (omega arith)
+others_at (p ∷ []) n d lt = absurd (omega arith)
+others_at (p ∷ q ∷ ps) zero d lt = (omega arith, refl)
+others_at (p ∷ q ∷ ps) (suc n) d lt = let rest = others_at (q ∷ ps) n d (omega arith) in (omega (arith, rest.0), rest.1)
+
+pub passed_home : (k : StateKey) (ps : List RowList) (n : ℕ) (d : RowList) → AreInOrder ps → suc n < length ps → is_page_below k (get_or ps n d) ≡ true → n < home k ps
+passed_home k ps n d h lt below =
+    let at = others_at ps n d lt in
+    let passes = passes_at (is_page_below k) (others ps) n d (falls_pages k ps h) at.0 (ap (is_page_below k) at.1 ∙ below) in
+    omega (arith, passes, home-leading k ps)

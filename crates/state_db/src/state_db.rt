@@ -11,7 +11,7 @@ ghost use Rattle.state_db.specs.Search.{IsSorted};
 
 use crate::apply::{edit_pages, first_pages};
 use crate::batch::Batch;
-use crate::directory::{row_and_place_of, row_of};
+use crate::directory::{Found, row_near, row_of};
 use crate::edit::Edit;
 use crate::looked_up::FoundRows;
 use crate::page::{MAX_ROWS, Page};
@@ -81,16 +81,17 @@ impl StateDb {
     pub fn row(&self, key: &StateKey<'_>) -> Option<&Row>
         ensures { option_copied result ≡ get self.now.state key.now }
     {
-        self.row_and_place(key).0
+        self.found_near(0, key).row
     }
 
-    fn row_and_place(&self, key: &StateKey<'_>) -> (Option<&Row>, usize)
-        ensures { option_copied result.0 ≡ get self.now.state key.now }
+    fn found_near(&self, guess: usize, key: &StateKey<'_>) -> Found<'_>
+        ensures { option_copied result.row ≡ get self.now.state key.now }
     {
-        row_and_place_of(self.pages.as_slice(), &key.wanted())
+        row_near(self.pages.as_slice(), guess, &key.wanted())
     }
 
-    /// The rows of keys, each at its key's place. A look-up for each; memory for lists of them.
+    /// The rows of keys, each at its key's place. A look-up for each, which takes less if the keys are in their order;
+    /// memory for lists of them.
     pub fn rows_of<'a>(
         &'a self,
         alloc: Global,
@@ -100,11 +101,17 @@ impl StateDb {
     {
         let mut rows = Vec::with_capacity(alloc, keys.len())?;
         let mut places = Vec::with_capacity(alloc, keys.len())?;
+        let mut page = 0;
+        let mut is_in_order = true;
         for key in keys {
-            let (row, place) = self.row_and_place(key);
-            rows.push(row)?;
+            // if keys have no order the last page is no guess of the next one
+            let guess = if is_in_order { page } else { 0 };
+            let found = self.found_near(guess, key);
+            is_in_order = is_in_order && page <= found.page;
+            page = found.page;
+            rows.push(found.row)?;
             // a page has few rows
-            places.push(place.min(MAX_ROWS) as u32)?;
+            places.push(found.place.min(MAX_ROWS) as u32)?;
         }
         Ok(FoundRows { rows, places })
     }

@@ -38,7 +38,8 @@ impl<'a> Identity<'a> {
     pub fn is_same(&self, other: &Identity<'_>) -> bool
         ensures { result ≡ is_same_identity self.now other.now }
     {
-        self.org.is_same(&other.org) && self.role == other.role && self.label.is_same(&other.label)
+        // the cheapest comparison comes first
+        self.role == other.role && self.org.is_same(&other.org) && self.label.is_same(&other.label)
     }
 
     /// How many bytes spell it.

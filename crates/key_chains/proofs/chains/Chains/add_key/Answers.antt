@@ -15,7 +15,7 @@ add_policy_writer-requires c = omega (arith, c.in-Some.ensures.bound, c.requires
 
 pub returns-clause-built : goal.returns-clause-built
 returns-clause-built c cs p next built =
-    one_further cs c.args.i p c.args.written.now c.args.self.now _ c.in-Some.number c.newest-policy_writers.result next built (sym c.number.ensures.value ∙ c.in-Some.is)
+    one_further cs c.args.i p c.args.written.now c.args.self.now _ c.in-Some.number c.newest-policy_writers.result next built (sym c.number_by.ensures.value ∙ c.in-Some.is)
     (record {
       here = c.in_ok-push-2.ensures.key ∙ ap (λ (kind : Kind). record { tx = c.args.i; kind = kind } ∷ list_of c.args.self.now.operations c.in-Some.number) c.kind_of.ensures;
       others = c.in_ok-push-2.ensures.others;

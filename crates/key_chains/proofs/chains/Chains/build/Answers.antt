@@ -18,3 +18,8 @@ loop-i-preserved c =
     let one : suc c.loop-i.i ≡ c.loop-i.i + 1 = omega arith in
     subst (λ (n : ℕ). IsBuilt (map seen c.args.candidates.now) n n 0 c.add.new.self) one
     (c.in_ok-add.ensures.built (map seen c.args.candidates.now) (candidate_is c.args.candidates.now c.loop-i.i c.index-candidates-i.result c.loop-i-test.true c.index-candidates-i.is) c.loop-i.invariant)
+
+pub returns : goal.returns
+returns c =
+    let all : c.loop-i.i ≡ length c.args.candidates.now = omega (arith, c.loop-i-test.false, c.loop-i.auto.i-end) in
+    subst (λ (n : ℕ). IsBuilt (map seen c.args.candidates.now) n n 0 c.loop-i.chains) all c.loop-i.invariant
