@@ -136,8 +136,7 @@ sources; `./test` fails if it isn't current.
 - **Order**: the theorem in words, its definitions, then the vocabulary, from the highest crate to the lowest. If you
   are in a hurry, read [Serial](#serial), [Step](#step) and [Promise](#promise). What queries ask is in
   [Answers](#answers).
-- **Flags** have Fabric's names and numbers: [table](behaviour.md#flags). A receipt's height is its block's number and
-  one more.
+{flags}
 - **Words**: a `World` is a ledger, and its `definitions` are the policies of chaincodes. The *touched* keys of
   [Endorsement](#endorsement) are those of `policy_written`. If two sections define a name, each means its own.
 {left_out}
@@ -151,7 +150,7 @@ sources; `./test` fails if it isn't current.
 | `A ⊎ B`, `A ↔ B` | one of both; `A` exactly if `B` |
 | `A → B`, `(x : A) → B` | a function, or: if `A` then `B`; for all `x` |
 | `(i : ℕ) → slice_index bytes i < 256` | each element of `bytes` is a byte |
-| `Type 0`, `Bool` | a statement, which holds or doesn't (or a type); a truth value, which is computed |
+| `Type 0`, `Bool` | a statement, which holds or doesn't, or a type (`Type 1` of such); a truth value, which is computed |
 | `x ≡ y`, `x ≢ y`, `⊥`, `Unit` | equal; different; what never holds; what always holds |
 | `item.Tx`, `{{A : Type 0}}` | the variant `Tx`, after a short name of its type; an argument that is left out in calls |
 | `abbrev`, `unfoldable`, `pub` | how proofs and other files may use a definition: it means the same without |
@@ -340,6 +339,14 @@ def names_of_kit(names):
     return ["## Names of the kit", "", *wrapped(said), "| name | meaning |", "|---|---|", *words, "", "| module | names |", "|---|---|", *rows, ""]
 
 
+def flags():
+    """What the page says of flags, with their numbers."""
+    numbers = re.findall(r"Flag::(\w+) => (\d+),", (CRATES / "rules/src/flag.rt").read_text())
+    listed = ", ".join(f"{number} {name}" for name, number in numbers)
+    said = f"- **Flags** have Fabric's names and numbers: {listed}. Examples: [behaviour](behaviour.md#flags). A receipt's height is its block's number plus one."
+    return "\n  ".join(wrapped(said)[:-1])
+
+
 def in_words():
     """What `theorem` says of itself: the theorem and its premises."""
     lines = [re.sub(r"^([A-Z]): ", r"- **\1**: ", line) for line in file_at(CRATES / "theorem/specs/Lib.antt").intro]
@@ -358,7 +365,7 @@ def text_of_page():
     code, comment = counts(body)
     beginning = BEGINNING.format(
         left_out=page.left_out(), definitions=len(found), files=len({it.file for it in found}), code=code, comment=comment, more=more,
-        words=in_words(), laws="\n".join(laws()), for_laws=FOR_LAWS,
+        flags=flags(), words=in_words(), laws="\n".join(laws()), for_laws=FOR_LAWS,
     )
     return beginning + "\n".join(body + in_full() + names_of_kit(names))
 

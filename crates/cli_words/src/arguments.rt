@@ -1,4 +1,14 @@
 //! What subcommands take: options and positionals, and the numbers that options give.
+ghost use Rattle.std.specs.Prelude.{◌≡◌, ◌∷◌, [], ℕ, List, Option, None, Some, false, pos, nat_lt};
+ghost use Rattle.std.specs.Prelude.{if◌then◌else◌, option_map};
+ghost use Rattle.clap.specs.Words.{first_of, found_of, one_of, rows_of, rule_of};
+ghost use Rattle.cli_words.specs.Matched.{IsSet};
+ghost use Rattle.clap.specs.Lexer.{usize_max};
+ghost use Rattle.clap.specs.declared.builder.action.ArgAction.TheVariants.{Append};
+ghost use Rattle.clap.specs.declared.builder.value_parser.ValueParser.TheVariants as parser;
+ghost use Rattle.cli_words.specs.Program.{flag_rule, option_rule, positional_rule};
+ghost use Rattle.cli_words.specs.Rules.{rule_for};
+
 use clap::{Arg, ArgAction, ArgMatches, value_parser};
 use std::alloc::Global;
 
@@ -59,19 +69,28 @@ pub(crate) const KEY: Argument = Argument {
     form: Form::Required,
 };
 
-fn option<'a>(alloc: Global, argument: &Argument) -> Arg<'a> {
+fn option<'a>(alloc: Global, argument: &Argument) -> Arg<'a>
+    ensures rule { rule_of result ≡ option_rule argument.now.name.now }
+    ensures local { result.global ≡ false }
+{
     positional(alloc, argument)
         .long(argument.name)
         .action(ArgAction::Set)
 }
 
-fn positional<'a>(alloc: Global, argument: &Argument) -> Arg<'a> {
+fn positional<'a>(alloc: Global, argument: &Argument) -> Arg<'a>
+    ensures rule { rule_of result ≡ positional_rule argument.now.name.now }
+    ensures local { result.global ≡ false }
+{
     Arg::new(alloc, argument.name)
         .value_name(argument.value_name)
         .help(argument.help)
 }
 
-fn flag<'a>(alloc: Global, argument: &Argument) -> Arg<'a> {
+fn flag<'a>(alloc: Global, argument: &Argument) -> Arg<'a>
+    ensures rule { rule_of result ≡ flag_rule argument.now.name.now }
+    ensures local { result.global ≡ false }
+{
     Arg::new(alloc, argument.name)
         .long(argument.name)
         .help(argument.help)
@@ -79,13 +98,25 @@ fn flag<'a>(alloc: Global, argument: &Argument) -> Arg<'a> {
 }
 
 // A number in bounds; that it has digits alone is looked at by `number_of`.
-fn count<'a>(alloc: Global, argument: &Argument, least: u16, most: u16) -> Arg<'a> {
+fn count<'a>(alloc: Global, argument: &Argument, least: u16, most: u16) -> Arg<'a>
+    ensures rule { rule_of result ≡ record (option_rule argument.now.name.now) {
+      parser = Some (parser.Signed (pos least) (pos most));
+    } }
+    ensures local { result.global ≡ false }
+{
     option(alloc, argument).value_parser(value_parser!(u16).range(
         i64::from(least)..=i64::from(most),
     ))
 }
 
-fn positionals<'a>(alloc: Global, argument: &Argument, least: usize) -> Arg<'a> {
+fn positionals<'a>(alloc: Global, argument: &Argument, least: usize) -> Arg<'a>
+    ensures rule { rule_of result ≡ record (positional_rule argument.now.name.now) {
+      required = nat_lt 0 least;
+      range = Some (record { start_inclusive = least; end_inclusive = usize_max });
+      action = Some Append;
+    } }
+    ensures local { result.global ≡ false }
+{
     positional(alloc, argument)
         .required(least > 0)
         .num_args(least..)
@@ -94,7 +125,10 @@ fn positionals<'a>(alloc: Global, argument: &Argument, least: usize) -> Arg<'a> 
 
 impl Argument {
     /// The argument as clap has it.
-    pub(crate) fn arg<'a>(&self, alloc: Global) -> Arg<'a> {
+    pub(crate) fn arg<'a>(&self, alloc: Global) -> Arg<'a>
+        ensures rule { rule_of result ≡ rule_for self.now }
+        ensures local { result.global ≡ false }
+    {
         match self.form {
             Form::Required => option(alloc, self).required(true),
             Form::Optional => option(alloc, self),
@@ -113,6 +147,21 @@ impl Argument {
             Form::Positionals { least } => positionals(alloc, self, least),
         }
     }
+}
+
+/// The first value of an option.
+pub(crate) fn value_of<'a>(matches: &ArgMatches<'a>, name: &str) -> Option<&'a str>
+    ensures { option_map (λ s. s.now) result ≡ first_of name.now (rows_of (found_of matches.now)) }
+{
+    matches.get_str(name)
+}
+
+/// Whether an option without a value is given.
+pub(crate) fn is_given(matches: &ArgMatches<'_>, name: &str) -> bool
+    ensures { (uses : List (Option (List ℕ))) → IsSet uses (one_of name.now (rows_of (found_of matches.now)))
+        → uses ≡ (if result then None ∷ [] else []) }
+{
+    matches.get_flag(name)
 }
 
 // The value of an option, where it has digits alone.

@@ -1,13 +1,21 @@
-use crate::conflict_counts::{CONFLICTS, ConflictCounts};
-use crate::definition::{DEFINITION, DefinitionQuery};
-use crate::draft::{DRAFT, Draft};
-use crate::explain::{EXPLAIN, Explain, asks_both_ways, mixes_graph_and_lines};
-use crate::get::GET;
-use crate::history::HISTORY;
+ghost use Rattle.std.specs.Prelude.{◌≡◌, ◌∷◌, ℕ, List, IfOk, IfSome, codes, map};
+ghost use Rattle.clap.specs.Words.{app_of, found_of, rows_of, subcommand_rows_of};
+ghost use Rattle.cli_words.specs.Matched.{HoldKeyed, HoldNamespace, HoldWords, IsCall};
+ghost use Rattle.cli_words.specs.Items.{AsItems};
+ghost use Rattle.cli_words.specs.Options.{definition_options, keyed_options};
+ghost use Rattle.cli_words.specs.Words.{AreTexts, Asks};
+ghost use Rattle.cli_words.specs.Program.{program};
+
+use crate::conflict_counts::{self, ConflictCounts};
+use crate::definition::{self, DefinitionQuery};
+use crate::draft::{self, Draft};
+use crate::explain::{self, Explain, asks_both_ways, mixes_graph_and_lines};
 use crate::keyed::KeyedQuery;
-use crate::run::{RUN, Run};
-use crate::scan::{SCAN, Scan};
-use crate::show::{SHOW, Show};
+use crate::run::{self, Run};
+use crate::scan::{self, Scan};
+use crate::show::{self, Show};
+use crate::subcommand::with_subcommands;
+use crate::{get, history};
 use clap::error::ErrorKind;
 use clap::{ArgMatches, Command, Error};
 use std::alloc::{AllocError, Global};
@@ -50,33 +58,27 @@ pub enum Asked<'a> {
     Show(Show<'a>),
 }
 
-// A function of its own, so that few exits own a command.
-fn with_subcommands<'a>(alloc: Global, command: Command<'a>) -> Result<Command<'a>, AllocError> {
-    let mut command = command;
-    for subcommand in [
-        &DRAFT,
-        &SHOW,
-        &RUN,
-        &GET,
-        &SCAN,
-        &HISTORY,
-        &DEFINITION,
-        &EXPLAIN,
-        &CONFLICTS,
-    ] {
-        command = command.subcommand(subcommand.command(alloc)?)?;
-    }
-    Ok(command)
-}
-
-fn command<'a>(alloc: Global) -> Result<Command<'a>, AllocError> {
+fn command<'a>(alloc: Global) -> Result<Command<'a>, AllocError>
+    ensures { IfOk result (λ r. app_of r ≡ program) }
+{
     let command = Command::new(alloc, NAME)
         .bin_name(NAME)?
         .version(VERSION)
         .about("Commit blocks of a Hyperledger Fabric channel, and ask what they leave")
         .after_help(EXAMPLE)
         .subcommand_required(true);
-    with_subcommands(alloc, command)
+    let subcommands = [
+        draft::subcommand(),
+        show::subcommand(),
+        run::subcommand(),
+        get::subcommand(),
+        scan::subcommand(),
+        history::subcommand(),
+        definition::subcommand(),
+        explain::subcommand(),
+        conflict_counts::subcommand(),
+    ];
+    with_subcommands(alloc, command, &subcommands)
 }
 
 /// The mistake of words that aren't UTF-8, with the program's usage. Needs memory for its text.
@@ -113,7 +115,11 @@ impl<'a> Asked<'a> {
 
     /// What the words ask for, of which the first is the program's name. An `Err` says why they are no command, holds
     /// the help that they ask for, or is want of memory. The memory is linear in the words.
-    pub fn from_words<S: AsStr>(alloc: Global, words: &'a [S]) -> Result<Asked<'a>, Error> {
+    ///
+    /// Of `get`, `history` and `definition` the clause says what words in UTF-8 ask for, of others nothing.
+    pub fn from_words<S: AsStr>(alloc: Global, words: &'a [S]) -> Result<Asked<'a>, Error>
+        ensures { AreTexts (map S.text words.entry.now) → IfOk result (Asks (map S.text words.entry.now)) }
+    {
         let mut command = command(alloc)?;
         Asked::of_command(alloc, &mut command, words)
     }
@@ -122,7 +128,10 @@ impl<'a> Asked<'a> {
         alloc: Global,
         command: &mut Command<'a>,
         words: &'a [S],
-    ) -> Result<Asked<'a>, Error> {
+    ) -> Result<Asked<'a>, Error>
+        ensures { app_of command.old ≡ program → AreTexts (map S.text words.entry.now)
+            → IfOk result (Asks (map S.text words.entry.now)) }
+    {
         let matches = command.try_get_matches_from_mut(words)?;
         Asked::of_matches(alloc, command, &matches)
     }
@@ -131,7 +140,10 @@ impl<'a> Asked<'a> {
         alloc: Global,
         command: &mut Command<'a>,
         matches: &ArgMatches<'a>,
-    ) -> Result<Asked<'a>, Error> {
+    ) -> Result<Asked<'a>, Error>
+        ensures { (words : List (List ℕ)) → IsCall words (subcommand_rows_of matches.now)
+            → IfOk result (Asks words) }
+    {
         match Asked::from_matches(alloc, matches)? {
             Some(asked) => Ok(asked),
             // all else is required, or looked at by clap
@@ -142,17 +154,84 @@ impl<'a> Asked<'a> {
     fn from_matches(
         alloc: Global,
         matches: &ArgMatches<'a>,
-    ) -> Result<Option<Asked<'a>>, AllocError> {
-        let Some((name, matches)) = matches.subcommand() else {
-            return Ok(None);
-        };
+    ) -> Result<Option<Asked<'a>>, AllocError>
+        ensures { (words : List (List ℕ)) → IsCall words (subcommand_rows_of matches.now)
+            → IfOk result (λ o. IfSome o (Asks words)) }
+    {
+        match matches.subcommand() {
+            Some((name, matches)) => Asked::of_subcommand(alloc, name, matches),
+            None => Ok(None),
+        }
+    }
+
+    // What the words after a subcommand's name ask for.
+    fn of_subcommand(
+        alloc: Global,
+        name: &str,
+        matches: &ArgMatches<'a>,
+    ) -> Result<Option<Asked<'a>>, AllocError>
+        ensures { (front : List ℕ) (words : List (List ℕ))
+            → HoldWords name.now words (rows_of (found_of matches.now))
+            → IfOk result (λ o. IfSome o (Asks (front ∷ name.now ∷ words))) }
+    {
+        if name == "get" {
+            return Asked::get(alloc, matches);
+        }
+        if name == "history" {
+            return Asked::history(alloc, matches);
+        }
+        if name == "definition" {
+            return Asked::definition(alloc, matches);
+        }
+        Asked::of_other(alloc, name, matches)
+    }
+
+    fn get(alloc: Global, matches: &ArgMatches<'a>) -> Result<Option<Asked<'a>>, AllocError>
+        ensures { (front : List ℕ) (words : List (List ℕ))
+            → AsItems keyed_options words (λ items. HoldKeyed items (rows_of (found_of matches.now)))
+            → IfOk result (λ o. IfSome o (Asks (front ∷ codes "get" ∷ words))) }
+    {
+        match KeyedQuery::from_matches(alloc, matches)? {
+            Some(query) => Ok(Some(Asked::Get(query))),
+            None => Ok(None),
+        }
+    }
+
+    fn history(alloc: Global, matches: &ArgMatches<'a>) -> Result<Option<Asked<'a>>, AllocError>
+        ensures { (front : List ℕ) (words : List (List ℕ))
+            → AsItems keyed_options words (λ items. HoldKeyed items (rows_of (found_of matches.now)))
+            → IfOk result (λ o. IfSome o (Asks (front ∷ codes "history" ∷ words))) }
+    {
+        match KeyedQuery::from_matches(alloc, matches)? {
+            Some(query) => Ok(Some(Asked::History(query))),
+            None => Ok(None),
+        }
+    }
+
+    fn definition(alloc: Global, matches: &ArgMatches<'a>) -> Result<Option<Asked<'a>>, AllocError>
+        ensures { (front : List ℕ) (words : List (List ℕ))
+            → AsItems definition_options words (λ items. HoldNamespace items (rows_of (found_of matches.now)))
+            → IfOk result (λ o. IfSome o (Asks (front ∷ codes "definition" ∷ words))) }
+    {
+        match DefinitionQuery::from_matches(alloc, matches)? {
+            Some(query) => Ok(Some(Asked::Definition(query))),
+            None => Ok(None),
+        }
+    }
+
+    // Of the other subcommands nothing is stated.
+    fn of_other(
+        alloc: Global,
+        name: &str,
+        matches: &ArgMatches<'a>,
+    ) -> Result<Option<Asked<'a>>, AllocError>
+        ensures { (front name : List ℕ) (words : List (List ℕ))
+            → IfOk result (λ o. IfSome o (Asks (front ∷ name ∷ words))) }
+    {
         Ok(match name {
             "draft" => Draft::from_matches(matches).map(Asked::Draft),
             "run" => Run::from_matches(alloc, matches)?.map(Asked::Run),
-            "get" => KeyedQuery::from_matches(alloc, matches)?.map(Asked::Get),
             "scan" => Scan::from_matches(alloc, matches)?.map(Asked::Scan),
-            "history" => KeyedQuery::from_matches(alloc, matches)?.map(Asked::History),
-            "definition" => DefinitionQuery::from_matches(alloc, matches)?.map(Asked::Definition),
             "explain" => Explain::from_matches(alloc, matches)?.map(Asked::Explain),
             "conflicts" => ConflictCounts::from_matches(alloc, matches)?.map(Asked::Conflicts),
             "show" => Some(Asked::Show(Show::from_matches(alloc, matches)?)),

@@ -1,11 +1,15 @@
 //! The words of `conflicts`.
+ghost use Rattle.std.specs.Prelude.{◌≡◌, codes};
+ghost use Rattle.cli_words.specs.Rules.{shape_for};
+ghost use Rattle.cli_words.specs.Program.{conflicts_rules, named};
+
 use crate::arguments::{Argument, Form, long_number_of, number_of};
 use crate::paths::{CHANNEL, JSON, KEYS, LedgerPaths, QUIET, SOME_BLOCKS};
 use crate::subcommand::Subcommand;
 use clap::ArgMatches;
 use std::alloc::{AllocError, Global};
 
-pub(crate) static CONFLICTS: Subcommand = Subcommand {
+static CONFLICTS: Subcommand = Subcommand {
     name: "conflicts",
     about: "Count what made transactions invalid: flags, keys, chaincodes",
     example: "\
@@ -27,6 +31,13 @@ Example, of the blocks from number 1 on:
 Where most of a key's N are in-block, smaller blocks help, or other keys.",
     arguments: &[CHANNEL, KEYS, TOP, FROM, QUIET, JSON, SOME_BLOCKS],
 };
+
+/// The subcommand. A function, so that its texts are read by no other proof.
+pub(crate) fn subcommand() -> &'static Subcommand
+    ensures { shape_for result.now ≡ named (codes "conflicts") conflicts_rules }
+{
+    &CONFLICTS
+}
 
 const TOP: Argument = Argument {
     name: "top",

@@ -1,11 +1,15 @@
 //! The words of `draft`.
+ghost use Rattle.std.specs.Prelude.{◌≡◌, codes};
+ghost use Rattle.cli_words.specs.Rules.{shape_for};
+ghost use Rattle.cli_words.specs.Program.{draft_rules, named};
+
 use crate::arguments::{Argument, Form, number_of};
 use crate::paths::{CHANNEL, ConfigurationPaths, KEYS};
 use crate::subcommand::Subcommand;
 use clap::ArgMatches;
 use transaction::BlockVersion;
 
-pub(crate) static DRAFT: Subcommand = Subcommand {
+static DRAFT: Subcommand = Subcommand {
     name: "draft",
     about: "Make a block from a script, with ids, signatures and hashes",
     example: "\
@@ -30,6 +34,13 @@ Example:
   Prints nothing. Where the script has a fault, OUT stays as it was.",
     arguments: &[CHANNEL, KEYS, AFTER, FORMAT, SCRIPT, OUT],
 };
+
+/// The subcommand. A function, so that its texts are read by no other proof.
+pub(crate) fn subcommand() -> &'static Subcommand
+    ensures { shape_for result.now ≡ named (codes "draft") draft_rules }
+{
+    &DRAFT
+}
 
 const AFTER: Argument = Argument {
     name: "after",

@@ -1,11 +1,15 @@
 //! The words of `explain`.
+ghost use Rattle.std.specs.Prelude.{◌≡◌, codes};
+ghost use Rattle.cli_words.specs.Rules.{shape_for};
+ghost use Rattle.cli_words.specs.Program.{explain_rules, named};
+
 use crate::arguments::{Argument, Form, number_of};
 use crate::paths::{CHANNEL, JSON, KEYS, LedgerPaths, QUIET, SOME_BLOCKS};
 use crate::subcommand::Subcommand;
 use clap::ArgMatches;
 use std::alloc::{AllocError, Global};
 
-pub(crate) static EXPLAIN: Subcommand = Subcommand {
+static EXPLAIN: Subcommand = Subcommand {
     name: "explain",
     about: "Learn why each transaction of the last block has its flag",
     example: "\
@@ -91,6 +95,13 @@ labelled NAMESPACE KEY, or id.",
         SOME_BLOCKS,
     ],
 };
+
+/// The subcommand. A function, so that its texts are read by no other proof.
+pub(crate) fn subcommand() -> &'static Subcommand
+    ensures { shape_for result.now ≡ named (codes "explain") explain_rules }
+{
+    &EXPLAIN
+}
 
 const TX: Argument = Argument {
     name: "tx",

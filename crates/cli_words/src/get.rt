@@ -1,9 +1,13 @@
 //! The words of `get`, which are those of a `KeyedQuery`.
+ghost use Rattle.std.specs.Prelude.{◌≡◌, codes};
+ghost use Rattle.cli_words.specs.Rules.{shape_for};
+ghost use Rattle.cli_words.specs.Program.{keyed_rules, named};
+
 use crate::arguments::{KEY, NAMESPACE};
 use crate::paths::{ANY_BLOCKS, CHANNEL, JSON, KEYS, QUIET};
 use crate::subcommand::Subcommand;
 
-pub(crate) static GET: Subcommand = Subcommand {
+static GET: Subcommand = Subcommand {
     name: "get",
     about: "Look up what a key holds",
     example: "\
@@ -23,3 +27,10 @@ UTF-8, else {\"hex\":\"DIGITS\"}:
     --json block0.blk block1.blk | jq -r '.value // empty'",
     arguments: &[CHANNEL, KEYS, NAMESPACE, KEY, QUIET, JSON, ANY_BLOCKS],
 };
+
+/// The subcommand. A function, so that its texts are read by no other proof.
+pub(crate) fn subcommand() -> &'static Subcommand
+    ensures { shape_for result.now ≡ named (codes "get") keyed_rules }
+{
+    &GET
+}

@@ -1,7 +1,15 @@
 //! What is asked of one key.
-ghost use Rattle.std.specs.Prelude.{◌≡◌, Some, IfOk};
+ghost use Rattle.std.specs.Prelude.{◌≡◌, ◌⊎◌, ℕ, List, false, Some, Err, IfOk, IfSome};
+ghost use Rattle.clap.specs.Words.{found_of, rows_of};
+ghost use Rattle.cli_values.specs.declared.word_fault.WordFault.TheVariants.{NotAWord};
+ghost use Rattle.cli_words.specs.Items.{Item};
+ghost use Rattle.cli_words.specs.Matched.{HoldKeyed};
+ghost use Rattle.cli_words.specs.Words.{IsKeyed};
 ghost use Rattle.text_lines.specs.Words.{word_bytes};
+ghost use Rattle.values.specs.Key.{is_key};
+ghost use Rattle.values.specs.Name.{is_name};
 
+use crate::arguments::value_of;
 use crate::paths::LedgerPaths;
 use clap::ArgMatches;
 use cli_values::{WordFault, key_of, name_of};
@@ -27,11 +35,18 @@ impl<'a> KeyedQuery<'a> {
     pub(crate) fn from_matches(
         alloc: Global,
         matches: &ArgMatches<'a>,
-    ) -> Result<Option<KeyedQuery<'a>>, AllocError> {
-        let (Some(namespace), Some(key)) = (matches.get_str("ns"), matches.get_str("key")) else {
+    ) -> Result<Option<KeyedQuery<'a>>, AllocError>
+        ensures { (items : List Item) → HoldKeyed items (rows_of (found_of matches.now))
+            → IfOk result (λ o. IfSome o (IsKeyed items)) }
+    {
+        let (Some(namespace), Some(key)) = (value_of(matches, "ns"), value_of(matches, "key"))
+        else {
             return Ok(None);
         };
-        Ok(LedgerPaths::from_matches(alloc, matches)?.map(|paths| KeyedQuery {
+        let Some(paths) = LedgerPaths::from_matches(alloc, matches)? else {
+            return Ok(None);
+        };
+        Ok(Some(KeyedQuery {
             paths,
             namespace,
             key,
@@ -42,6 +57,7 @@ impl<'a> KeyedQuery<'a> {
     pub fn asked_key(&self, alloc: Global) -> Result<NamespacedKey, WordFault>
         ensures namespace { IfOk result (λ asked. asked.namespace ≡ self.now.namespace.now) }
         ensures key { IfOk result (λ asked. word_bytes self.now.key.now ≡ Some asked.key) }
+        ensures err { result ≡ Err NotAWord → (is_name self.now.namespace.now ≡ false) ⊎ ((bytes : List ℕ) → word_bytes self.now.key.now ≡ Some bytes → is_key bytes ≡ false) }
     {
         let namespace = name_of(alloc, self.namespace)?;
         let key = key_of(alloc, self.key)?;

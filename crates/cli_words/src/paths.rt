@@ -1,5 +1,12 @@
 //! The files that words name.
-use crate::arguments::{Argument, Form};
+ghost use Rattle.std.specs.Prelude.{◌≡◌, [], None, List, ◌∷◌, IfOk, IfSome};
+ghost use Rattle.std.specs.Prelude.{codes, if◌then◌else◌, map, unwrap_or};
+ghost use Rattle.clap.specs.Words.{all_of, found_of, one_of, rows_of};
+ghost use Rattle.cli_words.specs.Items.{Item, IsFlag, given};
+ghost use Rattle.cli_words.specs.Matched.{HoldConfiguration, HoldLedger, IsSet};
+ghost use Rattle.cli_words.specs.Words.{IsConfiguration, IsLedger, is_json};
+
+use crate::arguments::{Argument, Form, is_given, value_of};
 use clap::ArgMatches;
 use cli_values::Format;
 use std::alloc::{AllocError, Global};
@@ -68,36 +75,59 @@ pub(crate) const SOME_BLOCKS: Argument = Argument {
 };
 
 impl<'a> ConfigurationPaths<'a> {
-    pub(crate) fn from_matches(matches: &ArgMatches<'a>) -> Option<ConfigurationPaths<'a>> {
-        Some(ConfigurationPaths {
-            channel: matches.get_str("channel")?,
-            keys: matches.get_str("keys")?,
-        })
+    pub(crate) fn from_matches(matches: &ArgMatches<'a>) -> Option<ConfigurationPaths<'a>>
+        ensures { (items : List Item) → HoldConfiguration items (rows_of (found_of matches.now))
+            → IfSome result (IsConfiguration items) }
+    {
+        let channel = value_of(matches, "channel")?;
+        let keys = value_of(matches, "keys")?;
+        Some(ConfigurationPaths { channel, keys })
     }
 }
 
-fn format_of(matches: &ArgMatches<'_>) -> Format {
-    if matches.get_flag("json") {
+fn format_of(matches: &ArgMatches<'_>) -> Format
+    ensures { (items : List Item)
+        → IsSet (given (codes "json") items) (one_of (codes "json") (rows_of (found_of matches.now)))
+        → IsFlag items (codes "json") (is_json result) }
+{
+    if is_given(matches, "json") {
         Format::Json
     } else {
         Format::Plain
     }
 }
 
+/// The operands that name blocks, in their order.
+pub(crate) fn blocks_of<'a>(
+    alloc: Global,
+    matches: &ArgMatches<'a>,
+) -> Result<Vec<&'a str>, AllocError>
+    ensures { IfOk result (λ v. map (λ s. s.now) v.items
+        ≡ unwrap_or (all_of (codes "blocks") (rows_of (found_of matches.now))) []) }
+{
+    let blocks = matches.get_strs("blocks").unwrap_or(&[]);
+    Vec::from_slice(alloc, blocks)
+}
+
 impl<'a> LedgerPaths<'a> {
     pub(crate) fn from_matches(
         alloc: Global,
         matches: &ArgMatches<'a>,
-    ) -> Result<Option<LedgerPaths<'a>>, AllocError> {
+    ) -> Result<Option<LedgerPaths<'a>>, AllocError>
+        ensures { (items : List Item) → HoldLedger items (rows_of (found_of matches.now))
+            → IfOk result (λ o. IfSome o (IsLedger items)) }
+    {
         let Some(configuration) = ConfigurationPaths::from_matches(matches) else {
             return Ok(None);
         };
-        let blocks = matches.get_strs("blocks").unwrap_or(&[]);
+        let blocks = blocks_of(alloc, matches)?;
+        let quiet = is_given(matches, "quiet");
+        let format = format_of(matches);
         Ok(Some(LedgerPaths {
             configuration,
-            blocks: Vec::from_slice(alloc, blocks)?,
-            quiet: matches.get_flag("quiet"),
-            format: format_of(matches),
+            blocks,
+            quiet,
+            format,
         }))
     }
 }

@@ -1,4 +1,8 @@
 //! The words of `run`.
+ghost use Rattle.std.specs.Prelude.{◌≡◌, codes};
+ghost use Rattle.cli_words.specs.Rules.{shape_for};
+ghost use Rattle.cli_words.specs.Program.{run_rules, named};
+
 use crate::arguments::{Argument, Form};
 use crate::parallelism::{Parallelism, READERS, WORKERS};
 use crate::paths::{CHANNEL, JSON, KEYS, LedgerPaths, QUIET, SOME_BLOCKS};
@@ -13,7 +17,7 @@ const HASHES: Argument = Argument {
     form: Form::Flag,
 };
 
-pub(crate) static RUN: Subcommand = Subcommand {
+static RUN: Subcommand = Subcommand {
     name: "run",
     about: "Commit blocks, and see the flag of each transaction",
     example: "\
@@ -52,6 +56,13 @@ Example, with a worker for each of four processors and two readers:
         SOME_BLOCKS,
     ],
 };
+
+/// The subcommand. A function, so that its texts are read by no other proof.
+pub(crate) fn subcommand() -> &'static Subcommand
+    ensures { shape_for result.now ≡ named (codes "run") run_rules }
+{
+    &RUN
+}
 
 /// Blocks in, and a line for each out.
 #[derive(Drop)]

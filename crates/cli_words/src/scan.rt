@@ -1,11 +1,15 @@
 //! The words of `scan`.
+ghost use Rattle.std.specs.Prelude.{◌≡◌, codes};
+ghost use Rattle.cli_words.specs.Rules.{shape_for};
+ghost use Rattle.cli_words.specs.Program.{scan_rules, named};
+
 use crate::arguments::{Argument, Form, NAMESPACE, number_of};
 use crate::paths::{ANY_BLOCKS, CHANNEL, JSON, KEYS, LedgerPaths, QUIET};
 use crate::subcommand::Subcommand;
 use clap::ArgMatches;
 use std::alloc::{AllocError, Global};
 
-pub(crate) static SCAN: Subcommand = Subcommand {
+static SCAN: Subcommand = Subcommand {
     name: "scan",
     about: "List the keys of a namespace, in their order, and what they hold",
     example: "\
@@ -23,6 +27,13 @@ Example:
         CHANNEL, KEYS, NAMESPACE, START, END, LIMIT, QUIET, JSON, ANY_BLOCKS,
     ],
 };
+
+/// The subcommand. A function, so that its texts are read by no other proof.
+pub(crate) fn subcommand() -> &'static Subcommand
+    ensures { shape_for result.now ≡ named (codes "scan") scan_rules }
+{
+    &SCAN
+}
 
 const START: Argument = Argument {
     name: "start",

@@ -1,11 +1,15 @@
 //! The words of `show`.
+ghost use Rattle.std.specs.Prelude.{◌≡◌, codes};
+ghost use Rattle.cli_words.specs.Rules.{shape_for};
+ghost use Rattle.cli_words.specs.Program.{show_rules, named};
+
 use crate::arguments::{Argument, Form};
-use crate::paths::{ConfigurationPaths, QUIET, SOME_BLOCKS};
+use crate::paths::{ConfigurationPaths, QUIET, SOME_BLOCKS, blocks_of};
 use crate::subcommand::Subcommand;
 use clap::ArgMatches;
 use std::alloc::{AllocError, Global};
 
-pub(crate) static SHOW: Subcommand = Subcommand {
+static SHOW: Subcommand = Subcommand {
     name: "show",
     about: "See what blocks have, as scripts that draft them again",
     example: "\
@@ -42,6 +46,13 @@ Example, to change a block:
     arguments: &[CHANNEL, KEYS, QUIET, SOME_BLOCKS],
 };
 
+/// The subcommand. A function, so that its texts are read by no other proof.
+pub(crate) fn subcommand() -> &'static Subcommand
+    ensures { shape_for result.now ≡ named (codes "show") show_rules }
+{
+    &SHOW
+}
+
 const CHANNEL: Argument = Argument {
     name: "channel",
     value_name: "FILE",
@@ -71,10 +82,9 @@ impl<'a> Show<'a> {
         alloc: Global,
         matches: &ArgMatches<'a>,
     ) -> Result<Show<'a>, AllocError> {
-        let blocks = matches.get_strs("blocks").unwrap_or(&[]);
         Ok(Show {
             configuration: ConfigurationPaths::from_matches(matches),
-            blocks: Vec::from_slice(alloc, blocks)?,
+            blocks: blocks_of(alloc, matches)?,
             quiet: matches.get_flag("quiet"),
         })
     }

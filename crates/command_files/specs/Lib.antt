@@ -1,2 +1,3 @@
+pub mod Failing
 pub mod Reading
 pub mod Status

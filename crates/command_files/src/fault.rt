@@ -1,8 +1,10 @@
-ghost use Rattle.std.specs.Prelude.{◌≡◌, ◌↔◌};
+ghost use Rattle.std.specs.Prelude.{◌≡◌, ◌↔◌, ℕ, Some, None};
+ghost use Rattle.channel.specs.Fault as channel;
 ghost use Rattle.channel.specs.declared.fault.ChannelFault.TheVariants as channel_fault;
 ghost use Rattle.cli_lines.specs.declared.line_fault.LineFault.TheVariants as line_fault;
 ghost use Rattle.command_files.specs.declared.fault.Fault.TheVariants.{Memory};
 ghost use Rattle.command_files.specs.declared.files.FileFault.TheVariants as file_fault;
+ghost use Rattle.command_files.specs.Failing.{Because, at_fault, line, of_channel_text, of_word, unreadable, unwritable};
 ghost use Rattle.command_files.specs.Status.{status_of};
 ghost use Rattle.cli_values.specs.declared.word_fault.WordFault.TheVariants as word_fault;
 ghost use Rattle.key_book.specs.declared.fault.KeyBookFault.TheVariants as key_book_fault;
@@ -64,7 +66,8 @@ impl<'a> Fault<'a> {
 
     /// The fault of reading the file of this path.
     pub(crate) fn of_file(path: &'a str, fault: FileFault) -> Fault<'a>
-        ensures { result ≡ Memory ↔ fault ≡ file_fault.Memory }
+        ensures memory { result ≡ Memory ↔ fault ≡ file_fault.Memory }
+        ensures why { Because (λ what. (what ≡ unreadable path.now) × (fault ≡ file_fault.Inaccessible)) result }
     {
         match fault {
             FileFault::Inaccessible => Fault::Unreadable(path),
@@ -74,7 +77,8 @@ impl<'a> Fault<'a> {
 
     /// The fault of writing the file of this path: a fault of the file, unless memory ran out.
     pub fn of_write(path: &'a str, fault: FileFault) -> Fault<'a>
-        ensures { result ≡ Memory ↔ fault ≡ file_fault.Memory }
+        ensures memory { result ≡ Memory ↔ fault ≡ file_fault.Memory }
+        ensures why { Because (λ what. (what ≡ unwritable path.now) × (fault ≡ file_fault.Inaccessible)) result }
     {
         match fault {
             FileFault::Inaccessible => Fault::Unwritable(path),
@@ -84,7 +88,8 @@ impl<'a> Fault<'a> {
 
     /// The fault of the channel text in the file of this path.
     pub(crate) fn of_channel(path: &'a str, fault: ChannelFault) -> Fault<'a>
-        ensures { result ≡ Memory ↔ fault ≡ channel_fault.Memory }
+        ensures memory { result ≡ Memory ↔ fault ≡ channel_fault.Memory }
+        ensures why { (why : channel.Fault) → channel.fault_of fault ≡ Some why → at_fault result ≡ Some (of_channel_text path.now why) }
     {
         match fault {
             ChannelFault::Line(line)
@@ -98,7 +103,8 @@ impl<'a> Fault<'a> {
 
     /// The fault of the key book in the file of this path.
     pub(crate) fn of_key_book(path: &'a str, fault: KeyBookFault) -> Fault<'a>
-        ensures { result ≡ Memory ↔ fault ≡ key_book_fault.Memory }
+        ensures memory { result ≡ Memory ↔ fault ≡ key_book_fault.Memory }
+        ensures why { (n : ℕ) → fault ≡ key_book_fault.Line n → at_fault result ≡ Some (line path.now n) }
     {
         match fault {
             KeyBookFault::Line(line) => Fault::Line(path, line),
@@ -109,6 +115,8 @@ impl<'a> Fault<'a> {
 
 /// Of all that is read and written, standard output alone gives its error as it is.
 impl From<io::Error> for Fault<'_> {
+    ghost from_gives = { λ _ fault. at_fault fault ≡ None };
+
     fn from(error: io::Error) -> Self {
         match error.kind() {
             io::ErrorKind::OutOfMemory => Fault::Memory,
@@ -126,7 +134,7 @@ impl From<AllocError> for Fault<'_> {
 }
 
 impl From<LineFault> for Fault<'_> {
-    ghost from_gives = { λ line fault. fault ≡ Memory ↔ line ≡ line_fault.Memory };
+    ghost from_gives = { λ line fault. (fault ≡ Memory ↔ line ≡ line_fault.Memory) × (at_fault fault ≡ None) };
 
     fn from(fault: LineFault) -> Self {
         match fault {
@@ -137,7 +145,7 @@ impl From<LineFault> for Fault<'_> {
 }
 
 impl From<WordFault> for Fault<'_> {
-    ghost from_gives = { λ word fault. fault ≡ Memory ↔ word ≡ word_fault.Memory };
+    ghost from_gives = { λ word fault. (fault ≡ Memory ↔ word ≡ word_fault.Memory) × (at_fault fault ≡ of_word word) };
 
     fn from(fault: WordFault) -> Self {
         match fault {

@@ -1,4 +1,5 @@
-ghost use Rattle.std.specs.Prelude.{⊤, ℕ, List, IfOk, OnOk};
+ghost use Rattle.std.specs.Prelude.{◌≡◌, ⊤, ℕ, List, Err, IfOk, OnOk};
+ghost use Rattle.command_files.specs.declared.files.FileFault.TheVariants.{Inaccessible};
 
 use std::alloc::Global;
 use std::fs::File;
@@ -30,14 +31,21 @@ pub trait Files {
     // That a file was written anew with these bytes.
     ghost written: { Self → List ℕ → List ℕ → Type 0 } = { λ _ _ _. ⊤ };
 
+    // That the system may refuse to read the file of this path, or to write it.
+    ghost unreadable: { Self → List ℕ → Type 0 } = { λ _ _. ⊤ };
+
+    ghost unwritable: { Self → List ℕ → Type 0 } = { λ _ _. ⊤ };
+
     /// The whole content of the file of this path. The memory is linear in it.
     fn read(&self, alloc: Global, path: &str) -> Result<Bytes, FileFault>
-        ensures { IfOk result (λ bytes. holds self.now path.now bytes) };
+        ensures bytes { IfOk result (λ bytes. holds self.now path.now bytes) }
+        ensures refused { result ≡ Err Inaccessible → unreadable self.now path.now };
 
     /// Makes these bytes the file's whole content, whether there was a file of this path or not.
     /// After an error nothing is known of what it holds.
     fn write(&self, path: &str, bytes: &[u8]) -> Result<(), FileFault>
-        ensures { OnOk result (written self.now path.now bytes.now) };
+        ensures written { OnOk result (written self.now path.now bytes.now) }
+        ensures refused { result ≡ Err Inaccessible → unwritable self.now path.now };
 }
 
 /// The files of the system that the process runs on.

@@ -4,7 +4,8 @@ ghost use Rattle.key_book.specs.Book.{accepts};
 ghost use Rattle.command_line.specs.Handing.{AreHandedIn, IsTold};
 
 use crate::lines::{Style, write_answer};
-use command_files::{ACCEPTED, Fault};
+use cli_lines::LineFault;
+use command_files::ACCEPTED;
 use commit::{Answer, Committer, Receipt};
 use gates::Open;
 use key_book::KeyBook;
@@ -35,21 +36,21 @@ pub(crate) struct Committed {
 
 /// What was told of the blocks so far.
 #[derive(Drop)]
-struct Told<'a> {
+struct Told {
     style: Style,
     /// How many blocks are done, and of how many.
     done: usize,
     all: usize,
     committed: Committed,
     /// Why no more is told.
-    fault: Option<Fault<'a>>,
+    fault: Option<LineFault>,
     /// The lines for one answer, before they are written.
     lines: Vec<u8>,
 }
 
-impl<'a> Told<'a> {
+impl Told {
     // Nothing yet of so many blocks.
-    fn nothing(alloc: Global, all: usize, style: Style) -> Told<'a>
+    fn nothing(alloc: Global, all: usize, style: Style) -> Told
         ensures style { result.style ≡ style }
         ensures done { result.done ≡ 0 }
         ensures last { result.committed.last ≡ None }
@@ -81,7 +82,7 @@ impl<'a> Told<'a> {
         out: &mut W,
         progress: &mut P,
         answer: Answer,
-    ) -> Result<(), Fault<'a>>
+    ) -> Result<(), LineFault>
         ensures { OnOk result (IsTold self.old (W.contents out.old) answer self.new (W.contents out.new)) }
     {
         progress.clear();
@@ -113,13 +114,13 @@ impl<'a> Told<'a> {
 }
 
 // Hands the blocks in, and tells of each when it is done. Ends at the first fault.
-fn commit_told<'a, R: Threads + Wait + Sync, W: Write, P: Progress>(
+fn commit_told<R: Threads + Wait + Sync, W: Write, P: Progress>(
     committer: &mut Committer,
     handing: &Handing<'_, R>,
-    told: &mut Told<'a>,
+    told: &mut Told,
     out: &mut W,
     progress: &mut P,
-) -> Result<(), Fault<'a>>
+) -> Result<(), LineFault>
     requires fits { length handing.now.blocks.now < 2 ^ 64 }
     requires done { told.old.done ≡ 0 }
     requires last { told.old.committed.last ≡ None }
@@ -136,16 +137,16 @@ fn commit_told<'a, R: Threads + Wait + Sync, W: Write, P: Progress>(
     if all {
         return Ok(());
     }
-    Err(told.fault.take().unwrap_or(Fault::Output))
+    Err(told.fault.take().unwrap_or(LineFault::Output))
 }
 
 /// Hands the blocks in, and writes lines for each as soon as it is done. Ends at the first fault.
-pub(crate) fn commit_each<'a, R: AllocGlobal + Threads + Wait + Sync, W: Write, P: Progress>(
+pub(crate) fn commit_each<R: AllocGlobal + Threads + Wait + Sync, W: Write, P: Progress>(
     committer: &mut Committer,
     handing: &Handing<'_, R>,
     out: &mut W,
     progress: &mut P,
-) -> Result<Committed, Fault<'a>>
+) -> Result<Committed, LineFault>
     ensures handed { IfOk result (λ committed. AreHandedIn (accepts handing.now.keys.now) handing.now.style committer.old (W.contents out.old) handing.now.blocks.now committed committer.new (W.contents out.new)) }
     ensures last { IfOk result (λ committed. IfSome committed.last (λ receipt. receipt.front.book ≡ committer.old.book)) }
 {

@@ -1,5 +1,6 @@
-ghost use Rattle.std.specs.Prelude.{◌≡◌, ◌<◌, IfOk, IfErr};
+ghost use Rattle.std.specs.Prelude.{◌≡◌, ◌<◌, ◌⊎◌, IfOk, IfErr};
 ghost use Rattle.command_files.specs.Status.{status_of};
+ghost use Rattle.command_line.specs.Ending.{EndsWith};
 ghost use Rattle.command_line.specs.Printed.{Does};
 
 use crate::performing::perform;
@@ -50,7 +51,8 @@ fn status_of<E: Write>(ended: Result<u8, Fault<'_>>, err: &mut E) -> u8
 /// process is to end with, as [`program`] does.
 ///
 /// If it is 0 or 1, `out` was given exactly a text that the clause describes by the bytes of the files: the only one, but
-/// for heights of readers, and for comments and bytes of faults of `show`. Of `explain` the clause says nothing.
+/// for heights of readers, and for comments and bytes of faults of `show`. If it is 2 or 3, a word or a file is at fault,
+/// as the clause says, and nothing was printed, unless `out` failed. Of `explain` the clauses say nothing.
 pub fn run_subcommand<R, F, O, E, P>(
     asked: &Asked<'_>,
     rt: &R,
@@ -65,7 +67,8 @@ where
     O: Write,
     E: Write,
     P: Progress,
-    ensures { result < 2 → Does (F.holds files.now) (F.written files.now) asked.now (O.contents out.old) result (O.contents out.new) }
+    ensures done { result < 2 → Does (F.holds files.now) (F.written files.now) asked.now (O.contents out.old) result (O.contents out.new) }
+    ensures ended { Does (F.holds files.now) (F.written files.now) asked.now (O.contents out.old) result (O.contents out.new) ⊎ EndsWith (F.holds files.now) (F.unreadable files.now) (F.unwritable files.now) asked.now (O.contents out.old) result (O.contents out.new) }
 {
     status_of(perform(asked, rt, files, out, progress), err)
 }

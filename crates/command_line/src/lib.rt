@@ -10,6 +10,7 @@ mod readers;
 mod reading;
 mod run;
 
+pub use cli_lines::LineFault;
 pub use cli_values::{Format, printed_values_are_read_back};
 pub use cli_words::Asked;
 pub use command_files::{DiskFiles, Fault, FileFault, Files};

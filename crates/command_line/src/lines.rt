@@ -7,9 +7,9 @@ ghost use Rattle.commit.specs.declared.not_committed.NotCommitted.TheVariants as
 ghost use Rattle.rules.specs.declared.answer.Refused.TheVariants as refused_as;
 ghost use Rattle.command_line.specs.Lines as spec;
 
-use cli_lines::{Refusal, write_accepted, write_commit, write_refused};
+use cli_lines::{LineFault, Refusal, write_accepted, write_commit, write_refused};
 use cli_values::Format;
-use command_files::{ACCEPTED, Fault, REFUSED};
+use command_files::{ACCEPTED, REFUSED};
 use commit::{NotCommitted, Receipt};
 use std::alloc::{AllocError, Global};
 use std::io::Write;
@@ -33,11 +33,7 @@ fn refusal_of(why: NotCommitted) -> Result<Refusal, AllocError>
     }
 }
 
-fn write_receipt<'a, W: Write>(
-    out: &mut W,
-    receipt: &Receipt,
-    style: Style,
-) -> Result<(), Fault<'a>>
+fn write_receipt<W: Write>(out: &mut W, receipt: &Receipt, style: Style) -> Result<(), LineFault>
     ensures { OnOk result (Appends (W.contents out.old) (W.contents out.new) (spec.receipt_lines style receipt.now)) }
 {
     let flags = receipt.flags.as_slice();
@@ -57,12 +53,12 @@ fn write_receipt<'a, W: Write>(
 /// Writes the lines for the answer to the block at this place, from 1: `accepted NUMBER HASH` and the flags, with
 /// `commit NUMBER HASH` behind it where hashes are asked for; or `refused PLACE FAULT`; or objects of these. Returns what
 /// the process ends with where the other blocks are accepted. Want of memory is a fault and has no line. Takes no memory.
-pub fn write_answer<'a, W: Write>(
+pub fn write_answer<W: Write>(
     out: &mut W,
     place: usize,
     answer: &Result<Receipt, NotCommitted>,
     style: Style,
-) -> Result<u8, Fault<'a>>
+) -> Result<u8, LineFault>
     ensures lines { OnOk result (Appends (W.contents out.old) (W.contents out.new) (spec.answer_lines style place answer.now)) }
     ensures status { IfOk result (λ status. spec.status_of answer.now ≡ Some status) }
 {

@@ -1,4 +1,5 @@
-ghost use Rattle.std.specs.Prelude.{IfOk};
+ghost use Rattle.std.specs.Prelude.{IfOk, IfErr};
+ghost use Rattle.command_line.specs.Ending.{EndsEarly};
 ghost use Rattle.command_line.specs.Printed.{Does};
 
 use crate::run::run_blocks;
@@ -21,7 +22,8 @@ pub(crate) fn perform<
     W: Write,
     P: Progress,
 >(asked: &Asked<'a>, rt: &R, files: &F, out: &mut W, progress: &mut P) -> Result<u8, Fault<'a>>
-    ensures { IfOk result (λ status. Does (F.holds files.now) (F.written files.now) asked.now (W.contents out.old) status (W.contents out.new)) }
+    ensures ok { IfOk result (λ status. Does (F.holds files.now) (F.written files.now) asked.now (W.contents out.old) status (W.contents out.new)) }
+    ensures err { IfErr result (EndsEarly (F.holds files.now) (F.unreadable files.now) (F.unwritable files.now) asked.now (W.contents out.old) (W.contents out.new)) }
 {
     let alloc = rt.alloc();
     if asked.is_quiet() {

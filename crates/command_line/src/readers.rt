@@ -3,8 +3,7 @@ ghost use Rattle.std.specs.Prelude.{◌≡◌, ◌<◌, ◌≤◌, ◌^◌, All,
 ghost use Rattle.command_line.specs.Handing.{ReadersTold, known_list};
 
 use crate::lines::Style;
-use cli_lines::write_reader;
-use command_files::Fault;
+use cli_lines::{LineFault, write_reader};
 use commit::{Committer, QueryFault, QueryHandle, Receipt};
 use std::alloc::{AllocError, Global};
 use std::io::Write;
@@ -88,13 +87,13 @@ fn height_of<R: Threads>(rt: &R, reader: Reader, last: &Option<Receipt>) -> Resu
 
 /// Tells the readers, whose threads have ended, of the last block, and writes for each a line with the
 /// height that it then finds: `reader J height H`, J from 1. Takes no memory.
-pub(crate) fn write_heights<'a, R: Threads, W: Write>(
+pub(crate) fn write_heights<R: Threads, W: Write>(
     rt: &R,
     readers: Vec<Reader>,
     last: &Option<Receipt>,
     style: Style,
     out: &mut W,
-) -> Result<(), Fault<'a>>
+) -> Result<(), LineFault>
     requires few { length readers.items < 2 ^ 63 }
     requires books { All (λ reader. IfSome last.now (λ receipt. reader.promise.0.value.book ≡ receipt.front.book)) readers.items }
     ensures { OnOk result (ReadersTold style (length readers.items) last.now (W.contents out.old) (W.contents out.new)) }
@@ -103,7 +102,7 @@ pub(crate) fn write_heights<'a, R: Threads, W: Write>(
     for reader in readers {
         place = place.wrapping_add(1);
         let Ok(height) = height_of(rt, reader, last) else {
-            return Err(Fault::Memory);
+            return Err(LineFault::Memory);
         };
         write_reader(out, style.format, place, height)?;
     }

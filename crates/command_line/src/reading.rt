@@ -1,6 +1,8 @@
 //! The files of blocks, which all workers read.
-ghost use Rattle.std.specs.Prelude.{◌≡◌, IfOk, Ok, map};
+ghost use Rattle.std.specs.Prelude.{◌≡◌, IfOk, IfErr, MatchResult, Ok, map};
+ghost use Rattle.command_files.specs.Failing.{Because, FilesFail, IsUnread};
 ghost use Rattle.command_files.specs.Reading.{AreHeld};
+ghost use Rattle.command_line.specs.Ending.{IsFirst};
 
 use command_files::{Fault, Files, read_file};
 use pieces::{Crew, Work, in_pieces};
@@ -18,7 +20,7 @@ struct Reading<'f, F> {
 }
 
 impl<'a, 'f, F: Files> Work<&'a str, Found<'a>> for Reading<'f, F> {
-    ghost gives = { λ reading path found. IfOk found (λ bytes. F.holds reading.files.now path.now bytes) };
+    ghost gives = { λ reading path found. MatchResult found (λ bytes. F.holds reading.files.now path.now bytes) (Because (IsUnread (F.unreadable reading.files.now path.now) path.now)) };
 
     fn make(&self, alloc: Global, path: &&'a str) -> Result<Found<'a>, AllocError> {
         Ok(read_shared(alloc, self.files, path))
@@ -26,7 +28,7 @@ impl<'a, 'f, F: Files> Work<&'a str, Found<'a>> for Reading<'f, F> {
 }
 
 fn read_shared<'a, F: Files>(alloc: Global, files: &F, path: &'a str) -> Found<'a>
-    ensures { IfOk result (λ bytes. F.holds files.now path.now bytes) }
+    ensures { MatchResult result (λ bytes. F.holds files.now path.now bytes) (Because (IsUnread (F.unreadable files.now path.now) path.now)) }
 {
     let bytes = read_file(alloc, files, path)?;
     Ok(Shared::new(alloc, bytes)?)
@@ -34,7 +36,8 @@ fn read_shared<'a, F: Files>(alloc: Global, files: &F, path: &'a str) -> Found<'
 
 // All that was found, or the first fault.
 fn all_found<'a>(alloc: Global, found: Vec<Found<'a>>) -> Result<Vec<Shared<Bytes>>, Fault<'a>>
-    ensures { IfOk result (λ all. map Ok all.items ≡ found.entry.items) }
+    ensures ok { IfOk result (λ all. map Ok all.items ≡ found.entry.items) }
+    ensures err { IfErr result (λ fault. Because (λ what. IsFirst fault found.entry.items) fault) }
 {
     let mut all = Vec::with_capacity(alloc, found.len())?;
     for one in found {
@@ -51,7 +54,8 @@ pub(crate) fn read_blocks<'a, R: AllocGlobal + Threads + Sync, F: Files + Sync>(
     paths: &Vec<&'a str>,
     workers: usize,
 ) -> Result<Vec<Shared<Bytes>>, Fault<'a>>
-    ensures { IfOk result (λ blocks. AreHeld (λ path. F.holds files.now path.now) paths.now.items blocks.items) }
+    ensures ok { IfOk result (λ blocks. AreHeld (λ path. F.holds files.now path.now) paths.now.items blocks.items) }
+    ensures err { IfErr result (Because (FilesFail (λ path. F.holds files.now path.now) (λ path. IsUnread (F.unreadable files.now path.now) path.now) paths.now.items)) }
 {
     let crew = Crew {
         rt,

@@ -1,5 +1,6 @@
-ghost use Rattle.std.specs.Prelude.{◌≡◌, ◌<◌, ◌≤◌, ◌^◌, [], All, IfOk, IfSome, length};
+ghost use Rattle.std.specs.Prelude.{◌≡◌, ◌<◌, ◌≤◌, ◌^◌, [], All, IfOk, IfErr, IfSome, length};
 ghost use Rattle.key_book.specs.Book.{accepts};
+ghost use Rattle.command_files.specs.Failing.{EndsBefore, InputsFail};
 ghost use Rattle.command_line.specs.Handing.{AreHandedIn, IsAllTold};
 ghost use Rattle.command_line.specs.Printed.{Prints};
 
@@ -8,6 +9,7 @@ use crate::lines::Style;
 use crate::readers::{Reader, start, write_heights};
 use crate::reading::read_blocks;
 use channel::Channel;
+use cli_lines::LineFault;
 use cli_words::{Parallelism, Run};
 use command_files::{Configuration, Fault, Files};
 use commit::{Committer, OpenFault, QueryHandle};
@@ -19,11 +21,11 @@ use std::thread;
 use std::thread::{Scope, Threads};
 
 // In these bounds nothing but memory can be wanted.
-fn opened<'a, R: AllocGlobal + Wait>(
+fn opened<R: AllocGlobal + Wait>(
     rt: &R,
     channel: Channel,
     parallelism: &Parallelism,
-) -> Result<(Committer, Vec<QueryHandle>), Fault<'a>>
+) -> Result<(Committer, Vec<QueryHandle>), AllocError>
     ensures books { IfOk result (λ opened. All (λ handle. handle.book ≡ opened.0.book) opened.1.items) }
     ensures count { IfOk result (λ opened. length opened.1.items ≡ parallelism.now.readers) }
     ensures channel { IfOk result (λ opened. opened.0.channel ≡ channel) }
@@ -33,38 +35,7 @@ fn opened<'a, R: AllocGlobal + Wait>(
     match Committer::open(rt.alloc(), rt, channel, workers, readers) {
         Ok(opened) => Ok(opened),
         Err(OpenFault::Workers) | Err(OpenFault::Readers) => unreachable!(),
-        Err(OpenFault::NoPlace) | Err(OpenFault::Memory) => Err(Fault::Memory),
-    }
-}
-
-// Why no more lines are written, without a path: what a scope of threads returns has no lifetime that it isn't lent.
-#[derive(Clone, Copy)]
-enum Halt {
-    Output,
-    Memory,
-}
-
-impl From<AllocError> for Halt {
-    fn from(_error: AllocError) -> Self {
-        Halt::Memory
-    }
-}
-
-impl From<Fault<'_>> for Halt {
-    fn from(fault: Fault<'_>) -> Self {
-        match fault {
-            Fault::Memory => Halt::Memory,
-            _ => Halt::Output,
-        }
-    }
-}
-
-impl From<Halt> for Fault<'_> {
-    fn from(halt: Halt) -> Self {
-        match halt {
-            Halt::Output => Fault::Output,
-            Halt::Memory => Fault::Memory,
-        }
+        Err(OpenFault::NoPlace) | Err(OpenFault::Memory) => Err(AllocError),
     }
 }
 
@@ -81,7 +52,7 @@ struct Sides<'c, 'w, 'p, 'd, W, P> {
     committer: &'c mut Committer,
     out: &'w mut W,
     progress: &'p mut P,
-    done: &'d mut Result<Done, Halt>,
+    done: &'d mut Result<Done, LineFault>,
 }
 
 // Starts the readers, and commits while they ask.
@@ -92,7 +63,7 @@ fn commit_while_asked<'s, E, R: AllocGlobal + Threads + Wait + Sync, W: Write, P
     handing: &Handing<'_, R>,
     out: &mut W,
     progress: &mut P,
-) -> Result<Done, Halt>
+) -> Result<Done, LineFault>
     requires { All (λ handle. handle.book ≡ committer.old.book) handles.items }
     ensures handed { IfOk result (λ done. AreHandedIn (accepts handing.now.keys.now) handing.now.style committer.old (W.contents out.old) handing.now.blocks.now done.committed committer.new (W.contents out.new)) }
     ensures readers { IfOk result (λ done. All (λ reader. reader.promise.0.value.book ≡ committer.old.book) done.readers.items) }
@@ -173,14 +144,14 @@ fn commit_beside_readers<R: AllocGlobal + Threads + Wait + Sync, W: Write, P: Pr
     handing: &Handing<'_, R>,
     out: &mut W,
     progress: &mut P,
-) -> Result<Done, Halt>
+) -> Result<Done, LineFault>
     requires { All (λ handle. handle.book ≡ committer.old.book) handles.items }
     ensures handed { IfOk result (λ done. AreHandedIn (accepts handing.now.keys.now) handing.now.style committer.old (W.contents out.old) handing.now.blocks.now done.committed committer.new (W.contents out.new)) }
     ensures readers { IfOk result (λ done. All (λ reader. reader.promise.0.value.book ≡ committer.old.book) done.readers.items) }
     ensures count { IfOk result (λ done. length done.readers.items ≡ length handles.items) }
     ensures last { IfOk result (λ done. IfSome done.committed.last (λ receipt. receipt.front.book ≡ committer.old.book)) }
 {
-    let mut done = Err(Halt::Memory);
+    let mut done = Err(LineFault::Memory);
     let sides = Sides {
         committer,
         out,
@@ -192,13 +163,13 @@ fn commit_beside_readers<R: AllocGlobal + Threads + Wait + Sync, W: Write, P: Pr
 }
 
 // All lines, those of the readers after those of the blocks.
-fn write_lines<'a, R: AllocGlobal + Threads + Wait + Sync, W: Write, P: Progress>(
+fn write_lines<R: AllocGlobal + Threads + Wait + Sync, W: Write, P: Progress>(
     committer: &mut Committer,
     handles: Vec<QueryHandle>,
     handing: &Handing<'_, R>,
     out: &mut W,
     progress: &mut P,
-) -> Result<u8, Fault<'a>>
+) -> Result<u8, LineFault>
     requires books { All (λ handle. handle.book ≡ committer.old.book) handles.items }
     requires few { length handles.items < 2 ^ 63 }
     ensures { IfOk result (λ status. IsAllTold (accepts handing.now.keys.now) handing.now.style (length handles.items) committer.old (W.contents out.old) handing.now.blocks.now status committer.new (W.contents out.new)) }
@@ -229,7 +200,8 @@ pub(crate) fn run_blocks<
     W: Write,
     P: Progress,
 >(rt: &R, files: &F, words: &Run<'a>, out: &mut W, progress: &mut P) -> Result<u8, Fault<'a>>
-    ensures { IfOk result (λ status. Prints (F.holds files.now) words.now (W.contents out.old) status (W.contents out.new)) }
+    ensures ok { IfOk result (λ status. Prints (F.holds files.now) words.now (W.contents out.old) status (W.contents out.new)) }
+    ensures err { IfErr result (EndsBefore (InputsFail (F.holds files.now) (F.unreadable files.now) words.now.paths) (W.contents out.old) (W.contents out.new)) }
 {
     let (paths, parallelism) = (&words.paths, &words.parallelism);
     let Configuration { channel, keys } = Configuration::read(
@@ -253,5 +225,5 @@ pub(crate) fn run_blocks<
     committer.leak(rt);
     // Where want of memory ended it, the line is still there.
     progress.clear();
-    ended
+    Ok(ended?)
 }

@@ -1,7 +1,7 @@
 //! Answers that no file leads to, since memory would have to run out.
 
 use block::BlockFault;
-use command_line::{Fault, Format, Style, write_answer};
+use command_line::{Format, LineFault, Style, write_answer};
 use commit::{NotCommitted, Refused};
 use std::alloc::Global;
 
@@ -19,7 +19,7 @@ fn is_without_line(alloc: Global, why: NotCommitted, format: Format) -> bool {
         format,
         hashes: true,
     };
-    write_answer(&mut out, 1, &Err(why), style) == Err(Fault::Memory) && out.is_empty()
+    write_answer(&mut out, 1, &Err(why), style) == Err(LineFault::Memory) && out.is_empty()
 }
 
 #[test]

@@ -1,7 +1,6 @@
 -- Text that is added to what an output was given and a buffer keeps.
 use Rattle.std.proofs.Common.{◌≡◌, ◌++◌, ◌∙◌, ℕ, List, [], Option, Some, None, sym, ap, append_assoc}
 use Rattle.std.proofs.lemmas.List.{append-nil}
-use Rattle.std.specs.Io.KnownBytes.{Appends}
 use Rattle.ledger_commands.specs.Kept.{Adds}
 
 -- to what is kept alone

@@ -1,4 +1,5 @@
 pub mod Drafting
+pub mod Failing
 pub mod Handing
 pub mod Kept
 pub mod Showing

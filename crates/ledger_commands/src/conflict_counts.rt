@@ -1,4 +1,4 @@
-ghost use Rattle.std.specs.Prelude.{◌≡◌, ◌<◌, ◌≤◌, ℕ, List, Ok, IfOk, OnOk};
+ghost use Rattle.std.specs.Prelude.{◌≡◌, ◌<◌, ◌≤◌, ℕ, List, Ok, IfOk, IfErr, OnOk};
 ghost use Rattle.std.specs.Io.KnownBytes.{Appends};
 ghost use Rattle.key_book.specs.Book.{accepts};
 ghost use Rattle.rules.specs.World.{empty_world, height_of};
@@ -10,11 +10,12 @@ ghost use Rattle.conflicts.specs.Ranking.{AreFirst};
 ghost use Rattle.conflicts.specs.Tally.{Counts};
 ghost use Rattle.cli_lines.specs.ConflictLines.{IsReport, report_text};
 ghost use Rattle.ledger.specs.NextReasons.{AreNextReasons};
+ghost use Rattle.command_files.specs.Failing.{EndsBefore, InputsFail};
 ghost use Rattle.ledger_commands.specs.Counting.{CountedTakes, IsTold, Reports};
 
 use crate::progress::Progress;
 use crate::question::{Taker, hand_in, status_of_refused};
-use cli_lines::write_report;
+use cli_lines::{LineFault, write_report};
 use cli_values::Format;
 use cli_words::ConflictCounts;
 use command_files::{ACCEPTED, Configuration, Fault, Files, Inputs};
@@ -99,12 +100,7 @@ impl Report {
         Ok(Report { keys, chaincodes })
     }
 
-    fn write<'a, W: Write>(
-        &self,
-        out: &mut W,
-        format: Format,
-        tally: &Tally,
-    ) -> Result<(), Fault<'a>>
+    fn write<W: Write>(&self, out: &mut W, format: Format, tally: &Tally) -> Result<(), LineFault>
         ensures { OnOk result ((reasons : List Reason) → Counts reasons tally.now → Appends (W.contents out.old) (W.contents out.new) (report_text format reasons self.now.keys self.now.chaincodes)) }
     {
         let (keys, chaincodes) = (self.keys.as_slice(), self.chaincodes.as_slice());
@@ -114,15 +110,15 @@ impl Report {
 }
 
 // Writes what was counted, unless the blocks couldn't be handed in. Returns what the process ends with.
-fn write_counted<'a, W: Write>(
+fn write_counted<W: Write>(
     alloc: Global,
-    handed: Result<u8, Fault<'a>>,
+    handed: Result<u8, AllocError>,
     format: Format,
     tally: &Tally,
     top: u16,
     out: &mut W,
-) -> Result<u8, Fault<'a>>
-    ensures handed { IfOk result (λ status. handed.entry ≡ Ok status) }
+) -> Result<u8, LineFault>
+    ensures handed { IfOk result (λ status. handed ≡ Ok status) }
     ensures report { OnOk result ((reasons : List Reason) → Counts reasons tally.now → (text : List ℕ) × IsReport format reasons top text × Appends (W.contents out.old) (W.contents out.new) text) }
 {
     let status = handed?;
@@ -132,13 +128,13 @@ fn write_counted<'a, W: Write>(
 }
 
 // Owns the ledger, and has one way out.
-fn count_in<'a, W: Write, P: Progress>(
+fn count_in<W: Write, P: Progress>(
     alloc: Global,
     inputs: Inputs,
-    words: &ConflictCounts<'a>,
+    words: &ConflictCounts<'_>,
     out: &mut W,
     progress: &mut P,
-) -> Result<u8, Fault<'a>>
+) -> Result<u8, LineFault>
     ensures { IfOk result (λ status. IsTold words.now.paths.format inputs.configuration.channel (accepts inputs.configuration.keys) words.now.from (empty_world inputs.configuration.channel.definitions) inputs.blocks.items words.now.top (W.contents out.old) status (W.contents out.new)) }
 {
     let Inputs {
@@ -166,7 +162,8 @@ pub fn print_conflicts<'a, F: Files, W: Write, P: Progress>(
     out: &mut W,
     progress: &mut P,
 ) -> Result<u8, Fault<'a>>
-    ensures { IfOk result (λ status. Reports (F.holds files.now) words.now (W.contents out.old) status (W.contents out.new)) }
+    ensures ok { IfOk result (λ status. Reports (F.holds files.now) words.now (W.contents out.old) status (W.contents out.new)) }
+    ensures err { IfErr result (EndsBefore (InputsFail (F.holds files.now) (F.unreadable files.now) words.now.paths) (W.contents out.old) (W.contents out.new)) }
 {
     let inputs = Inputs::read(alloc, files, &words.paths)?;
     let mut lines = Vec::new(alloc);

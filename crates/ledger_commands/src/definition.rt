@@ -1,11 +1,13 @@
-ghost use Rattle.std.specs.Prelude.{◌≡◌, ◌++◌, IfOk, OnOk};
+ghost use Rattle.std.specs.Prelude.{◌≡◌, ◌++◌, IfOk, IfErr, OnOk};
 ghost use Rattle.std.specs.FinMap.{get};
 ghost use Rattle.cli_lines.specs.RowLines.{definition_line};
+ghost use Rattle.command_files.specs.Failing.{EndsBefore};
 ghost use Rattle.ledger_commands.specs.Asking.{Answers, IsDefinition};
+ghost use Rattle.ledger_commands.specs.Failing.{DefinitionFails};
 
 use crate::progress::Progress;
 use crate::question::{Question, answer};
-use cli_lines::write_definition;
+use cli_lines::{LineFault, write_definition};
 use cli_values::Format;
 use cli_words::DefinitionQuery;
 use command_files::{Fault, Files};
@@ -19,13 +21,13 @@ use world::World;
 struct DefinitionOf(Name);
 
 impl DefinitionOf {
-    fn write<'a>(
+    fn write(
         &self,
         alloc: Global,
         format: Format,
         world: &World,
         out: &mut Vec<u8>,
-    ) -> Result<(), Fault<'a>>
+    ) -> Result<(), LineFault>
         ensures { OnOk result (out.new.items ≡ out.old.items ++ definition_line format (get world.now.definitions self.now.0)) }
     {
         let policy = world.definitions().of(&self.0.lend());
@@ -37,14 +39,14 @@ impl DefinitionOf {
 impl Question for DefinitionOf {
     ghost tells = { λ asked. IsDefinition asked.0 };
 
-    fn tell<'a, W: Write>(
+    fn tell<W: Write>(
         &self,
         alloc: Global,
         format: Format,
         world: &World,
         kept: &mut Vec<u8>,
         _out: &mut W,
-    ) -> Result<(), Fault<'a>> {
+    ) -> Result<(), LineFault> {
         self.write(alloc, format, world, kept)
     }
 }
@@ -58,7 +60,8 @@ pub fn print_definition<'a, F: Files, W: Write, P: Progress>(
     out: &mut W,
     progress: &mut P,
 ) -> Result<u8, Fault<'a>>
-    ensures { IfOk result (λ status. Answers (F.holds files.now) words.now.paths (IsDefinition words.now.namespace.now) (W.contents out.old) status (W.contents out.new)) }
+    ensures ok { IfOk result (λ status. Answers (F.holds files.now) words.now.paths (IsDefinition words.now.namespace.now) (W.contents out.old) status (W.contents out.new)) }
+    ensures err { IfErr result (EndsBefore (DefinitionFails (F.holds files.now) (F.unreadable files.now) words.now) (W.contents out.old) (W.contents out.new)) }
 {
     let question = DefinitionOf(words.chaincode(alloc)?);
     answer(alloc, files, &words.paths, &question, out, progress)

@@ -1,9 +1,11 @@
-ghost use Rattle.std.specs.Prelude.{◌≡◌, ◌↔◌, ◌+◌, ◌<◌, ◌^◌, IfOk, IfSome};
+ghost use Rattle.std.specs.Prelude.{◌≡◌, ◌↔◌, ◌+◌, ◌<◌, ◌≤◌, ◌^◌, ℕ, Some, IfOk, IfErr, IfSome};
 ghost use Rattle.std.specs.Str.{IsUtf8};
 ghost use Rattle.command_files.specs.declared.fault.Fault.TheVariants.{Memory};
+ghost use Rattle.command_files.specs.Failing.{Because, IsUnread, at_fault, line, not_a_block};
 ghost use Rattle.drafts.specs.declared.fault.DraftFault.TheVariants as draft_fault;
 ghost use Rattle.drafts.specs.Drafted.{IsDrafted};
 ghost use Rattle.ledger_commands.specs.Drafting.{Drafts, IsDraftOf, IsHeaderOf, IsPrevious};
+ghost use Rattle.ledger_commands.specs.Failing.{DraftFails, HasNoNext, NoDraft, PreviousFails, ScriptFails};
 
 use block::{BlockFault, Header, decode_block};
 use cli_words::Draft;
@@ -16,6 +18,7 @@ use values::Bytes;
 fn before_another<'a>(path: &'a str, header: Header) -> Result<Header, Fault<'a>>
     ensures same { IfOk result (λ it. it ≡ header) }
     ensures before { IfOk result (λ it. it.number + 1 < 2 ^ 64) }
+    ensures last { IfErr result (λ fault. (at_fault fault ≡ Some (not_a_block path.now)) × (2 ^ 64 ≤ header.number + 1)) }
 {
     if header.number < u64::MAX {
         Ok(header)
@@ -28,6 +31,7 @@ fn before_another<'a>(path: &'a str, header: Header) -> Result<Header, Fault<'a>
 fn header_in<'a>(alloc: Global, path: &'a str, bytes: &Bytes) -> Result<Header, Fault<'a>>
     ensures header { IfOk result (IsHeaderOf bytes.now) }
     ensures before { IfOk result (λ header. header.number + 1 < 2 ^ 64) }
+    ensures no_next { IfErr result (Because (λ what. (what ≡ not_a_block path.now) × HasNoNext bytes.now)) }
 {
     match decode_block(alloc, bytes.as_slice()) {
         Ok(block) => before_another(path, block.header),
@@ -43,6 +47,7 @@ fn read_header<'a, F: Files>(
 ) -> Result<Option<Header>, Fault<'a>>
     ensures previous { IfOk result (IsPrevious (λ path. F.holds files.now path.now) after.entry) }
     ensures before { IfOk result (λ header. IfSome header (λ h. h.number + 1 < 2 ^ 64)) }
+    ensures err { IfErr result (Because (PreviousFails (λ path. F.holds files.now path.now) (λ path. IsUnread (F.unreadable files.now path.now) path.now) (λ path. path.now) after.entry)) }
 {
     let Some(path) = after else {
         return Ok(None);
@@ -53,7 +58,8 @@ fn read_header<'a, F: Files>(
 
 // The fault of the script in the file of this path.
 fn fault_of<'a>(path: &'a str, fault: DraftFault) -> Fault<'a>
-    ensures { result ≡ Memory ↔ fault ≡ draft_fault.Memory }
+    ensures memory { result ≡ Memory ↔ fault ≡ draft_fault.Memory }
+    ensures why { (n : ℕ) → fault ≡ draft_fault.Line n → at_fault result ≡ Some (line path.now n) }
 {
     match fault {
         DraftFault::Line(line) => Fault::Line(path, line),
@@ -72,6 +78,7 @@ fn drafted<'a>(
     requires { IfSome previous (λ h. h.number + 1 < 2 ^ 64) }
     ensures utf8 { IfOk result (λ block. IsUtf8 script.now) }
     ensures drafted { IfOk result (IsDrafted configuration.now.keys configuration.now.channel.name words.now.version previous script.now) }
+    ensures err { IfErr result (Because (ScriptFails words.now configuration.now.keys configuration.now.channel.name previous script.now)) }
 {
     let text = text_in(words.script, script)?;
     drafts::draft(
@@ -87,7 +94,8 @@ fn drafted<'a>(
 
 // The block that the files draft, which the words name.
 fn block<'a, F: Files>(alloc: Global, files: &F, words: &Draft<'a>) -> Result<Bytes, Fault<'a>>
-    ensures { IfOk result (IsDraftOf (F.holds files.now) words.now) }
+    ensures ok { IfOk result (IsDraftOf (F.holds files.now) words.now) }
+    ensures err { IfErr result (Because (NoDraft (F.holds files.now) (F.unreadable files.now) words.now)) }
 {
     let configuration = Configuration::read(alloc, files, &words.configuration)?;
     let previous = read_header(alloc, files, words.after)?;
@@ -102,7 +110,8 @@ pub fn draft_block<'a, F: Files>(
     files: &F,
     words: &Draft<'a>,
 ) -> Result<u8, Fault<'a>>
-    ensures { IfOk result (Drafts (F.holds files.now) (F.written files.now) words.now) }
+    ensures ok { IfOk result (Drafts (F.holds files.now) (F.written files.now) words.now) }
+    ensures err { IfErr result (Because (DraftFails (F.holds files.now) (F.unreadable files.now) (F.unwritable files.now) words.now)) }
 {
     let block = block(alloc, files, words)?;
     files

@@ -233,7 +233,7 @@ fn write_lines<'a, W: Write>(
 // Writes the lines of the last block, unless the others couldn't be handed in. Returns what the process ends with.
 fn write_last<'a, W: Write>(
     alloc: Global,
-    handed: Result<u8, Fault<'a>>,
+    handed: Result<u8, AllocError>,
     last: &LastBlock<'_>,
     selection: &Selection<'a>,
     out: &mut W,

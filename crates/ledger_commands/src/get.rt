@@ -1,10 +1,12 @@
-ghost use Rattle.std.specs.Prelude.{◌≡◌, ◌++◌, IfOk, OnOk};
+ghost use Rattle.std.specs.Prelude.{◌≡◌, ◌++◌, IfOk, IfErr, OnOk};
 ghost use Rattle.rules.specs.Answers.{row_answer};
+ghost use Rattle.command_files.specs.Failing.{EndsBefore};
 ghost use Rattle.ledger_commands.specs.Asking.{AnswersKey, IsRow, row_or_absent};
+ghost use Rattle.ledger_commands.specs.Failing.{KeyedFails};
 
 use crate::progress::Progress;
 use crate::question::{Question, answer};
-use cli_lines::{write_absent, write_row};
+use cli_lines::{LineFault, write_absent, write_row};
 use cli_values::Format;
 use cli_words::{KeyedQuery, NamespacedKey};
 use command_files::{Fault, Files};
@@ -17,13 +19,13 @@ use world::World;
 struct RowOf(NamespacedKey);
 
 impl RowOf {
-    fn write<'a>(
+    fn write(
         &self,
         alloc: Global,
         format: Format,
         world: &World,
         out: &mut Vec<u8>,
-    ) -> Result<(), Fault<'a>>
+    ) -> Result<(), LineFault>
         ensures { OnOk result (out.new.items ≡ out.old.items ++ row_or_absent self.now.0.key format (row_answer world.now (self.now.0.namespace, self.now.0.key))) }
     {
         let key = self.0.key.lend();
@@ -38,14 +40,14 @@ impl RowOf {
 impl Question for RowOf {
     ghost tells = { λ asked. IsRow asked.0.namespace asked.0.key };
 
-    fn tell<'a, W: Write>(
+    fn tell<W: Write>(
         &self,
         alloc: Global,
         format: Format,
         world: &World,
         kept: &mut Vec<u8>,
         _out: &mut W,
-    ) -> Result<(), Fault<'a>> {
+    ) -> Result<(), LineFault> {
         self.write(alloc, format, world, kept)
     }
 }
@@ -59,7 +61,8 @@ pub fn print_row<'a, F: Files, W: Write, P: Progress>(
     out: &mut W,
     progress: &mut P,
 ) -> Result<u8, Fault<'a>>
-    ensures { IfOk result (λ status. AnswersKey (F.holds files.now) words.now IsRow (W.contents out.old) status (W.contents out.new)) }
+    ensures ok { IfOk result (λ status. AnswersKey (F.holds files.now) words.now IsRow (W.contents out.old) status (W.contents out.new)) }
+    ensures err { IfErr result (EndsBefore (KeyedFails (F.holds files.now) (F.unreadable files.now) words.now) (W.contents out.old) (W.contents out.new)) }
 {
     let question = RowOf(words.asked_key(alloc)?);
     answer(alloc, files, &words.paths, &question, out, progress)

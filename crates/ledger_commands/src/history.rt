@@ -1,10 +1,12 @@
-ghost use Rattle.std.specs.Prelude.{IfOk};
+ghost use Rattle.std.specs.Prelude.{IfOk, IfErr};
+ghost use Rattle.command_files.specs.Failing.{EndsBefore};
 ghost use Rattle.ledger_commands.specs.Asking.{AnswersKey, IsHistory};
+ghost use Rattle.ledger_commands.specs.Failing.{KeyedFails};
 
 use crate::kept_lines::write_many;
 use crate::progress::Progress;
 use crate::question::{Question, answer};
-use cli_lines::write_entry;
+use cli_lines::{LineFault, write_entry};
 use cli_values::Format;
 use cli_words::{KeyedQuery, NamespacedKey};
 use command_files::{Fault, Files};
@@ -19,14 +21,14 @@ struct HistoryOf(NamespacedKey);
 impl Question for HistoryOf {
     ghost tells = { λ asked. IsHistory asked.0.namespace asked.0.key };
 
-    fn tell<'a, W: Write>(
+    fn tell<W: Write>(
         &self,
         _alloc: Global,
         format: Format,
         world: &World,
         kept: &mut Vec<u8>,
         out: &mut W,
-    ) -> Result<(), Fault<'a>> {
+    ) -> Result<(), LineFault> {
         for entry in world.history(&self.0.namespace.lend(), &self.0.key.lend()) {
             write_entry(kept, format, &entry.entry()?)?;
             write_many(kept, out)?;
@@ -44,7 +46,8 @@ pub fn print_history<'a, F: Files, W: Write, P: Progress>(
     out: &mut W,
     progress: &mut P,
 ) -> Result<u8, Fault<'a>>
-    ensures { IfOk result (λ status. AnswersKey (F.holds files.now) words.now IsHistory (W.contents out.old) status (W.contents out.new)) }
+    ensures ok { IfOk result (λ status. AnswersKey (F.holds files.now) words.now IsHistory (W.contents out.old) status (W.contents out.new)) }
+    ensures err { IfErr result (EndsBefore (KeyedFails (F.holds files.now) (F.unreadable files.now) words.now) (W.contents out.old) (W.contents out.new)) }
 {
     let question = HistoryOf(words.asked_key(alloc)?);
     answer(alloc, files, &words.paths, &question, out, progress)

@@ -1,14 +1,15 @@
-ghost use Rattle.std.specs.Prelude.{◌≡◌, ◌++◌, ℕ, List, Ok, Err, IfOk, OnOk};
+ghost use Rattle.std.specs.Prelude.{◌≡◌, ◌++◌, ℕ, List, Ok, Err, IfOk, IfErr, OnOk};
 ghost use Rattle.std.specs.Io.KnownBytes.{Appends};
 ghost use Rattle.key_book.specs.Book.{accepts};
 ghost use Rattle.rules.specs.World.{empty_world, height_of};
 ghost use Rattle.cli_lines.specs.RowLines.{height_line};
+ghost use Rattle.command_files.specs.Failing.{EndsBefore, InputsFail};
 ghost use Rattle.ledger_commands.specs.Asking.{Answers, AnswersFrom};
 ghost use Rattle.ledger_commands.specs.Handing.{AreTaken, EndsWith, LedgerTakes};
 
 use crate::kept_lines::write_kept;
 use crate::progress::Progress;
-use cli_lines::{Refusal, write_height};
+use cli_lines::{LineFault, Refusal, write_height};
 use cli_values::Format;
 use cli_words::LedgerPaths;
 use command_files::{ACCEPTED, Configuration, Fault, Files, Inputs, REFUSED};
@@ -31,14 +32,14 @@ pub(crate) trait Question {
     ghost tells: { Self → format.Format → rules.World → List ℕ → Type 0 } = { λ _ _ _ _. ⊤ };
 
     /// Adds what the world answers to the lines that are kept, and may write these.
-    fn tell<'a, W: Write>(
+    fn tell<W: Write>(
         &self,
         alloc: Global,
         format: Format,
         world: &World,
         kept: &mut Vec<u8>,
         out: &mut W,
-    ) -> Result<(), Fault<'a>>
+    ) -> Result<(), LineFault>
         ensures { OnOk result ((text : List ℕ) × tells self.now format world.now text × Adds (W.contents out.old) kept.old.items (W.contents out.new) kept.new.items text) };
 }
 
@@ -95,27 +96,27 @@ fn hand_in_each<T: Taker, P: Progress>(
 }
 
 /// Hands blocks in, each let go when it is done. Returns what the process ends with, where nothing else befalls it.
-pub(crate) fn hand_in<'a, T: Taker, P: Progress>(
+pub(crate) fn hand_in<T: Taker, P: Progress>(
     taker: &mut T,
     blocks: Vec<Bytes>,
     keys: &KeyBook,
     progress: &mut P,
-) -> Result<u8, Fault<'a>>
+) -> Result<u8, AllocError>
     ensures { IfOk result (λ status. AreTaken (T.takes (accepts keys.now)) taker.old 0 blocks.items status taker.new) }
 {
     let ended = hand_in_each(taker, blocks, keys, progress);
     progress.clear();
-    Ok(ended?)
+    ended
 }
 
 // The height, and then what the world answers.
-fn write_lines<'a, Q: Question, W: Write>(
+fn write_lines<Q: Question, W: Write>(
     alloc: Global,
     out: &mut W,
     format: Format,
     world: &World,
     question: &Q,
-) -> Result<(), Fault<'a>>
+) -> Result<(), LineFault>
     ensures { OnOk result ((text : List ℕ) × Q.tells question.now format world.now text × Appends (W.contents out.old) (W.contents out.new) (height_line format (height_of world.now) ++ text)) }
 {
     let mut kept = Vec::new(alloc);
@@ -127,15 +128,15 @@ fn write_lines<'a, Q: Question, W: Write>(
 }
 
 // Writes what the world answers, unless the blocks couldn't be handed in. Returns what the process ends with.
-fn write_answer<'a, Q: Question, W: Write>(
+fn write_answer<Q: Question, W: Write>(
     alloc: Global,
-    handed: Result<u8, Fault<'a>>,
+    handed: Result<u8, AllocError>,
     format: Format,
     world: &World,
     question: &Q,
     out: &mut W,
-) -> Result<u8, Fault<'a>>
-    ensures same { IfOk result (λ status. handed.entry ≡ Ok status) }
+) -> Result<u8, LineFault>
+    ensures same { IfOk result (λ status. handed ≡ Ok status) }
     ensures text { OnOk result ((text : List ℕ) × Q.tells question.now format world.now text × Appends (W.contents out.old) (W.contents out.new) (height_line format (height_of world.now) ++ text)) }
 {
     let status = handed?;
@@ -144,14 +145,14 @@ fn write_answer<'a, Q: Question, W: Write>(
 }
 
 // Owns the ledger, and has one way out.
-fn answer_from<'a, Q: Question, W: Write, P: Progress>(
+fn answer_from<Q: Question, W: Write, P: Progress>(
     alloc: Global,
     inputs: Inputs,
     format: Format,
     question: &Q,
     out: &mut W,
     progress: &mut P,
-) -> Result<u8, Fault<'a>>
+) -> Result<u8, LineFault>
     ensures { IfOk result (λ status. AnswersFrom inputs.configuration.channel inputs.configuration.keys inputs.blocks.items (Q.tells question.now) format (W.contents out.old) status (W.contents out.new)) }
 {
     let Inputs {
@@ -175,8 +176,9 @@ pub(crate) fn answer<'a, F: Files, Q: Question, W: Write, P: Progress>(
     out: &mut W,
     progress: &mut P,
 ) -> Result<u8, Fault<'a>>
-    ensures { IfOk result (λ status. Answers (F.holds files.now) paths.now (Q.tells question.now) (W.contents out.old) status (W.contents out.new)) }
+    ensures ok { IfOk result (λ status. Answers (F.holds files.now) paths.now (Q.tells question.now) (W.contents out.old) status (W.contents out.new)) }
+    ensures err { IfErr result (EndsBefore (InputsFail (F.holds files.now) (F.unreadable files.now) paths.now) (W.contents out.old) (W.contents out.new)) }
 {
     let inputs = Inputs::read(alloc, files, paths)?;
-    answer_from(alloc, inputs, paths.format, question, out, progress)
+    Ok(answer_from(alloc, inputs, paths.format, question, out, progress)?)
 }

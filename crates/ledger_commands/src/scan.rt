@@ -1,14 +1,16 @@
-ghost use Rattle.std.specs.Prelude.{◌≡◌, ◌⊎◌, [], take, Some, IfOk};
+ghost use Rattle.std.specs.Prelude.{◌≡◌, ◌⊎◌, [], take, Some, IfOk, IfErr};
 ghost use Rattle.text_lines.specs.Words.{word_bytes};
 ghost use Rattle.std.specs.Ordering.{is_le};
 ghost use Rattle.values.specs.Order.{bytes_cmp};
 ghost use Rattle.rules.specs.Ranges.{is_below, is_within};
+ghost use Rattle.command_files.specs.Failing.{Because, EndsBefore};
 ghost use Rattle.ledger_commands.specs.Asking.{AnswersScan, AreRows};
+ghost use Rattle.ledger_commands.specs.Failing.{AreNoBounds, ScanFails};
 
 use crate::kept_lines::write_many;
 use crate::progress::Progress;
 use crate::question::{Question, answer};
-use cli_lines::{write_more, write_row};
+use cli_lines::{LineFault, write_more, write_row};
 use cli_values::{Format, bytes_of, name_of};
 use cli_words::Scan;
 use command_files::{Fault, Files};
@@ -79,14 +81,14 @@ struct RowsOf {
 impl Question for RowsOf {
     ghost tells = { λ asked. AreRows asked.namespace asked.bounds.start asked.bounds.end asked.limit };
 
-    fn tell<'a, W: Write>(
+    fn tell<W: Write>(
         &self,
         alloc: Global,
         format: Format,
         world: &World,
         kept: &mut Vec<u8>,
         out: &mut W,
-    ) -> Result<(), Fault<'a>> {
+    ) -> Result<(), LineFault> {
         let mut left = self.limit;
         for keyed in world.state().range(
             &self.namespace.lend(),
@@ -114,6 +116,7 @@ fn rows_of<'a>(alloc: Global, words: &Scan<'a>) -> Result<RowsOf, Fault<'a>>
     ensures start { IfOk result (λ asked. word_bytes words.now.start.now ≡ Some asked.bounds.start) }
     ensures end { IfOk result (λ asked. word_bytes words.now.end.now ≡ Some asked.bounds.end) }
     ensures others { IfOk result (λ asked. (asked.namespace ≡ words.now.namespace.now) × (asked.limit ≡ words.now.limit)) }
+    ensures err { IfErr result (Because (AreNoBounds words.now)) }
 {
     let namespace = name_of(alloc, words.namespace)?;
     let start = bytes_of(alloc, words.start)?;
@@ -134,7 +137,8 @@ pub fn print_rows<'a, F: Files, W: Write, P: Progress>(
     out: &mut W,
     progress: &mut P,
 ) -> Result<u8, Fault<'a>>
-    ensures { IfOk result (λ status. AnswersScan (F.holds files.now) words.now (W.contents out.old) status (W.contents out.new)) }
+    ensures ok { IfOk result (λ status. AnswersScan (F.holds files.now) words.now (W.contents out.old) status (W.contents out.new)) }
+    ensures err { IfErr result (EndsBefore (ScanFails (F.holds files.now) (F.unreadable files.now) words.now) (W.contents out.old) (W.contents out.new)) }
 {
     let question = rows_of(alloc, words)?;
     answer(alloc, files, &words.paths, &question, out, progress)

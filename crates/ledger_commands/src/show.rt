@@ -6,13 +6,15 @@ ghost use Rattle.block.specs.Faults.{HasFault};
 ghost use Rattle.block.specs.Grammar.{IsTx};
 ghost use Rattle.block.specs.Limits.{max_txs};
 ghost use Rattle.block.specs.declared.fault.BlockFault.TheVariants.{Memory};
+ghost use Rattle.command_files.specs.Failing.{EndsBefore, FilesFail, IsUnread};
 ghost use Rattle.command_files.specs.Reading.{AreHeld};
+ghost use Rattle.ledger_commands.specs.Failing.{ShowFails};
 ghost use Rattle.ledger_commands.specs.Showing.{IsFaultLine, IsScriptOf, IsShownAs, Prints, ShowsBy, ShowsFiles, separator};
 
 use crate::progress::Progress;
 use block::{Block, BlockFault, Header, decode_block};
 use block_scripts::{block_script, place_of_fault, raw_script};
-use cli_lines::Refusal;
+use cli_lines::{LineFault, Refusal};
 use cli_words::Show;
 use command_files::{ACCEPTED, Configuration, Fault, Files, REFUSED, read_files};
 use rules::Refused;
@@ -65,12 +67,12 @@ fn script_in(
 }
 
 // Why bytes are no block, and where they stop being one. Want of memory isn't written.
-fn write_fault<'a, W: Write>(
+fn write_fault<W: Write>(
     out: &mut W,
     place: usize,
     bytes: &[u8],
     fault: BlockFault,
-) -> Result<(), Fault<'a>>
+) -> Result<(), LineFault>
     ensures { OnOk result ((text : List ℕ) × IsFaultLine place fault text × Appends (W.contents out.old) (W.contents out.new) text) }
 {
     let refusal = Refusal::of(Refused::Malformed(fault))?;
@@ -86,14 +88,14 @@ struct Placed<'b> {
 }
 
 // Writes the script of a block, or why its bytes have none, after an empty line if others are before it. Returns the block's header.
-fn write_script<'a, W: Write, P: Progress>(
+fn write_script<W: Write, P: Progress>(
     alloc: Global,
     out: &mut W,
     progress: &mut P,
     configuration: Option<&Configuration>,
     previous: Option<&Header>,
     at: Placed<'_>,
-) -> Result<Option<Header>, Fault<'a>>
+) -> Result<Option<Header>, LineFault>
     requires { at.before + 1 < 2 ^ 64 }
     ensures { IfOk result (λ header. (text : List ℕ) × IsShownAs (option_copied configuration.entry) (suc at.entry.before) at.entry.bytes.now text (is_some header)
         × Appends (W.contents out.old) (W.contents out.new) (separator at.entry.before ++ text)) }
@@ -123,13 +125,13 @@ fn status_of(are_blocks: bool) -> u8
 }
 
 // Writes all scripts, an empty line between two. Returns whether all strings spell blocks.
-fn write_blocks<'a, W: Write, P: Progress>(
+fn write_blocks<W: Write, P: Progress>(
     alloc: Global,
     out: &mut W,
     progress: &mut P,
     configuration: Option<&Configuration>,
     blocks: &[Bytes],
-) -> Result<bool, Fault<'a>>
+) -> Result<bool, LineFault>
     ensures { IfOk result (λ are_blocks. Prints (option_copied configuration.entry) blocks.now (W.contents out.old) are_blocks (W.contents out.new)) }
 {
     let mut previous = None;
@@ -159,7 +161,8 @@ fn print_blocks<'a, F: Files, W: Write, P: Progress>(
     out: &mut W,
     progress: &mut P,
 ) -> Result<u8, Fault<'a>>
-    ensures { IfOk result (λ status. (blocks : List (List ℕ)) × AreHeld (λ path. F.holds files.now path.now) words.now.blocks.items blocks × ((are_blocks : Bool) × Prints (option_copied configuration.entry) blocks (W.contents out.old) are_blocks (W.contents out.new) × (status ≡ (if are_blocks then 0 else 1)))) }
+    ensures ok { IfOk result (λ status. (blocks : List (List ℕ)) × AreHeld (λ path. F.holds files.now path.now) words.now.blocks.items blocks × ((are_blocks : Bool) × Prints (option_copied configuration.entry) blocks (W.contents out.old) are_blocks (W.contents out.new) × (status ≡ (if are_blocks then 0 else 1)))) }
+    ensures err { IfErr result (EndsBefore (FilesFail (λ path. F.holds files.now path.now) (λ path. IsUnread (F.unreadable files.now path.now) path.now) words.now.blocks.items) (W.contents out.old) (W.contents out.new)) }
 {
     let blocks = read_files(alloc, files, &words.blocks)?;
     let ended = write_blocks(alloc, out, progress, configuration, blocks.as_slice());
@@ -176,7 +179,8 @@ pub fn print_scripts<'a, F: Files, W: Write, P: Progress>(
     out: &mut W,
     progress: &mut P,
 ) -> Result<u8, Fault<'a>>
-    ensures { IfOk result (λ status. ShowsFiles (F.holds files.now) words.now (W.contents out.old) status (W.contents out.new)) }
+    ensures ok { IfOk result (λ status. ShowsFiles (F.holds files.now) words.now (W.contents out.old) status (W.contents out.new)) }
+    ensures err { IfErr result (EndsBefore (ShowFails (F.holds files.now) (F.unreadable files.now) words.now) (W.contents out.old) (W.contents out.new)) }
 {
     let Some(paths) = &words.configuration else {
         return print_blocks(alloc, files, words, None, out, progress);

@@ -44,7 +44,7 @@ pub record Setting : Type 0 where
   pub accepts : Accepts
   -- the number of the block
   pub number : ℕ
-  -- whether the block has one item only
+  -- whether the block has one place only
   pub alone : Bool
   -- the state before the block, with the policies of keys
   pub state_before : State
@@ -90,14 +90,14 @@ origin_tests s i =
     ∷ (bytes_eq o.id (tx_id_of o.nonce (identity_bytes o.creator)), BadProposalTxId)
     ∷ []
 
--- An update is allowed if it is the only item of its block, the channel has an admin policy, the chaincode has a
+-- An update is allowed if it is alone in its block, the channel has an admin policy, the chaincode has a
 -- policy, and the new text is a policy (ours).
 abbrev pub may_update : Setting → Update → Bool
 may_update s u = s.alone && is_some s.admin && is_defined s.policies_before u.namespace && is_some (policy_of u.policy)
 
 -- Content, flags 9, then 22 and 25 or, of an update, 6: its id is new. The read and write sets of a transaction are
--- well-formed: no key repeats in them ('Read-Write set semantics'), ranges are in order, and written policies are
--- policies. The chaincodes that it names and writes have policies.
+-- well-formed: no key repeats within one of their lists ('Read-Write set semantics'), ranges are in order, and written
+-- policies are policies. The chaincode that it invokes and those that it writes have policies.
 abbrev pub content_tests : Setting → SoFar → Item → Tests
 content_tests s now (item.Tx tx) =
     (not (contains_key now.first_uses tx.id), DuplicateTxId)

@@ -1,0 +1,13 @@
+mod Calls
+mod Finish
+mod Getters
+mod Levels
+mod Looks
+mod Parsers
+mod Rows
+mod Shapes
+mod Tables
+mod Tops
+mod Uses
+mod Walks
+mod WordRows
