@@ -52,6 +52,12 @@ class Trial:
 
     def fault(self):
         """What it did wrong, or none."""
+        try:
+            return self.fault_in_time()
+        except subprocess.TimeoutExpired as late:
+            return f"not over after {late.timeout} s: {' '.join(map(str, late.cmd))}"
+
+    def fault_in_time(self):
         env = {**os.environ, **self.env}
         for words in self.build:
             built = ran(words, env=env, cwd=self.folder)
@@ -79,7 +85,9 @@ class Trials:
         work = self.work
         c = lambda name: ["cc", *C_FLAGS, "-pthread", CLIENTS / "c" / f"{name}.c", *self.archives, "-o", work / name]
         valgrind = ["valgrind", "--quiet", "--leak-check=full", "--error-exitcode=9"]
-        drd = ["valgrind", "--quiet", "--tool=drd", "--error-exitcode=9"]
+        # otherwise one thread may run for minutes before the others
+        fair = "--fair-sched=yes"
+        drd = ["valgrind", "--quiet", "--tool=drd", fair, "--error-exitcode=9"]
         share = [work / "share", *FILES, *GOOD]
         return [
             Trial("fits", "cc", [c("fits")], [work / "fits"]),
@@ -88,7 +96,7 @@ class Trials:
             Trial("hostile, by valgrind", "cc valgrind", [c("hostile")], [*valgrind, work / "hostile", *FILES, *GOOD]),
             Trial("C", "cc", [c("run")], [work / "run", *self.blocks], **self.run),
             Trial("C, on threads", "cc", [c("share")], share, **self.all_good),
-            Trial("C, on threads, by valgrind", "cc valgrind", [c("share")], [*valgrind, *share], **self.all_good),
+            Trial("C, on threads, by valgrind", "cc valgrind", [c("share")], [*valgrind, fair, *share], **self.all_good),
             Trial("C, on threads, by drd", "cc valgrind", [c("share")], [*drd, *share], **self.all_good),
             Trial("C, which explains", "cc", [c("explain")], [work / "explain", *self.explained], **self.explain),
         ]

@@ -76,7 +76,11 @@ fn data_hashes_and_ids(rt: HostRuntime) {
 #[test]
 fn commit_hashes(rt: HostRuntime) {
     let told = b"\x01\0\0\0\0\0\0\0\0\0\0\0\0\0\0\0\0\0";
-    assert!(rt; commit_hash(&[0; 32], told) == OF_EMPTY_BLOCK);
+    assert!(rt; commit_hash(&[0; 32], told, b"", b"") == OF_EMPTY_BLOCK);
+    let (first, others) = told.split_at(1);
+    let (second, third) = others.split_at(8);
+    assert!(rt; commit_hash(&[0; 32], first, second, third) == OF_EMPTY_BLOCK);
+    assert!(rt; commit_hash(&[0; 32], third, second, first) != OF_EMPTY_BLOCK);
     // What comes first counts.
-    assert!(rt; commit_hash(&[1; 32], told) != OF_EMPTY_BLOCK);
+    assert!(rt; commit_hash(&[1; 32], told, b"", b"") != OF_EMPTY_BLOCK);
 }

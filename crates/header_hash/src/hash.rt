@@ -1,4 +1,4 @@
-ghost use Rattle.std.specs.Prelude.{◌≡◌};
+ghost use Rattle.std.specs.Prelude.{◌≡◌, ◌++◌};
 ghost use Rattle.header_hash.specs.Hashes.{commit_hash_of, header_hash_of, tx_id_of};
 
 use crate::der::header_der;
@@ -31,12 +31,14 @@ pub fn tx_id(nonce: &[u8], creator: &[u8]) -> TxId
 }
 
 /// The commit hash of a block: SHA-256 (FIPS 180-4) of the commit hash before it, or of 32 zero bytes, followed by what
-/// the block changes. Linear in these bytes, and takes no memory.
-pub fn commit_hash(previous: &Hash, changed: &[u8]) -> Hash
-    ensures { result ≡ commit_hash_of previous.now changed.now }
+/// the block changes, which is in three parts. Linear in these bytes, and takes no memory.
+pub fn commit_hash(previous: &Hash, first: &[u8], second: &[u8], third: &[u8]) -> Hash
+    ensures { result ≡ commit_hash_of previous.now (first.now ++ (second.now ++ third.now)) }
 {
     let mut hasher = Sha256::new();
     hasher.update(previous.as_slice());
-    hasher.update(changed);
+    hasher.update(first);
+    hasher.update(second);
+    hasher.update(third);
     hasher.finalize()
 }

@@ -144,7 +144,7 @@ fn hash_behind(
     told: &Told,
 ) -> Result<Hash, Failed> {
     check(peer.is_taken(alloc, told.script, told.flags)?)?;
-    let hash = commit_hash(before, told.bytes);
+    let hash = commit_hash(before, told.bytes, b"", b"");
     check(peer.world().commit_hash() == Some(hash))?;
     Ok(hash)
 }

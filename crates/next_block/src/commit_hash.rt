@@ -14,8 +14,8 @@ use std::alloc::{AllocError, Global};
 use transaction::{BlockVersion, put_counted8, put_counted16, put_length32, put_u64};
 use values::Hash;
 
-// Version, number, the count of flags, and whether a definition follows.
-const LEAST_BYTES: usize = 14;
+// Version, number, and the count of flags.
+const LEAST_BYTES: usize = 13;
 
 /// What a commit hash is made of, but for the one before it.
 #[derive(Clone, Copy)]
@@ -93,19 +93,21 @@ fn put_place(out: &mut Vec<u8>, version: BlockVersion, number: u64) -> Result<()
     put_u64(out, number)
 }
 
-/// The bytes of all parts of a block, one behind the other. Takes memory for them.
-fn commit_bytes(alloc: Global, parts: &CommitParts<'_>) -> Result<Vec<u8>, AllocError>
-    ensures { IfOk result (λ bytes. bytes.items ≡ version_number parts.now.version ∷ (big_bytes 8 parts.now.number ++ (listed 4 (λ f. number_of f ∷ []) parts.now.flags.now ++ (parts.now.update.now ++ optional definition_bytes (slice_get (definitions_in parts.now.definitions.now) 0))))) }
+/// What comes before the update.
+fn head_bytes(alloc: Global, parts: &CommitParts<'_>) -> Result<Vec<u8>, AllocError>
+    ensures { IfOk result (λ bytes. bytes.items ≡ version_number parts.now.version ∷ (big_bytes 8 parts.now.number ++ listed 4 (λ f. number_of f ∷ []) parts.now.flags.now)) }
 {
-    let room = parts
-        .update
-        .len()
-        .saturating_add(parts.flags.len())
-        .saturating_add(LEAST_BYTES);
-    let mut out = Vec::with_capacity(alloc, room)?;
+    let mut out = Vec::with_capacity(alloc, parts.flags.len().saturating_add(LEAST_BYTES))?;
     put_place(&mut out, parts.version, parts.number)?;
     put_flags(&mut out, parts.flags)?;
-    out.extend_from_slice(parts.update)?;
+    Ok(out)
+}
+
+/// What comes after the update.
+fn tail_bytes(alloc: Global, parts: &CommitParts<'_>) -> Result<Vec<u8>, AllocError>
+    ensures { IfOk result (λ bytes. bytes.items ≡ optional definition_bytes (slice_get (definitions_in parts.now.definitions.now) 0)) }
+{
+    let mut out = Vec::new(alloc);
     put_definitions(alloc, &mut out, parts.definitions)?;
     Ok(out)
 }
@@ -120,8 +122,8 @@ fn before(last: Option<Hash>) -> Hash
     }
 }
 
-/// The commit hash of a block of these parts, behind one with the last commit hash or as the first block: SHA-256 of that hash,
-/// or of 32 zeros, and the parts, spelled. Takes memory for the spelling.
+/// The commit hash of a block of these parts, after one with the last commit hash or as the first block: SHA-256 of that
+/// hash, or of 32 zeros, and the parts, encoded. Takes memory for those but the update, which isn't copied.
 pub(crate) fn next_commit_hash(
     alloc: Global,
     last: Option<Hash>,
@@ -129,6 +131,12 @@ pub(crate) fn next_commit_hash(
 ) -> Result<Hash, AllocError>
     ensures { IfOk result (λ hash. hash ≡ hash_by_parts last parts.now.version parts.now.number parts.now.flags.now parts.now.update.now (definitions_in parts.now.definitions.now)) }
 {
-    let bytes = commit_bytes(alloc, parts)?;
-    Ok(commit_hash(&before(last), bytes.as_slice()))
+    let head = head_bytes(alloc, parts)?;
+    let tail = tail_bytes(alloc, parts)?;
+    Ok(commit_hash(
+        &before(last),
+        head.as_slice(),
+        parts.update,
+        tail.as_slice(),
+    ))
 }
