@@ -13,7 +13,7 @@ use crate::context::Context;
 use crate::prepared::{Prepared, prepare};
 use check_workers::check_all;
 use gates::Gate;
-use key_chains::{BlockRows, Job, KeyWriters, StateKey};
+use key_chains::{BlockRows, Job, KeyWriters, read_rows};
 use linking::{HashedBlock, LinkedBlock};
 use next_block::{NextBlock, PendingDelta, flag_duplicates, job_over, pending_delta_of};
 use policy_eval::Verify;
@@ -46,15 +46,34 @@ fn linked<'b>(world: &World, hashed: HashedBlock<'b>) -> Result<LinkedBlock<'b>,
     hashed.linked(world.height(), world.header_hash(), world.version())
 }
 
-/// The rows of keys. Several threads look them up where that is worth it.
-fn rows_of<'s, R: Threads + Sync, V, G>(
+/// The rows of the keys that a block writes. Several threads look them up where that is worth it.
+fn written_rows<'s, R: Threads + Sync, V, G>(
     context: &Context<'_, R, V, G>,
     state: &'s StateDb,
-    keys: &[StateKey<'_>],
+    key_writers: &KeyWriters<'_>,
 ) -> Result<FoundRows<'s>, AllocError>
-    ensures { IfOk result (λ found. AreRows state.entry.now.state keys.now found.rows.items) }
+    ensures { IfOk result (λ found. AreRows state.entry.now.state (keys_in key_writers.now) found.rows.items) }
 {
+    let keys = key_writers.keys();
     let threads = context.workers.looking_up(keys.len(), state.pages());
+    rows_by(context.rt, context.alloc, threads, state, keys)
+}
+
+/// The rows of those that it reads. One thread takes those that it writes too from their rows; several look all up.
+fn read_rows_by<'s, R: Threads + Sync, V, G>(
+    context: &Context<'_, R, V, G>,
+    state: &'s StateDb,
+    key_writers: &KeyWriters<'_>,
+    written: &FoundRows<'s>,
+) -> Result<FoundRows<'s>, AllocError>
+    requires { AreRows state.now.state (keys_in key_writers.now) written.now.rows.items }
+    ensures { IfOk result (λ found. AreRows state.entry.now.state (reads_in key_writers.now) found.rows.items) }
+{
+    let keys = key_writers.read_keys();
+    let threads = context.workers.looking_up(keys.len(), state.pages());
+    if threads < 2 {
+        return read_rows(context.alloc, state, key_writers, written);
+    }
     rows_by(context.rt, context.alloc, threads, state, keys)
 }
 
@@ -67,10 +86,9 @@ fn rows_before<'s, R: Threads + Sync, V, G>(
     ensures written { IfOk result (λ rows. AreRows state.entry.now.state (keys_in key_writers.now) rows.written.rows.items) }
     ensures read { IfOk result (λ rows. AreRows state.entry.now.state (reads_in key_writers.now) rows.read.rows.items) }
 {
-    Ok(BlockRows {
-        written: rows_of(context, state, key_writers.keys())?,
-        read: rows_of(context, state, key_writers.read_keys())?,
-    })
+    let written = written_rows(context, state, key_writers)?;
+    let read = read_rows_by(context, state, key_writers, &written)?;
+    Ok(BlockRows { written, read })
 }
 
 /// The delta of the next block, but for its commit hash, of its job and ids; and how many verdicts no worker had found.

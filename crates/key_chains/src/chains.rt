@@ -13,6 +13,7 @@ ghost use Rattle.candidates.specs.Seen.{seen};
 use crate::links::KeyLists;
 use crate::numbering::Numbering;
 use crate::operation::{Kind, Operation};
+use crate::room::Room;
 use candidates::{Candidate, StateKey, WrittenKey};
 use std::alloc::{AllocError, Global};
 use transaction::{NsSet, Tx};
@@ -94,10 +95,10 @@ fn add_read_keys<'a>(keys: &mut Vec<StateKey<'a>>, tx: &Tx<'a>) -> Result<(), Al
     Ok(())
 }
 
-/// Links of reads of these keys, and the numbers of those that somebody writes.
+/// Links of reads of these keys, and the number of each that somebody writes.
 fn link_reads(
     links: &mut Vec<Option<u32>>,
-    numbers: &mut Vec<u32>,
+    numbers: &mut Vec<Option<u32>>,
     keys: &Numbering<'_>,
     operations: &KeyLists<Operation>,
     read: &[StateKey<'_>],
@@ -109,9 +110,7 @@ fn link_reads(
     for key in read {
         let found = looked_up(keys, operations, key);
         links.push(found.newest)?;
-        if let Some(number) = found.number {
-            numbers.push(number)?;
-        }
+        numbers.push(found.number)?;
     }
     Ok(())
 }
@@ -120,10 +119,11 @@ fn link_reads(
 fn written_keys<'a>(
     alloc: Global,
     candidates: &[Candidate<'a>],
+    room: Room,
 ) -> Result<Vec<StateKey<'a>>, AllocError>
     ensures { IfOk result (λ keys. keys.items ≡ flat_map written_by (map seen candidates.now)) }
 {
-    let mut keys = Vec::new(alloc);
+    let mut keys = Vec::with_capacity(alloc, room.written)?;
     for candidate in candidates {
         add_written_keys(&mut keys, candidate)?;
     }
@@ -163,14 +163,28 @@ fn kind_of(written: &WrittenKey<'_>) -> Kind
     }
 }
 
+/// Whether there is no number, or one below another.
+fn is_passed(number: Option<u32>, least: u32) -> bool {
+    match number {
+        None => true,
+        Some(number) => number < least,
+    }
+}
+
 /// The place of the first number, from a place on, that isn't below one. No clause speaks of it: what is there is a
 /// guess.
-fn passed(numbers: &[u32], from: usize, least: u32) -> usize {
+fn passed(numbers: &[Option<u32>], from: usize, least: u32) -> usize {
     let mut at = from;
-    while at < numbers.len() && numbers[at] < least {
+    while at < numbers.len() && is_passed(numbers[at], least) {
         at += 1;
     }
     at
+}
+
+/// The numbers from a place on.
+fn numbers_from(numbers: &[Option<u32>], from: usize) -> &[Option<u32>] {
+    let (_, rest) = numbers.split_at(from.min(numbers.len()));
+    rest
 }
 
 /// The candidate writes the policy of the key, if it does.
@@ -193,19 +207,19 @@ fn add_policy_writer(
 }
 
 impl<'a> Chains<'a> {
-    fn new(alloc: Global, keys: Numbering<'a>) -> Result<Chains<'a>, AllocError>
+    fn with_room(alloc: Global, keys: Numbering<'a>, room: Room) -> Result<Chains<'a>, AllocError>
         ensures { IfOk result (λ c. (cs : List seen_by_rules.Candidate) → keys.entry ≡ block_keys cs → IsBuilt cs 0 0 0 c) }
     {
         let count = keys.as_slice().len();
         Ok(Chains {
             keys,
-            operations: KeyLists::new(alloc, count)?,
-            policy_writers: KeyLists::new(alloc, count)?,
-            read_keys: Vec::new(alloc),
-            reads: Vec::new(alloc),
-            first_reads: Vec::new(alloc),
-            written: Vec::new(alloc),
-            first_written: Vec::new(alloc),
+            operations: KeyLists::with_capacity(alloc, count, room.written)?,
+            policy_writers: KeyLists::with_capacity(alloc, count, 0)?,
+            read_keys: Vec::with_capacity(alloc, room.reads)?,
+            reads: Vec::with_capacity(alloc, room.reads)?,
+            first_reads: Vec::with_capacity(alloc, room.candidates)?,
+            written: Vec::with_capacity(alloc, room.written)?,
+            first_written: Vec::with_capacity(alloc, room.candidates)?,
         })
     }
 
@@ -244,7 +258,7 @@ impl<'a> Chains<'a> {
         &mut self,
         i: u32,
         written: &[WrittenKey<'_>],
-        guesses: &[u32],
+        guesses: &[Option<u32>],
     ) -> Result<(), AllocError>
         requires numbers { All (λ w. IsSome (number_in self.old.keys w.key)) written.now }
         requires whole { IsWhole self.old }
@@ -252,21 +266,22 @@ impl<'a> Chains<'a> {
         ensures keys { OnOk result (self.new.keys ≡ self.old.keys) }
         ensures whole { OnOk result (IsWhole self.new) }
     {
-        let mut at = 0;
+        let mut at = passed(guesses, 0, 0);
         for one in written {
-            let number = self.add_key(i, one, guesses.get(at).copied())?;
+            let guess = guesses.get(at).copied().flatten();
+            let number = self.add_key(i, one, guess)?;
             // mostly keys are in their order
             at = passed(guesses, at, number.saturating_add(1));
         }
         Ok(())
     }
 
-    /// One candidate more. What numbers the list has goes.
+    /// One candidate more. The list gets the number of each key that it reads.
     fn add(
         &mut self,
         i: u32,
         candidate: &Candidate<'a>,
-        numbers: &mut Vec<u32>,
+        numbers: &mut Vec<Option<u32>>,
     ) -> Result<(), AllocError>
         requires numbers { (k : StateKey) → is_among k (written_by (seen candidate.now)) ≡ true → IsSome (number_in self.old.keys k) }
         requires whole { IsWhole self.old }
@@ -280,7 +295,7 @@ impl<'a> Chains<'a> {
             Candidate::Updates(_) => Ok(()),
             Candidate::Opened(open_tx) => {
                 add_read_keys(&mut self.read_keys, &open_tx.tx)?;
-                numbers.clear();
+                let known = numbers.len();
                 link_reads(
                     &mut self.reads,
                     numbers,
@@ -288,23 +303,29 @@ impl<'a> Chains<'a> {
                     &self.operations,
                     &self.read_keys.as_slice()[first..],
                 )?;
-                self.add_written(i, open_tx.written.as_slice(), numbers.as_slice())?;
+                let guesses = numbers_from(numbers.as_slice(), known);
+                self.add_written(i, open_tx.written.as_slice(), guesses)?;
                 Ok(())
             }
         }
     }
 
-    /// The chains of a block's candidates: a sort of the keys that they write, and one pass.
-    pub fn build(alloc: Global, candidates: &[Candidate<'a>]) -> Result<Chains<'a>, AllocError>
+    /// The chains of a block's candidates: a sort of the keys that they write, and one pass. The list gets, for each
+    /// key that they read, its place among those that they write, if it is one of them.
+    pub fn build(
+        alloc: Global,
+        candidates: &[Candidate<'a>],
+        numbers: &mut Vec<Option<u32>>,
+    ) -> Result<Chains<'a>, AllocError>
         requires { length candidates.now < 2 ^ 32 }
         ensures { IfOk result (λ c. IsBuilt (map seen candidates.now) (length candidates.now) (length candidates.now) 0 c) }
     {
-        let keys = Numbering::new(written_keys(alloc, candidates)?)?;
-        let mut chains = Chains::new(alloc, keys)?;
-        // for all candidates, since it takes memory
-        let mut numbers = Vec::new(alloc);
+        let room = Room::of(candidates);
+        let keys = Numbering::new(written_keys(alloc, candidates, room)?)?;
+        let mut chains = Chains::with_room(alloc, keys, room)?;
+        numbers.reserve(room.reads)?;
         for (i, candidate) in candidates.iter().enumerate() {
-            chains.add(i as u32, candidate, &mut numbers)?;
+            chains.add(i as u32, candidate, numbers)?;
         }
         Ok(chains)
     }

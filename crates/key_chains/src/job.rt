@@ -37,6 +37,7 @@ pub struct Job<'s, 'b> {
     admin: Option<&'s Policy>,
     candidates: Vec<Candidate<'b>>,
     chains: Chains<'b>,
+    read_numbers: Vec<Option<u32>>,
     rows: BlockRows<'s>,
 }
 
@@ -104,7 +105,11 @@ impl<'s, 'b> Job<'s, 'b> {
         requires read { AreRows state.now.state (reads_in key_writers) rows.read.rows.items }
         ensures { result ≡ record { number = number; state = state.entry.now.state; definitions = definitions.entry.now; admin = option_copied admin.entry; candidates = key_writers.entry } }
     {
-        let KeyWriters { candidates, chains } = key_writers;
+        let KeyWriters {
+            candidates,
+            chains,
+            read_numbers,
+        } = key_writers;
         Job {
             number,
             state,
@@ -112,6 +117,7 @@ impl<'s, 'b> Job<'s, 'b> {
             admin,
             candidates,
             chains,
+            read_numbers,
             rows,
         }
     }
@@ -123,6 +129,7 @@ impl<'s, 'b> Job<'s, 'b> {
         KeyWriters {
             candidates: self.candidates,
             chains: self.chains,
+            read_numbers: self.read_numbers,
         }
     }
 

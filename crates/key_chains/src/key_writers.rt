@@ -13,6 +13,7 @@ use std::marker::Model;
 pub struct KeyWriters<'a> {
     pub(crate) candidates: Vec<Candidate<'a>>,
     pub(crate) chains: Chains<'a>,
+    pub(crate) read_numbers: Vec<Option<u32>>,
 }
 
 impl<'a> Model for KeyWriters<'a> {
@@ -46,8 +47,13 @@ impl<'a> KeyWriters<'a> {
         requires { length candidates.items < 2 ^ 32 }
         ensures { IfOk result (λ c. c ≡ map seen candidates.entry.items) }
     {
-        let chains = Chains::build(alloc, candidates.as_slice())?;
-        Ok(KeyWriters { candidates, chains })
+        let mut read_numbers = Vec::new(alloc);
+        let chains = Chains::build(alloc, candidates.as_slice(), &mut read_numbers)?;
+        Ok(KeyWriters {
+            candidates,
+            chains,
+            read_numbers,
+        })
     }
 
     /// The keys that they write, in their order.
@@ -64,6 +70,11 @@ impl<'a> KeyWriters<'a> {
         self.chains.read_keys.as_slice()
     }
 
+    /// For each key that they read its place among those that they write, if it is one of them. No clause speaks of it.
+    pub fn read_numbers(&self) -> &[Option<u32>] {
+        self.read_numbers.as_slice()
+    }
+
     /// Gives back the candidates.
     pub fn into_candidates(self) -> Vec<Candidate<'a>>
         ensures { map seen result.items ≡ self.entry }
@@ -71,6 +82,7 @@ impl<'a> KeyWriters<'a> {
         let KeyWriters {
             candidates,
             chains: _chains,
+            read_numbers: _read_numbers,
         } = self;
         candidates
     }

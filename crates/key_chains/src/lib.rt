@@ -11,8 +11,9 @@ mod links;
 mod numbering;
 mod operation;
 mod plain_board;
+mod room;
 
-pub use block_rows::BlockRows;
+pub use block_rows::{BlockRows, read_rows};
 pub use board::Board;
 pub use candidates::{Candidate, OpenTx, StateKey, WrittenKey};
 pub use decision::Decision;

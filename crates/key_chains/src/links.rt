@@ -130,12 +130,16 @@ fn no_links(alloc: Global, count: usize) -> Result<Vec<Option<u32>>, AllocError>
 }
 
 impl<T: Copy> KeyLists<T> {
-    /// Empty lists of so many keys.
-    pub fn new(alloc: Global, keys: usize) -> Result<KeyLists<T>, AllocError>
+    /// Empty lists of so many keys, with room for so many entries.
+    pub fn with_capacity(
+        alloc: Global,
+        keys: usize,
+        entries: usize,
+    ) -> Result<KeyLists<T>, AllocError>
         ensures { IfOk result (λ l. l ≡ ([], replicate keys None)) }
     {
         Ok(KeyLists {
-            entries: Vec::new(alloc),
+            entries: Vec::with_capacity(alloc, entries)?,
             newest: no_links(alloc, keys)?,
         })
     }

@@ -4,7 +4,7 @@ use Rattle.std.specs.FinMap.{entries}
 use Rattle.rules.specs.declared.row.Row.{Row}
 use Rattle.rules.specs.State.{State, KeyMap, with_changes}
 
--- what each key has from now on, or none where it is removed
+-- what each key has from now on, or none if it is removed
 abbrev pub Changes : Type 0
 Changes = KeyMap (Option Row)
 

@@ -13,6 +13,6 @@ is_changing rows c = not (is_unchanged (find key_cmp c.0 rows) c.1)
 abbrev pub changing : RowList → List (ChangeOf Row) → List (ChangeOf Row)
 changing rows cs = filter (is_changing rows) cs
 
--- a change of a key that had this row, where it makes it differ
+-- a change of a key that had this row, if it makes it differ
 abbrev pub if_changing : Option Row → ChangeOf Row → List (ChangeOf Row)
 if_changing row c = if is_unchanged row c.1 then [] else c ∷ []

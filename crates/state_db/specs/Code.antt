@@ -1,4 +1,4 @@
--- Injective codes of what contracts see, which the prover asks for.
+-- Injective codes of what contracts see, which the prover requires.
 use Rattle.std.specs.Prelude.{ℕ, List, refl}
 use Rattle.std.specs.FinMap as map
 use Rattle.std.specs.Coded.{Coded, coded×, coded_option, coded_list, coded_ℕ, code_by}

@@ -15,18 +15,18 @@ abbrev pub added_by : List (ChangeOf Row) → ℕ
 added_by [] = 0
 added_by (c ∷ cs) = added c + added_by cs
 
--- How often a page of so many rows is to be split, as each split of 257 leaves 128 and 129. None where there are up to 256.
+-- How often a page of this many rows is split, as each split of 257 leaves 128 and 129: not at all up to 256 rows.
 abbrev pub splits : ℕ → ℕ
 splits n = (n - 129) / 128
 
--- the changes behind a page's rows, and the others, which fall to the page
+-- the changes after a page's rows, and the others, which fall to the page
 abbrev pub past : RowList → List (ChangeOf Row) → List (ChangeOf Row)
 past p cs = filter (λ c. is_page_below c.0 p) cs
 
 abbrev pub up_to : RowList → List (ChangeOf Row) → List (ChangeOf Row)
 up_to p cs = filter (λ c. not (is_page_below c.0 p)) cs
 
--- the splits of all pages. What is behind all rows falls to the last page.
+-- the splits of all pages. What is after all rows falls to the last page.
 abbrev pub need : List RowList → List (ChangeOf Row) → ℕ
 need [] cs = 0
 need (p ∷ []) cs = splits (length p + added_by cs)
@@ -51,7 +51,7 @@ abbrev pub AreEmpty : List RowList → Type 0
 AreEmpty [] = ⊤
 AreEmpty (p ∷ ps) = (p ≡ []) × AreEmpty ps
 
--- the need where the first page counts as one of so many rows
+-- the need if the first page counts as one of this many rows
 abbrev pub cost : ℕ → List RowList → List (ChangeOf Row) → ℕ
 cost n [] cs = 0
 cost n (p ∷ []) cs = splits (n + added_by cs)

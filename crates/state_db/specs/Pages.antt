@@ -46,7 +46,7 @@ paged ps = record { state = from_sorted (joined ps); sizes = map length ps }
 
 -- ---- where a key belongs
 
--- the last row of the page stands before the key
+-- the last row of the page is before the key
 abbrev pub is_page_below : StateKey → RowList → Bool
 is_page_below k [] = true
 is_page_below k (e ∷ []) = is_below k e
@@ -58,7 +58,7 @@ home k [] = 0
 home k (p ∷ []) = 0
 home k (p ∷ q ∷ ps) = if is_page_below k p then suc (home k (q ∷ ps)) else 0
 
--- the head of the last row, or zeros where there is none
+-- the head of the last row, or zeros if there is none
 abbrev pub last_head : RowList → List ℕ
 last_head [] = padded 24 []
 last_head (e ∷ []) = head_of e.0

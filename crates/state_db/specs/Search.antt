@@ -1,4 +1,4 @@
--- What stands before a key, in lists in the order of keys. No public contract cites this.
+-- What is before a key, in lists in the order of keys. No public contract cites this.
 use Rattle.std.specs.Prelude.{◌≡◌, ℕ, zero, suc, Bool, true, false, List, [], ◌∷◌, Option, Some, None, if◌then◌else◌, ⊤}
 use Rattle.std.specs.List.{list_any}
 use Rattle.std.specs.Ordering.{is_lt, is_eq}
@@ -13,22 +13,22 @@ Keyed X = StateKey × X
 abbrev pub IsSorted : {X : Type 0} → List (Keyed X) → Type 0
 IsSorted es = is_sorted key_cmp es ≡ true
 
--- whether something with a key stands before another key
+-- whether something with a key is before another key
 abbrev pub is_below : {X : Type 0} → StateKey → Keyed X → Bool
 is_below k e = is_lt (key_cmp e.0 k)
 
--- whether what stands at a place, if anything does, has the key
+-- whether what is at a place, if anything is, has the key
 abbrev pub ties_at : {X : Type 0} → StateKey → List (Keyed X) → ℕ → Bool
 ties_at k [] n = false
 ties_at k (e ∷ es) zero = is_eq (key_cmp e.0 k)
 ties_at k (e ∷ es) (suc n) = ties_at k es n
 
--- how many stand before the first that fails the test
+-- how many are before the first that fails the test
 abbrev pub leading : {X : Type 0} → (X → Bool) → List X → ℕ
 leading test [] = 0
 leading test (x ∷ xs) = if test x then suc (leading test xs) else 0
 
--- behind one that fails the test, all fail
+-- after one that fails the test, all fail
 abbrev pub Falls : {X : Type 0} → (X → Bool) → List X → Type 0
 Falls test [] = ⊤
 Falls test (x ∷ xs) = (test x ≡ false → list_any test xs ≡ false) × Falls test xs

@@ -21,7 +21,7 @@ pub record IsRemoved (k : StateKey) (old new : List RowList) : Type 0 where
   pub rows : joined new ≡ without k (joined old)
   pub need_ : (cs : List (ChangeOf Row)) → below_all key_cmp k cs ≡ true → need new cs ≤ need old ((k, None) ∷ cs)
 
--- each key behind this one belongs to the page at this place or behind it
+-- each key after this one belongs to the page at this place or after it
 abbrev pub IsPassed : StateKey → List RowList → ℕ → Type 0
 IsPassed k ps n = (x : StateKey) → key_cmp k x ≡ Less → n ≤ home x ps
 
@@ -30,7 +30,7 @@ abbrev pub ArePassed : List (ChangeOf Row) → List RowList → ℕ → Type 0
 ArePassed [] ps n = ⊤
 ArePassed (c ∷ cs) ps n = (n ≤ home c.0 ps) × ArePassed cs ps n
 
--- the key stands behind all rows, and the last page is full
+-- the key is after all rows, and the last page is full
 abbrev pub IsBehindFull : StateKey → List RowList → Type 0
 IsBehindFull k [] = ⊤
 IsBehindFull k (p ∷ []) = (is_page_below k p ≡ true) × (length p ≡ max_page_rows)

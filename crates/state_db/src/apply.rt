@@ -18,7 +18,7 @@ use rules::Change;
 use state_keys::Wanted;
 use std::alloc::{AllocError, Global};
 
-/// Whether the page is full, and all its rows stand before the key.
+/// Whether the page is full, and all its rows are before the key.
 fn is_full_before(page: &Page, wanted: &Wanted<'_>) -> bool
     ensures full { result ≡ true → length page.now ≡ max_page_rows }
     ensures below { result ≡ true → is_page_below wanted.now page.now ≡ true }
@@ -29,7 +29,7 @@ fn is_full_before(page: &Page, wanted: &Wanted<'_>) -> bool
     page.is_below(wanted)
 }
 
-/// Puts a row behind all others into a page of its own, so that rows that come in order fill their pages. Takes no memory.
+/// Puts a row after all others into a page of its own, so that rows that come in order fill their pages. Takes no memory.
 fn begin_page(pages: &mut Vec<Page>, spare: &mut Vec<Page>, slot: Slot)
     requires open { AreOpen pages.old.items }
     requires behind { IsBehindFull slot.0 pages.old.items }
@@ -134,7 +134,7 @@ fn is_last_empty(pages: &[Page]) -> bool
     pages[pages.len() - 1].is_empty()
 }
 
-/// Takes the last page away where it is empty.
+/// Takes the last page away if it is empty.
 fn drop_empty_last(pages: &mut Vec<Page>)
     requires { AreOpen pages.old.items }
     ensures pages { ArePages pages.new.items }
@@ -204,7 +204,7 @@ fn begin(alloc: Global, pages: &mut Vec<Page>, spare: &mut Vec<Page>) -> Result<
     Ok(())
 }
 
-/// Makes edits in the order of their keys where there are no pages; or none, and hands them back.
+/// Makes edits in the order of their keys if there are no pages; or none, and returns them.
 pub(crate) fn first_pages(
     alloc: Global,
     pages: &mut Vec<Page>,

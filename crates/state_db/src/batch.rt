@@ -16,9 +16,9 @@ use std::marker::Model;
 use values::{Key, Name, Shared};
 
 /// Changes of a state, of which each key has at most one: the last that was given. A contract sees the map of what
-/// becomes of each key: a row, or none where it is removed.
+/// becomes of each key: a row, or none if it is removed.
 ///
-/// A change whose key stands behind all others takes constant time, amortized; else it takes time in their number.
+/// A change whose key is after all others takes constant time, amortized; otherwise time linear in their number.
 #[derive(Drop)]
 pub struct Batch {
     alloc: Global,
@@ -41,7 +41,7 @@ impl Model for Batch {
     ghost invariant = { λ b. IsSorted b.edits.items };
 }
 
-/// Where the key belongs. The search is spared where that is behind all.
+/// Where the key belongs. There is no search if that is after all.
 fn place_of(edits: &[Edit], wanted: &Wanted<'_>) -> usize
     requires { IsSorted edits.now }
     ensures place { result ≡ leading (is_below wanted.now) edits.now }
@@ -103,7 +103,7 @@ impl Batch {
         }
     }
 
-    /// A batch without changes, with room for so many, whose memory it takes.
+    /// A batch without changes, with room for this many, whose memory it takes.
     pub fn with_capacity(alloc: Global, capacity: usize) -> Result<Batch, AllocError>
         ensures { IfOk result (λ batch. batch ≡ empty) }
     {
@@ -139,7 +139,7 @@ impl Batch {
         Ok(batch)
     }
 
-    /// Makes a change, with a guess of its place by keys at or behind a place. Answers where its key is looked for among them.
+    /// Makes a change, with a guess of its place by keys at or after a place. Returns where its key is looked for in them.
     fn add_guessed(
         &mut self,
         change: &Change,
@@ -220,7 +220,7 @@ impl Batch {
         })
     }
 
-    /// Its edits in the order of their keys, lent.
+    /// Its edits in the order of their keys.
     pub(crate) fn edits(&self) -> &[Edit]
         ensures edits { result.now ≡ entries self.now }
         ensures sorted { IsSorted result.now }

@@ -10,7 +10,7 @@ use crate::search::{Ordered, count_below, count_few_below};
 use rules::Row;
 use state_keys::Wanted;
 
-/// The place of the page where a key belongs: the first whose last row isn't before the key, or else the last page.
+/// The place of the page where a key belongs: the first whose last row isn't before the key, or the last page.
 /// Logarithmic.
 pub(crate) fn home_of(pages: &[Page], wanted: &Wanted<'_>) -> usize
     requires pages { AreInOrder pages.now }
@@ -22,7 +22,7 @@ pub(crate) fn home_of(pages: &[Page], wanted: &Wanted<'_>) -> usize
     count_below(others, wanted)
 }
 
-/// The page of a key that is known to be at a place or behind it. Logarithmic in how far behind.
+/// The page of a key that is known to be at a place or after it. Logarithmic in the distance.
 pub(crate) fn home_from(pages: &[Page], from: usize, wanted: &Wanted<'_>) -> usize
     requires pages { AreInOrder pages.now }
     requires some { 0 < length pages.now }

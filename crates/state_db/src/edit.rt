@@ -20,7 +20,7 @@ use values::{KeyRef, NameRef};
 #[derive(Drop)]
 pub(crate) struct Edit {
     head: Head,
-    // where in its page the key's row may stand: who goes there compares the key
+    // where in its page the key's row may be: keys are compared there
     place: u32,
     change: Change,
 }
@@ -66,7 +66,7 @@ impl Edit {
         self.place = place;
     }
 
-    /// Where in its page the key's row may stand. No clause speaks of it.
+    /// Where in its page the key's row may be. No clause speaks of it.
     pub fn place(&self) -> usize {
         self.place as usize
     }
@@ -100,7 +100,7 @@ impl Edit {
         self.change.key()
     }
 
-    /// The row, or none where the key is removed.
+    /// The row, or none if the key is removed.
     pub fn row(&self) -> Option<&Row>
         ensures { option_copied result ≡ self.now.1 }
     {
@@ -136,7 +136,7 @@ impl Edit {
         Wanted::with_head(self.head, &self.change.namespace(), key.as_slice())
     }
 
-    /// How its key stands to another.
+    /// The order of its key and another.
     pub fn order(&self, wanted: &Wanted<'_>) -> Ordering
         ensures { result ≡ key_cmp self.now.0 wanted.now }
     {

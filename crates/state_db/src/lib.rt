@@ -1,6 +1,6 @@
 //! The rows of a state in sorted pages, and batches of changes to them.
 //!
-//! A call takes constant time and no memory where it says nothing else.
+//! A call takes constant time and no memory unless its comment says otherwise.
 #![tactic(auto)]
 
 mod apply;
@@ -19,7 +19,7 @@ mod state_db;
 mod update;
 
 pub use batch::Batch;
-pub use looked_up::FoundRows;
+pub use looked_up::{FoundRows, KnownRows};
 pub use room::Room;
 pub use rows::Rows;
 pub use state_db::StateDb;

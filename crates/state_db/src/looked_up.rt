@@ -1,5 +1,5 @@
 //! Rows that were looked up once for keys, and needn't be again.
-ghost use Rattle.std.specs.Prelude.{◌≡◌, ◌++◌, IfSome, OnOk};
+ghost use Rattle.std.specs.Prelude.{◌≡◌, ◌++◌, [], IfSome, OnOk};
 ghost use Rattle.std.specs.Option.{option_copied};
 ghost use Rattle.std.specs.FinMap.{get, find, from_sorted};
 ghost use Rattle.rules.specs.State.{State, key_cmp};
@@ -23,14 +23,16 @@ pub struct FoundRows<'a> {
 
 impl<'a> FoundRows<'a> {
     /// Of no keys. Takes no memory.
-    pub(crate) fn none(alloc: Global) -> FoundRows<'a> {
+    pub(crate) fn none(alloc: Global) -> FoundRows<'a>
+        ensures { result.rows.items ≡ [] }
+    {
         FoundRows {
             rows: Vec::new(alloc),
             places: Vec::new(alloc),
         }
     }
 
-    /// Those of more keys behind these. Takes memory for them.
+    /// Appends those of more keys. Takes memory for them.
     pub fn append(&mut self, more: FoundRows<'a>) -> Result<(), AllocError>
         ensures { OnOk result (self.new.rows.items ≡ self.old.rows.items ++ more.entry.rows.items) }
     {
@@ -48,6 +50,40 @@ impl<'a> FoundRows<'a> {
     }
 }
 
+/// Rows that were looked up of some keys, and for each key of another list a guess which of these it is. No clause speaks
+/// of the guesses: keys are compared.
+#[derive(Clone, Copy)]
+pub struct KnownRows<'k, 'w, 'a> {
+    pub keys: &'k [StateKey<'w>],
+    pub found: &'k FoundRows<'a>,
+    pub guesses: &'k [Option<u32>],
+}
+
+impl<'k, 'w, 'a> KnownRows<'k, 'w, 'a> {
+    /// The row of the key at a place of the other list, and a guess of its place in its page, if it is known.
+    pub(crate) fn at(&self, place: usize, key: &StateKey<'_>) -> Option<(Option<&'a Row>, u32)>
+        ensures { (s : State) → AreRows s self.now.keys.now self.now.found.now.rows.items → IfSome result (λ r. option_copied r.0 ≡ get s key.now) }
+    {
+        let guess = self.guesses.get(place).copied().flatten()? as usize;
+        let row = known_row(self.keys, self.found.rows.as_slice(), guess, key)?;
+        Some((row, self.found.place(guess)))
+    }
+}
+
+/// The row of a key, if that is the known key at this place.
+fn known_row<'a>(
+    keys: &[StateKey<'_>],
+    rows: &[Option<&'a Row>],
+    at: usize,
+    key: &StateKey<'_>,
+) -> Option<Option<&'a Row>>
+    ensures { (s : State) → AreRows s keys.now rows.now → IfSome result (λ row. option_copied row ≡ get s key.now) }
+{
+    let known = keys.get(at)?;
+    let row = rows.get(at)?;
+    if known.is_same(key) { Some(*row) } else { None }
+}
+
 /// The place of the first key, from a place on, that doesn't stand before an edit's. No clause speaks of it: which key stands there is
 /// compared.
 pub(crate) fn passed(keys: &[StateKey<'_>], from: usize, edit: &Edit) -> usize {
@@ -58,7 +94,7 @@ pub(crate) fn passed(keys: &[StateKey<'_>], from: usize, edit: &Edit) -> usize {
     at
 }
 
-/// The row of an edit's key, where that is the key at this place.
+/// The row of an edit's key, if that is the key at this place.
 fn row_at<'a>(
     keys: &[StateKey<'_>],
     rows: &[Option<&'a Row>],
@@ -76,7 +112,7 @@ fn row_at<'a>(
     }
 }
 
-/// The row of an edit's key, and the place among the keys where those behind it are looked for.
+/// The row of an edit's key, and the place among the keys where those after it are looked for.
 pub(crate) fn row_from<'a>(
     pages: &'a [Page],
     keys: &[StateKey<'_>],

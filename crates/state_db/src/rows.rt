@@ -11,7 +11,7 @@ use rules::KeyedRow;
 use state_keys::Wanted;
 use std::marker::Model;
 
-/// Rows of a namespace in the order of their keys, up to before an end, lent one by one. A contract sees the list of
+/// Rows of a namespace in the order of their keys, up to before an end, borrowed one by one. A contract sees the list of
 /// those that are left.
 #[derive(Drop)]
 pub struct Rows<'a> {

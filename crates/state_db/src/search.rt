@@ -4,16 +4,16 @@ ghost use Rattle.state_db.specs.Search.{leading, Falls};
 
 use state_keys::Wanted;
 
-/// What stands in an order by keys.
+/// What is in an order by keys.
 pub(crate) trait Ordered {
     ghost is_below: { StateKey → Self → Bool };
 
-    /// Whether it stands before the key.
+    /// Whether it is before the key.
     fn is_below(&self, wanted: &Wanted<'_>) -> bool
         ensures { result ≡ is_below wanted.now self.now };
 }
 
-/// How many stand before the key, of items in order, where that is in this range. Logarithmic in what the range spans.
+/// How many items in order are before the key, if that is in this range. Logarithmic in the range's length.
 fn count_between<T: Ordered>(items: &[T], wanted: &Wanted<'_>, least: usize, most: usize) -> usize
     requires falls { Falls (T.is_below wanted.now) items.now }
     requires least { least ≤ leading (T.is_below wanted.now) items.now }
@@ -34,7 +34,7 @@ fn count_between<T: Ordered>(items: &[T], wanted: &Wanted<'_>, least: usize, mos
     low
 }
 
-/// How many stand before the key, of items in order. Logarithmic.
+/// How many items in order are before the key. Logarithmic.
 pub(crate) fn count_below<T: Ordered>(items: &[T], wanted: &Wanted<'_>) -> usize
     requires { Falls (T.is_below wanted.now) items.now }
     ensures place { result ≡ leading (T.is_below wanted.now) items.now }
@@ -43,7 +43,7 @@ pub(crate) fn count_below<T: Ordered>(items: &[T], wanted: &Wanted<'_>) -> usize
     count_between(items, wanted, 0, items.len())
 }
 
-/// How many items stand below what is wanted, as by `count_below`. Logarithmic in the answer, and so fast where few do.
+/// How many items are below what is wanted, as by `count_below`. Logarithmic in the result, so fast if few are.
 pub(crate) fn count_few_below<T: Ordered>(items: &[T], wanted: &Wanted<'_>) -> usize
     requires { Falls (T.is_below wanted.now) items.now }
     ensures place { result ≡ leading (T.is_below wanted.now) items.now }

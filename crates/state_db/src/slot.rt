@@ -39,7 +39,7 @@ impl Model for Slot {
 }
 
 impl Slot {
-    /// A row, where the head of its key is known.
+    /// A row, if the head of its key is known.
     pub fn with_head(head: Head, row: Shared<KeyedRow>) -> Slot
         requires head { head ≡ head_of row.0 }
         requires named { IsTrue (is_name row.0.0) }
@@ -71,7 +71,7 @@ impl Slot {
         Wanted::with_head(self.head, &row.namespace(), key.as_slice())
     }
 
-    /// How its key, which has this head, stands to another. Looks at the row only where the heads don't tell.
+    /// The order of its key, which has this head, and another. Reads the row only if the heads are the same.
     pub fn order_with(&self, head: &Head, wanted: &Wanted<'_>) -> Ordering
         requires { head.now ≡ head_of self.now.0 }
         ensures { result ≡ key_cmp self.now.0 wanted.now }
@@ -87,7 +87,7 @@ impl Slot {
         }
     }
 
-    /// How its key stands to another.
+    /// The order of its key and another.
     pub fn order(&self, wanted: &Wanted<'_>) -> Ordering
         ensures { result ≡ key_cmp self.now.0 wanted.now }
     {

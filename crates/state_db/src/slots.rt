@@ -55,7 +55,7 @@ fn is_at(rows: &[Slot], place: usize, wanted: &Wanted<'_>) -> bool
     }
 }
 
-/// How many rows stand before the key: as many as was guessed, where it stands there. Else a search.
+/// How many rows are before the key: as many as was guessed, if it is there. Otherwise a search.
 fn place_from(rows: &[Slot], guess: usize, wanted: &Wanted<'_>) -> usize
     requires { IsSorted rows.now }
     ensures place { result ≡ leading (is_below wanted.now) rows.now }

@@ -8,7 +8,7 @@ use crate::edit::Edit;
 use crate::page::{MAX_ROWS, Page};
 use std::alloc::{AllocError, Global};
 
-/// Has at least so many empty pages in stock.
+/// Has at least this many empty pages in stock.
 pub(crate) fn stock(alloc: Global, spare: &mut Vec<Page>, count: usize) -> Result<(), AllocError>
     requires empty { AreEmpty spare.old.items }
     ensures empty { AreEmpty spare.new.items }
@@ -20,7 +20,7 @@ pub(crate) fn stock(alloc: Global, spare: &mut Vec<Page>, count: usize) -> Resul
     Ok(())
 }
 
-/// How often a page of so many rows is to be split: each split of 257 leaves 128 and 129.
+/// How often a page of this many rows is split: each split of 257 leaves 128 and 129.
 pub(crate) fn splits(rows: usize) -> usize
     ensures { result ≡ splits rows }
 {

@@ -13,7 +13,7 @@ use crate::apply::{edit_pages, first_pages};
 use crate::batch::Batch;
 use crate::directory::{Found, row_near, row_of};
 use crate::edit::Edit;
-use crate::looked_up::FoundRows;
+use crate::looked_up::{FoundRows, KnownRows};
 use crate::page::{MAX_ROWS, Page};
 use crate::room::Room;
 use crate::rows::{Rows, rows_from};
@@ -26,7 +26,7 @@ use std::marker::Model;
 use std::mem::replace;
 use values::{BoundRef, KeyRef, NameRef};
 
-/// The rows of a state, in pages of 1 to 256 rows: all rows of an earlier page stand before those of a later one. A
+/// The rows of a state, in pages of 1 to 256 rows: all rows of an earlier page are before those of a later one. A
 /// contract sees the state, beside it how many rows each page has.
 #[derive(Drop)]
 pub struct StateDb {
@@ -53,6 +53,32 @@ impl Model for StateDb {
     ghost view = { λ s. paged s.pages.items };
 
     ghost invariant = { λ s. ArePages s.pages.items × AreEmpty s.spare.items × (s.shares.items ≡ []) };
+}
+
+/// The page of the last key that was looked up, which is a guess of the next one's while keys are in their order. No
+/// clause speaks of it.
+#[derive(Clone, Copy)]
+struct LastPage {
+    page: usize,
+    is_in_order: bool,
+}
+
+impl LastPage {
+    fn none() -> LastPage {
+        LastPage {
+            page: 0,
+            is_in_order: true,
+        }
+    }
+
+    fn guess(&self) -> usize {
+        if self.is_in_order { self.page } else { 0 }
+    }
+
+    fn set(&mut self, page: usize) {
+        self.is_in_order = self.is_in_order && self.page <= page;
+        self.page = page;
+    }
 }
 
 impl StateDb {
@@ -90,6 +116,33 @@ impl StateDb {
         row_near(self.pages.as_slice(), guess, &key.wanted())
     }
 
+    /// The row of a key and its place in its page, looked for first near the last key.
+    fn found_after(&self, last: &mut LastPage, key: &StateKey<'_>) -> (Option<&Row>, u32)
+        ensures { option_copied result.0 ≡ get self.now.state key.now }
+    {
+        let found = self.found_near(last.guess(), key);
+        last.set(found.page);
+        // a page has few rows
+        (found.row, found.place.min(MAX_ROWS) as u32)
+    }
+
+    /// The same of the key at a place of a list, of which some rows may be known.
+    fn known_or_found<'a>(
+        &'a self,
+        known: &KnownRows<'_, '_, 'a>,
+        place: usize,
+        last: &mut LastPage,
+        key: &StateKey<'_>,
+    ) -> (Option<&'a Row>, u32)
+        requires { AreRows self.now.state known.now.keys.now known.now.found.now.rows.items }
+        ensures { option_copied result.0 ≡ get self.now.state key.now }
+    {
+        match known.at(place, key) {
+            Some(row) => row,
+            None => self.found_after(last, key),
+        }
+    }
+
     /// The rows of keys, each at its key's place. A look-up for each, which takes less if the keys are in their order;
     /// memory for lists of them.
     pub fn rows_of<'a>(
@@ -99,19 +152,33 @@ impl StateDb {
     ) -> Result<FoundRows<'a>, AllocError>
         ensures { IfOk result (λ found. AreRows self.now.state keys.now found.rows.items) }
     {
+        let none = FoundRows::none(alloc);
+        let known = KnownRows {
+            keys: &[],
+            found: &none,
+            guesses: &[],
+        };
+        self.rows_beside(alloc, keys, &known)
+    }
+
+    /// The rows of keys, of which some rows are known, each at its key's place. A comparison for each of which a guess is
+    /// right; else as [`rows_of`](StateDb::rows_of).
+    pub fn rows_beside<'a>(
+        &'a self,
+        alloc: Global,
+        keys: &[StateKey<'_>],
+        known: &KnownRows<'_, '_, 'a>,
+    ) -> Result<FoundRows<'a>, AllocError>
+        requires { AreRows self.now.state known.now.keys.now known.now.found.now.rows.items }
+        ensures { IfOk result (λ found. AreRows self.now.state keys.now found.rows.items) }
+    {
         let mut rows = Vec::with_capacity(alloc, keys.len())?;
         let mut places = Vec::with_capacity(alloc, keys.len())?;
-        let mut page = 0;
-        let mut is_in_order = true;
-        for key in keys {
-            // if keys have no order the last page is no guess of the next one
-            let guess = if is_in_order { page } else { 0 };
-            let found = self.found_near(guess, key);
-            is_in_order = is_in_order && page <= found.page;
-            page = found.page;
-            rows.push(found.row)?;
-            // a page has few rows
-            places.push(found.place.min(MAX_ROWS) as u32)?;
+        let mut last = LastPage::none();
+        for (place, key) in keys.iter().enumerate() {
+            let (row, in_page) = self.known_or_found(known, place, &mut last, key);
+            rows.push(row)?;
+            places.push(in_page)?;
         }
         Ok(FoundRows { rows, places })
     }

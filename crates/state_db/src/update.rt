@@ -1,4 +1,4 @@
-//! The rows that a batch would make differ, spelled.
+//! The rows that a batch would make differ, encoded.
 ghost use Rattle.std.specs.Prelude.{◌≡◌, ◌<◌, ◌^◌, ◌≤◌, ◌+◌, ◌++◌, ◌∷◌, [], length, drop, string_bytes, IfOk, OnOk};
 ghost use Rattle.std.specs.List.{flat_map};
 ghost use Rattle.std.specs.Option.{option_copied};
@@ -23,8 +23,31 @@ use std::alloc::{AllocError, Global};
 use transaction::{Version, put_counted8, put_counted16, put_counted32, put_u32, put_u64};
 use values::Shared;
 
-// What a row with a short key takes beside its value and its policy.
-const ROW_BYTES: usize = 48;
+// The count of edits, and what an edit takes besides its namespace, its key, and its row's value and policy.
+const COUNT_BYTES: usize = 4;
+
+const EDIT_BYTES: usize = 22;
+
+fn value_len(row: &Row) -> usize {
+    row.value.as_slice().len()
+}
+
+/// How many bytes an edit takes, but for a policy.
+fn room_for_one(edit: &Edit) -> usize {
+    EDIT_BYTES
+        .saturating_add(edit.namespace().len())
+        .saturating_add(edit.key().as_slice().len())
+        .saturating_add(edit.row().map_or(0, value_len))
+}
+
+/// How many bytes these edits take if each makes its row differ, but for policies.
+fn room_for(edits: &[Edit]) -> usize {
+    let mut room = COUNT_BYTES;
+    for edit in edits {
+        room = room.saturating_add(room_for_one(edit));
+    }
+    room
+}
 
 fn put_version(out: &mut Vec<u8>, version: Version) -> Result<(), AllocError>
     ensures { OnOk result (out.new.items ≡ out.old.items ++ version_bytes version) }
@@ -33,7 +56,7 @@ fn put_version(out: &mut Vec<u8>, version: Version) -> Result<(), AllocError>
     put_u32(out, version.tx)
 }
 
-/// The canonical text of a policy, and no text where there is none.
+/// The canonical text of a policy, or no text if there is none.
 fn text_of(alloc: Global, policy: &Option<Shared<Policy>>) -> Result<String, AllocError>
     ensures { IfOk result (λ text. string_bytes text ≡ policy_text policy.now) }
 {
@@ -97,7 +120,7 @@ fn is_same_policy(
     Ok(a.as_bytes() == b.as_bytes())
 }
 
-/// A block gives what it writes versions of its own, so that these mostly tell rows apart.
+/// What a block writes has versions of its own, so that these mostly distinguish rows.
 fn is_same_row(alloc: Global, a: &Row, b: &Row) -> Result<bool, AllocError>
     ensures { IfOk result (λ same. same ≡ is_same_row a.now b.now) }
 {
@@ -121,7 +144,7 @@ fn is_unchanged(
     }
 }
 
-/// Adds an edit where it makes the row differ that its key had, and counts it.
+/// Adds an edit if it makes the row differ that its key had, and counts it.
 fn put_if_changing(
     alloc: Global,
     out: &mut Vec<u8>,
@@ -174,8 +197,8 @@ fn set_count(out: &mut [u8], count: usize)
     out[..4].copy_from_slice(&bytes[4..]);
 }
 
-/// How many edits make a row of these pages differ, and each of them. The count stands in front, and is known last. The rows of some
-/// keys are known.
+/// How many edits make a row of these pages differ, and each of them. The count stands in front, and is known last. The
+/// rows of some keys are known.
 pub(crate) fn update_of<'a>(
     alloc: Global,
     pages: &'a [Page],
@@ -187,7 +210,7 @@ pub(crate) fn update_of<'a>(
     requires rows { AreRows (from_sorted (joined pages.now)) keys.now rows.now }
     ensures { IfOk result (λ bytes. bytes.items ≡ listed 4 change_bytes (changing (joined pages.now) edits.now)) }
 {
-    let mut out = Vec::with_capacity(alloc, edits.len().saturating_mul(ROW_BYTES))?;
+    let mut out = Vec::with_capacity(alloc, room_for(edits))?;
     out.extend_from_slice(&[0; 4])?;
     let count = put_changing(alloc, &mut out, pages, keys, rows, edits)?;
     set_count(out.as_mut_slice(), count);

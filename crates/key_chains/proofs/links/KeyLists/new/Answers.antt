@@ -1,7 +1,0 @@
-use Rattle.std.proofs.Common.{ap, ◌∙◌}
-use Rattle.key_chains.specs.Lists.{lists_of}
-use Rattle.key_chains.proofs.Chaining.{lists-none}
-use Rattle.key_chains.proofs.links.KeyLists.new.Goals as goal
-
-pub returns : goal.returns
-returns g c = λ i. ((ap lists_of c.new.ensures.items ∙ lists-none) i, c.in_ok-no_links.ensures i)
