@@ -1,4 +1,4 @@
--- What an answer that reading gives says of the bytes.
+-- What the result of reading shows about the bytes.
 use Rattle.std.proofs.Common.{◌≡◌, ◌⊎◌, ℕ, List, Result, Ok, Err, refl, sym, ◌∙◌, inl, inr}
 use Rattle.std.specs.Prelude.{IfOk, IfErr}
 use Rattle.values.specs.Memory.{GivesUnless}
@@ -18,7 +18,7 @@ Answer = Result Block BlockFault
 abbrev IsGiven : Answer → Answer → Type 0
 IsGiven r read = Gives (λ b. b) r read
 
--- the answer is what reading gives, or Memory
+-- the answer is the result of reading, or Memory
 given_or_memory : (r read : Answer) → IsGiven r read → GivesUnless Memory r read
 given_or_memory (Ok b) read h = inl (sym h)
 given_or_memory (Err BadMagic) read h = inl (sym h)
@@ -37,7 +37,7 @@ pub is_one_block : (bytes : List ℕ) (r : Answer) → IsGiven r (versioned_at b
 is_one_block bytes (Ok b) h = λ other spells. ok_is other b (sym (block_again other bytes spells) ∙ h)
 is_one_block bytes (Err f) h = tt
 
--- no value has two spellings
+-- no value has two encodings
 pub one_spelling : (x y : List ℕ) (b : Block) → Spells x b → Spells y b → x ≡ y
 one_spelling x y b s t = s.fields ∙ sym t.fields
 
@@ -64,7 +64,7 @@ is_faulty bytes (Err Memory) fits h = inl refl
 pub is_refused : (bytes : List ℕ) (r : Answer) (f : BlockFault) → IsGiven r (versioned_at bytes) → HasFault bytes f → GivesUnless Memory r (Err f)
 is_refused bytes r f h faulty = along r (versioned_at bytes) (Err f) (block_fails_again bytes f faulty) h
 
--- ---- laws of the grammar
+-- ---- what is proved of the grammar
 
 abbrev block_read : Block → Answer
 block_read b = Ok b

@@ -1,4 +1,4 @@
--- Blocks: what is read is what was spelled, and what was spelled is read again.
+-- Blocks: what is read is what was encoded, and what was encoded is read again.
 use Rattle.std.proofs.Common.{◌≡◌, ℕ, zero, suc, ◌≤◌, Bool, cond, eqb, ltb, List, [], ◌∷◌, ◌++◌, length, Ok, Err, refl, sym, ap, subst, ◌∙◌, append_assoc, arith}
 use Rattle.std.specs.List.{flat_map, AllByRecursion}
 use Rattle.std.proofs.lemmas.Bool.{eqb-true, ltb-false, le-ltb}
@@ -85,7 +85,7 @@ txs_again (tx ∷ txs) rest each =
     ∙ ap (λ (r : Read (List ℕ)). r >>= after_tx (length txs)) (tx_again tx (flat_map tx_bytes txs ++ rest) each.0)
     ∙ ap (λ (r : Read Txs). r >>= in_front tx) (txs_again txs rest each.1)
 
--- the fields of a block, with what is left behind each
+-- the fields of a block, with what is left after each
 spelled_by : (front count bytes a b txs rest : List ℕ) → bytes ≡ front ++ a → a ≡ count ++ b → b ≡ txs ++ rest → bytes ≡ (front ++ (count ++ txs)) ++ rest
 spelled_by front count bytes a b txs rest e f g = e ∙ ap (λ (t : List ℕ). front ++ t) (f ∙ ap (λ (t : List ℕ). count ++ t) g) ∙ (simp append_assoc)
 
@@ -110,7 +110,7 @@ block_taken bytes x fits e =
     let spells : Spells bytes made = record { header = header.1; count = few; each = txs.each; fields = fields } in
     subst (λ (b : Block). Spells bytes b) (ok_is made x g.1) spells
 
--- what reading makes of a front that spells a block
+-- what reading returns for a front that encodes a block
 pub front_again : (b : Block) (front rest : List ℕ) → Spells front b
     → block_at (front ++ rest) ≡ cond (eqb (length rest) 0) (Ok b) (Err TrailingBytes)
 unfolding block_at

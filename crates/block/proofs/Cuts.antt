@@ -1,4 +1,4 @@
--- A proper beginning of a spelling has one fault: that it ends too early.
+-- A proper beginning of an encoding has one fault: that it ends too early.
 use Rattle.std.proofs.Common.{◌≡◌, ℕ, ◌<◌, ◌≤◌, ◌+◌, ◌⊎◌, List, ◌∷◌, ◌++◌, length, take, drop, inl, inr, refl, sym, ap, ◌∙◌, append_assoc, arith}
 use Rattle.std.proofs.lemmas.List.{take-append-le, take-append-drop, length-append}
 use Rattle.byteorder.specs.Endian.{big_bytes}
@@ -47,7 +47,7 @@ only_cut front rest b TrailingBytes spells long h =
     absurd (block_or_fault (front ++ rest) b TrailingBytes spells (h.0, h.1, h.2 ++ rest, h.3, whole, some_left))
 only_cut front rest b Memory spells long h = absurd h
 
--- a block that ends before the whole leaves bytes behind itself
+-- a block that ends before the whole leaves bytes after itself
 no_block : (front rest : List ℕ) (b c : Block) → Spells (front ++ rest) b → 0 < length rest → Spells front c → ⊥
 no_block front rest b c spells some_left ends = block_or_fault (front ++ rest) b TrailingBytes spells (c, front, rest, ends, refl, some_left)
 

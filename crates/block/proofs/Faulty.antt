@@ -150,7 +150,7 @@ tx_fails bytes h n txs rest f fits reached e k =
         let at : bytes ≡ (header_bytes h ++ txs_bytes n txs ++ big_bytes 4 len.0) ++ len.1 = two (header_bytes h ++ txs_bytes n txs) (big_bytes 4 len.0) len.1 bytes rest e read.0 in
         short bytes (tx h n txs len.0) len.1 f ((reached.0, reached.1, reached.2, reached.3, small), at) (bytes_fail len.0 len.1 f g.1)
 
--- three joined, of which the last two stand together
+-- three joined, the last two of them together
 behind_header : (a b c rest bytes r s : List ℕ) → bytes ≡ a ++ r → r ≡ b ++ s → s ≡ c ++ rest → bytes ≡ (a ++ (b ++ c)) ++ rest
 behind_header a b c rest bytes r s e f g = e ∙ ap (λ (t : List ℕ). a ++ t) (f ∙ ap (λ (t : List ℕ). b ++ t) g) ∙ (simp append_assoc)
 

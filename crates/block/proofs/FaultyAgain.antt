@@ -27,7 +27,7 @@ magic_refused bytes true t h =
     let read : magic_at bytes ≡ Ok (drop 4 bytes) = ap (λ (b : Bool). cond b (Ok (drop 4 bytes)) (Err BadMagic)) t in
     absurd (h (drop 4 bytes) (magic_taken bytes (drop 4 bytes) read))
 
--- ---- what is read behind fields that can be read
+-- ---- what is read after fields that can be read
 
 at_number : (rest : List ℕ) → block_at (magic ++ rest) ≡ (after_magic rest >>= after_header)
 unfolding block_at header_at

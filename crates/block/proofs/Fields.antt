@@ -1,4 +1,5 @@
--- Fields of a fixed size: what is read is what was spelled, what was spelled is read again, and too few bytes are refused.
+-- Fields of a fixed size: what is read is what was encoded, what was encoded is read again, and too few bytes are
+-- refused.
 use Rattle.std.proofs.Common.{◌≡◌, ℕ, ◌^◌, ◌<◌, ◌≤◌, false, ltb, List, ◌++◌, length, take, drop, Ok, Err, refl, sym, ap, subst, ◌∙◌, arith, inl, inr}
 use Rattle.std.proofs.lemmas.Bool.{ltb-false, ltb-true, le-ltb, lt-ltb}
 use Rattle.std.proofs.lemmas.List.{take_at, drop_at, take-append-drop, length-append, length-take}
@@ -10,7 +11,7 @@ use Rattle.block.specs.declared.fault.BlockFault.TheVariants.{Truncated}
 use Rattle.block.specs.Reading.{bytes_at, number_at}
 use Rattle.block.proofs.Steps.{refused_ok, refused_err, ok_is, ok_not_err}
 
--- ---- so many bytes
+-- ---- n bytes
 
 pub bytes_taken : (n : ℕ) (bytes : List ℕ) (x : List ℕ × List ℕ) → bytes_at n bytes ≡ Ok x → (bytes ≡ x.0 ++ x.1) × (length x.0 ≡ n)
 bytes_taken n bytes x e =
@@ -34,7 +35,7 @@ bytes_fail n bytes f e =
 pub bytes_fail_again : (n : ℕ) (bytes : List ℕ) → length bytes < n → bytes_at n bytes ≡ Err Truncated
 bytes_fail_again n bytes lt = rw (lt-ltb _ _ lt) refl
 
--- ---- a number in so many bytes
+-- ---- a number in n bytes
 
 pub number_taken : (k : ℕ) (wide : IsWide k) (bytes : List ℕ) (x : ℕ × List ℕ) → IsBytes bytes → number_at k bytes ≡ Ok x → (bytes ≡ big_bytes k x.0 ++ x.1) × (x.0 < 256 ^ k)
 number_taken k wide bytes x fits e =

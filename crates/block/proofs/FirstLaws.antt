@@ -1,4 +1,4 @@
--- Laws of the grammar of version 1: bytes are one block or have one fault, and not both.
+-- What is proved of the grammar of version 1: bytes are one block or have one fault, and not both.
 use Rattle.std.proofs.Common.{◌≡◌, ◌⊎◌, ℕ, List, Result, Ok, Err, refl, sym, ◌∙◌, inl, inr}
 use Rattle.block.specs.declared.fault.BlockFault.{BlockFault}
 use Rattle.block.specs.first_version.Grammar.{Block, Spells}

@@ -1,4 +1,4 @@
--- What is read behind each field, as steps with names.
+-- What is read after each field, as steps with names.
 use Rattle.std.proofs.Common.{ℕ, cond, eqb, ltb, List, ◌∷◌, length, Result, Ok, Err}
 use Rattle.block.specs.first_version.Grammar.{Block}
 use Rattle.block.specs.declared.block.Header.{Header}

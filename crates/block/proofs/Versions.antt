@@ -1,4 +1,4 @@
--- Blocks of either version: their magic, and behind it what is read as version 1.
+-- Blocks of either version: their magic, and after it what is read as version 1.
 use Rattle.std.proofs.Common.{◌≡◌, ◌≢◌, ◌⊎◌, ℕ, zero, suc, Bool, true, false, cond, List, [], ◌∷◌, ◌++◌, length, take, drop, Result, Ok, Err, refl, sym, ap, subst, ◌∙◌, inl, inr, arith}
 use Rattle.std.specs.Prelude.{nat_eq}
 use Rattle.std.specs.List.{starts_with}
@@ -72,7 +72,7 @@ version_refused bytes none = by_1 (begins bytes V1) refl
     by_1 true t = absurd (none V1 (drop 4 bytes) (begins_with V1 bytes (same_text (magic_of V1) (take 4 bytes) (sym t))))
     by_1 false t = by_2 (begins bytes V2) refl
 
--- ---- what a block spells, and what version 1 spells behind its own magic
+-- ---- what a block encodes, and what version 1 encodes after its own magic
 
 pub as_first : (bytes rest : List ℕ) (b : Block) → Spells bytes b → bytes ≡ magic_of b.version ++ rest → first.Spells (first.magic ++ rest) (contents_of b)
 as_first bytes rest b s e =

@@ -1,4 +1,4 @@
--- A block is within its limits exactly where it has a spelling.
+-- A block is within its limits exactly if it has an encoding.
 use Rattle.std.proofs.Common.{◌≡◌, ℕ, true, List, [], ◌∷◌, ◌++◌, length, refl}
 use Rattle.std.specs.List.{list_all, AllByRecursion}
 use Rattle.std.proofs.lemmas.Bool.{leb-true, le-leb, and_parts}

@@ -1,4 +1,4 @@
--- Worked rows of both versions: magics, and blocks and faults behind them.
+-- Worked rows of both versions: magics, and blocks and faults after them.
 use Rattle.std.proofs.Common.{◌≡◌, ℕ, List, [], ◌∷◌, ◌++◌, take, drop, get_or, refl, ap, arith}
 use Rattle.transaction.specs.declared.block_version.BlockVersion.{BlockVersion}
 use Rattle.transaction.specs.declared.block_version.BlockVersion.TheVariants.{V1, V2}
@@ -19,11 +19,11 @@ starts_with_FBK1 = refl
 starts_with_FBK2 : take 4 (bytes_of (empty V2)) ≡ 0x46 ∷ 0x42 ∷ 0x4b ∷ 0x32 ∷ []
 starts_with_FBK2 = refl
 
--- as they were spelled when there was one version
+-- as they were encoded when there was one version
 same_bytes_as_ever : bytes_of (empty V1) ≡ first.block_0
 same_bytes_as_ever = refl
 
--- the version is told by the magic alone
+-- only the magic distinguishes the versions
 same_behind_the_magic : drop 4 (bytes_of (empty V2)) ≡ drop 4 (bytes_of (empty V1))
 same_behind_the_magic = refl
 

@@ -1,4 +1,4 @@
--- The fault of bytes that spell no block: that of the first field, from left to right, that can't be read.
+-- The fault of bytes that encode no block: that of the first field, from left to right, that can't be read.
 use Rattle.std.specs.Prelude.{◌≡◌, ◌≢◌, ℕ, List, ◌++◌}
 use Rattle.transaction.specs.declared.block_version.BlockVersion.{BlockVersion}
 use Rattle.block.specs.declared.fault.BlockFault.{BlockFault}
@@ -7,7 +7,7 @@ use Rattle.block.specs.Grammar.{magic_of}
 use Rattle.block.specs.first_version.Grammar.{magic}
 use Rattle.block.specs.first_version.Faults as first
 
--- behind a magic the fault is that of the same bytes behind the magic of version 1
+-- after a magic the fault is that of the same bytes after the magic of version 1
 abbrev pub HasFaultBehind : List ℕ → BlockFault → Type 0
 HasFaultBehind bytes fault = (version : BlockVersion) × (rest : List ℕ) × (bytes ≡ magic_of version ++ rest) × first.HasFault (magic ++ rest) fault
 

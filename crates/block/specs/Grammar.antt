@@ -1,4 +1,4 @@
--- The block grammar: which bytes spell which block.
+-- The block grammar: which bytes encode which block.
 use Rattle.std.specs.Prelude.{◌≡◌, ℕ, ◌≤◌, List, [], ◌∷◌, ◌++◌, length}
 use Rattle.std.specs.List.{AllByRecursion}
 use Rattle.byteorder.specs.Endian.{big_bytes}
@@ -24,14 +24,14 @@ header_fields h = big_bytes 8 h.number ++ first.previous_bytes h.previous ++ h.d
 abbrev pub bytes_of : Block → List ℕ
 bytes_of b = magic_of b.version ++ (header_fields b.header ++ first.txs_bytes (length b.txs) b.txs)
 
--- The bytes spell the block, each field within its limits, and nothing stands behind them.
+-- The bytes encode the block, each field within its limits, and nothing follows them.
 pub record Spells (bytes : List ℕ) (b : Block) : Type 0 where
   pub header : first.IsHeader b.header
   pub count : length b.txs ≤ max_txs
   pub each : AllByRecursion first.IsTx b.txs
   pub fields : bytes ≡ bytes_of b
 
--- ---- what stands behind the magic
+-- ---- what follows the magic
 
 abbrev pub contents_of : Block → first.Block
 contents_of b = record { header = b.header; txs = b.txs }

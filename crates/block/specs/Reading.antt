@@ -17,7 +17,7 @@ use Rattle.block.specs.declared.fault.BlockFault.TheVariants.{BadMagic, Truncate
 use Rattle.block.specs.first_version.Grammar.{Block, magic}
 use Rattle.block.specs.Grammar.{magic_of, with_version}
 
--- a value and the bytes behind it
+-- a value and the bytes after it
 abbrev pub Read : Type 0 → Type 0
 Read A = Result (A × List ℕ) BlockFault
 
@@ -26,7 +26,7 @@ abbrev pub ◌>>=◌ : {A B : Type 0} → Result A BlockFault → (A → Result 
 (Ok x) >>= f = f x
 (Err e) >>= f = Err e
 
--- a function answered, seen by view, what reading gives; Memory may stand for anything
+-- the function returned, seen by view, what reading gives; Memory may replace anything
 abbrev pub Fails : {Y : Type 0} → BlockFault → Result Y BlockFault → Type 0
 Fails BadMagic read = read ≡ Err BadMagic
 Fails Truncated read = read ≡ Err Truncated
@@ -97,7 +97,7 @@ version_at bytes =
     else if starts_with nat_eq bytes (magic_of V2) then Ok (V2, drop 4 bytes)
     else Err BadMagic
 
--- behind its magic a block is read as one of version 1
+-- after its magic a block is read as one of version 1
 unfoldable pub versioned_at : List ℕ → Result versioned.Block BlockFault
 versioned_at bytes = do
   version ← version_at bytes

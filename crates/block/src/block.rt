@@ -23,7 +23,7 @@ pub struct Header {
     pub data_hash: Hash,
 }
 
-/// A version, a header, and the bytes of each transaction in order, lent.
+/// A version, a header, and the bytes of each transaction in order, borrowed.
 #[derive(Drop)]
 pub struct Block<'a> {
     /// The header's hash doesn't cover it.

@@ -9,13 +9,13 @@ ghost use Rattle.block.specs.first_version.Faults as first_faults;
 
 use crate::block::MAX_TXS;
 
-/// A law, and no work: the limits of this code are those that the definitions name.
+/// Proved (the function does nothing at run time): the limits of this code are those that the definitions name.
 pub fn limits_are_the_definitions()
     ensures { MAX_TXS ≡ max_txs }
 {}
 
-/// Laws of the block grammar, and no work: no two blocks share a spelling, no block has two, no bytes
-/// have two faults, and each string of bytes has a block or a fault, and not both.
+/// Proved (the function does nothing at run time): no two blocks share an encoding, no block has two, no bytes have two
+/// faults, and each byte string has a block or a fault, and not both.
 pub fn one_reading()
     ensures one_block { (bytes : List ℕ) (a b : Block) → Spells bytes a → Spells bytes b → a ≡ b }
     ensures one_spelling { (x y : List ℕ) (b : Block) → Spells x b → Spells y b → x ≡ y }
@@ -24,8 +24,9 @@ pub fn one_reading()
     ensures some_reading { (bytes : List ℕ) → ((i : ℕ) → slice_index bytes i < 256) → ((b : Block) × Spells bytes b) ⊎ ((f : BlockFault) × HasFault bytes f) }
 {}
 
-/// Laws of the grammar of version 1 alone, as it was when there was no other, and no work: no two blocks share a
-/// spelling, no block has two, no bytes have two faults, and each string of bytes has a block or a fault, and not both.
+/// Proved of the grammar of version 1, as it was when there was no other (the function does nothing at run time): no
+/// two blocks share an encoding, no block has two, no bytes have two faults, and each byte string has a block or a
+/// fault, and not both.
 pub fn one_first_version_reading()
     ensures one_block { (bytes : List ℕ) (a b : first.Block) → first.Spells bytes a → first.Spells bytes b → a ≡ b }
     ensures one_spelling { (x y : List ℕ) (b : first.Block) → first.Spells x b → first.Spells y b → x ≡ y }

@@ -1,7 +1,7 @@
-//! Blocks: their types, which lend from the bytes that they were decoded from, and their bytes both ways.
+//! Blocks: their types, which borrow from the bytes that they were decoded from, and their bytes both ways.
 //!
-//! What stands in a block's places has its names here too: who decodes and encodes blocks, transactions, updates and
-//! identities names this crate alone.
+//! The contents of a block's places have their names here too: code that decodes and encodes blocks, transactions,
+//! updates and identities needs to name only this crate.
 #![tactic(auto)]
 
 mod block;

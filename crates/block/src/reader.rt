@@ -128,7 +128,7 @@ fn read_tx(bytes: &[u8]) -> Result<(Slice<'_>, &[u8]), BlockFault>
 // The fewest bytes of a transaction in a block: those of its length.
 const LEAST_BYTES: usize = 4;
 
-// No transactions yet, and room for so many, but for no more than the bytes can spell: a count isn't believed.
+// No transactions yet, and room for this many, but for no more than the bytes can encode: a count isn't believed.
 fn room_for<'a>(alloc: Global, count: u32, bytes: &[u8]) -> Result<Vec<Slice<'a>>, AllocError>
     ensures empty { IfOk result (λ room. room.items ≡ []) }
     ensures room { IfOk result (λ room. LEAST_BYTES * vec_capacity room ≤ length bytes.now) }
@@ -180,20 +180,20 @@ fn read_block(alloc: Global, bytes: &[u8]) -> Result<Block<'_>, BlockFault>
     })
 }
 
-/// The block that the bytes spell, which it lends, or the fault of the first field from the left that can't be read.
-/// Time is linear in the number of transactions, whatever their length. Memory is for their list alone, made at once:
-/// 16 bytes for each, and at most 4 for each byte behind the count, which isn't believed.
+/// The block that the bytes encode, which borrows them, or the fault of the first field from the left that can't be
+/// read. Time is linear in the number of transactions, for any length of theirs. Memory is for their list only, made at
+/// once: 16 bytes for each, and at most 4 for each byte after the count, which isn't believed.
 pub fn decode_block(alloc: Global, bytes: &[u8]) -> Result<Block<'_>, BlockFault>
-    // The bytes spell what is answered, no other block has this spelling, and the block has no other.
+    // The bytes encode the block that is returned, no other block has this encoding, and the block has no other.
     ensures found { IfOk result (λ b. Spells bytes.now b) }
     ensures one_block { IfOk result (λ b. (other : Block) → Spells bytes.now other → other ≡ b) }
     ensures one_spelling { IfOk result (λ b. (other : List ℕ) → Spells other b → other ≡ bytes.now) }
-    // A block that is spelled is answered.
+    // A block that the bytes encode is returned.
     ensures spelled { (b : Block) → Spells bytes.now b → GivesUnless Memory result (Ok b) }
-    // The fault that is answered is that of the bytes, and the fault of the bytes is answered.
+    // The fault that is returned is that of the bytes, and the fault of the bytes is returned.
     ensures fault { IfErr result (λ f. (f ≡ Memory) ⊎ HasFault bytes.now f) }
     ensures faulty { (f : BlockFault) → HasFault bytes.now f → GivesUnless Memory result (Err f) }
-    // A block that breaks off is refused: within the magic as no block, behind it as cut, wherever that is.
+    // A block that breaks off is rejected: within the magic as no block, after it as cut, wherever that is.
     ensures cut_magic { (rest : List ℕ) (b : Block) → Spells (bytes.now ++ rest) b → length bytes.now < 4 → GivesUnless Memory result (Err BadMagic) }
     ensures cut { (rest : List ℕ) (b : Block) → Spells (bytes.now ++ rest) b → 0 < length rest → 4 ≤ length bytes.now → GivesUnless Memory result (Err Truncated) }
 {

@@ -80,11 +80,11 @@ fn are_within_limits(txs: &[Slice<'_>]) -> bool
     txs.len() <= MAX_TXS && are_short(txs)
 }
 
-/// The bytes that spell the block. Linear in them, in time and memory: a block within its limits has
-/// at most 4,294,983,761 bytes.
+/// The bytes that encode the block. Linear in them, in time and memory: a block within its limits has at most
+/// 4,294,983,761 bytes.
 pub fn encode_block(alloc: Global, block: &Block<'_>) -> Result<Bytes, EncodeFault>
     ensures spelled { IfOk result (λ bytes. Spells bytes block.now) }
-    // A block that has a spelling gets it.
+    // A block that has an encoding gets it.
     ensures encoded { (bytes : List ℕ) → Spells bytes block.now → GivesUnless Memory result (Ok bytes) }
     ensures too_large { result ≡ Err TooLarge → (bytes : List ℕ) → ¬ Spells bytes block.now }
 {

@@ -1,4 +1,4 @@
--- Read and write sets in form, part by part.
+-- Well-formed read and write sets, part by part.
 use Rattle.std.proofs.Common.{◌≡◌, Bool, true, false, ◌&&◌, List, [], ◌∷◌, map, refl, sym, ap, ◌∙◌}
 use Rattle.std.specs.List.{list_all}
 use Rattle.transaction.specs.declared.transaction.Range.{Range}

@@ -1,4 +1,5 @@
--- What a transaction writes, in the order of the keys and with neighbours of one key joined, is what it writes at each key.
+-- What a transaction writes, in the order of the keys and with neighbours of one key joined, is what it writes at each
+-- key.
 use Rattle.std.proofs.Common.{◌≡◌, ◌+◌, ◌<◌, Bool, true, false, cond, ◌&&◌, ◌||◌, List, [], ◌∷◌, map, length, Option, Some, None, is_some, refl, sym, ap, subst, ◌∙◌, arith}
 use Rattle.std.specs.Ordering.{eq_by_cmp, is_lt}
 use Rattle.std.specs.Cmp.Lexicographic.{nat_list_eq_equiv}
@@ -91,7 +92,7 @@ parts_joined : (tx : Tx) (ws : List WrittenKey) → AllByRecursion (IsPartOf tx)
 parts_joined tx [] all = tt
 parts_joined tx (w ∷ ws) all = parts_from tx ws w all.0 all.1
 
--- ---- where no key repeats, what is there of a key is its own
+-- ---- if no key repeats, what is written at a key is its own
 
 abbrev at_key : (WrittenKey → Bool) → StateKey → WrittenKey → Bool
 at_key p k w = is_same_key k w.key && p w

@@ -29,7 +29,7 @@ same_mark (Some u) None e = cc
 
 -- ---- `dedup`
 
--- a test that tells none of the same items apart
+-- a test that has one result for items that are the same
 abbrev Respects : {X : Type 0} → (X → X → Bool) → (X → Bool) → Type 0
 Respects {X} E p = (x y : X) → E x y ≡ true → p x ≡ p y
 
@@ -73,6 +73,6 @@ module _ {K : Type 0} {R : K → K → Ordering} (o : IsTotalOrder R) where
   same_sets same xs ys each =
       same_map o same _ _ (λ q. get-from_entries o (marked xs) q ∙ same_mark _ _ (find_marked xs q ∙ each q ∙ sym (find_marked ys q)) ∙ sym (get-from_entries o (marked ys) q))
 
-  -- what strictly rises is the list of the set of the same items
+  -- a list that strictly rises is the list of the set of the same items
   pub only_order : IsAntisymmetric R → (xs ys : List K) → IsStrictlySortedBy R ys → ((q : K) → list_any (eq_by_cmp R q) xs ≡ list_any (eq_by_cmp R q) ys) → ys ≡ keys (from_entries {R = R} (marked xs))
   only_order same xs ys up each = sym (list_of_set ys up) ∙ ap keys (sym (same_sets same xs ys each))

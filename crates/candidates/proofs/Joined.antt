@@ -1,4 +1,4 @@
--- What joining the neighbours of one key makes of a list.
+-- The list that results if neighbours of one key are joined.
 use Rattle.std.proofs.Common.{◌≡◌, Bool, true, false, cond, List, [], ◌∷◌, IsTrue, refl, ap, ◌∙◌}
 use Rattle.std.specs.Bool.{MatchBool}
 use Rattle.std.specs.List.Retain.{IsDeduped, DedupsFrom}
@@ -6,7 +6,7 @@ use Rattle.rules.specs.State.{is_same_key}
 use Rattle.candidates.specs.declared.written_key.WrittenKey.{WrittenKey}
 use Rattle.candidates.specs.Gathering.{both_writes, joined_from, joined}
 
--- a call that was shown x beside the last one kept, and left both so
+-- a call that got x next to the last one kept, and left both so
 abbrev pub IsJoin : WrittenKey → WrittenKey → Bool → WrittenKey → WrittenKey → Type 0
 IsJoin x k b x' k' = (b ≡ is_same_key x.key k.key) × (IsTrue b → k' ≡ both_writes k x) × (b ≡ false → (k' ≡ k) × (x' ≡ x))
 

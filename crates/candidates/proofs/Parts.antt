@@ -1,4 +1,4 @@
--- What a transaction writes, one by one: each is part of what it writes at its key, and all of that is there.
+-- What a transaction writes, one by one: each is part of what it writes at its key, and all of that is included.
 use Rattle.std.proofs.Common.{◌≡◌, ℕ, Bool, true, false, cond, ◌&&◌, ◌||◌, List, [], ◌∷◌, ◌++◌, map, Option, Some, None, is_some, append_assoc, refl, sym, ap, ◌∙◌}
 use Rattle.std.specs.Prelude.{flat_map, option_map, option_and_then, find}
 use Rattle.std.specs.Str.{bytes_eq}
@@ -19,7 +19,7 @@ use Rattle.candidates.specs.Gathering.{value_write, policy_write, writes_in, sin
 use Rattle.candidates.proofs.Rising.{first_holds, second_holds}
 use Rattle.candidates.proofs.Found.{found}
 
--- what is there is the whole
+-- what it has is the whole
 abbrev pub IsPart : {A : Type 0} → Option A → Option A → Type 0
 IsPart None whole = Unit {0}
 IsPart (Some x) whole = whole ≡ Some x
@@ -77,7 +77,7 @@ single_writes_are_parts tx form =
     let names = are_distinct (map (λ n. n.name) tx.namespaces) in
     parts_of tx tx.namespaces (found (λ n. n.name) tx.namespaces (first_holds names (list_all have_lists_in_form tx.namespaces) form)) (second_holds names (list_all have_lists_in_form tx.namespaces) form)
 
--- ---- all of it is there
+-- ---- all of it is included
 
 -- it has the value, or the policy, of a key
 abbrev pub has_value : StateKey → WrittenKey → Bool

@@ -74,7 +74,7 @@ above : {K : Type 0} {R : K → K → Ordering} (o : IsTotalOrder R) (k x : K) �
 above o k x e [] h = tt
 above o k x e (y ∷ ys) h = (o.trans k x y e h.0, above o k x e ys h.1)
 
--- behind a lower one nothing more is asked of the rest
+-- after a lower one no more is required of the rest
 pub rise_higher : (last x : List ℕ) (xs : List (List ℕ)) → is_lt (bytes_cmp last x) ≡ true → are_rising (last ∷ x ∷ xs) ≡ are_rising (x ∷ xs)
 rise_higher last x xs e =
     same_test _ _

@@ -1,11 +1,11 @@
--- Read and write sets in form, in two parts. No public contract cites this.
+-- Well-formed read and write sets, in two parts. No public contract cites this.
 use Rattle.std.specs.Prelude.{Bool, ◌&&◌, map}
 use Rattle.std.specs.List.{list_all}
 use Rattle.transaction.specs.declared.transaction.NsSet.{NsSet}
 use Rattle.transaction.specs.declared.transaction.Tx.{Tx}
 use Rattle.rules.specs.ReadWriteSets.{are_distinct, has_results_in_form, has_policy_in_form}
 
--- all that is asked of a set but for the policies that it writes
+-- all that is required of a set but for the policies that it writes
 abbrev pub have_lists_in_form : NsSet → Bool
 have_lists_in_form n =
     are_distinct (map (λ r. r.key) n.reads) && are_distinct (map (λ w. w.key) n.writes) && are_distinct (map (λ w. w.key) n.policy_writes)

@@ -16,7 +16,7 @@ keys_in_order ks = keys (from_entries {X = Unit {0}} {R = key_cmp} (map (λ k. (
 abbrev pub value_at : Tx → StateKey → Option (Option (List ℕ))
 value_at tx k = option_map (λ w. w.value) (write_of tx k)
 
--- the policy that is written, `Some None` where it is removed
+-- the policy that is written, `Some None` if it is removed
 abbrev pub policy_at : Tx → StateKey → Option (Option Tree)
 policy_at tx k = option_map policy_left (policy_write_of tx k)
 
@@ -29,7 +29,7 @@ pub record AreWritesOf (tx : Tx) (ws : List WrittenKey) : Type 0 where
   pub keys : map (λ w. w.key) ws ≡ keys_in_order (written_keys tx)
   pub each : All (IsWriteOf tx) ws
 
--- its read and write sets are in form, and these are what it writes
+-- its read and write sets are well-formed, and these are what it writes
 pub record IsGathered (tx : Tx) (ws : List WrittenKey) : Type 0 where
   pub in_form : IsTrue (is_in_form tx)
   pub writes : AreWritesOf tx ws

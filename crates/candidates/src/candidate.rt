@@ -7,7 +7,7 @@ use rules::{EarlyFlag, Flag, ReadVerdict};
 use std::alloc::{AllocError, Global};
 use transaction::Tx;
 
-/// What a transaction or an update is before the rules on the state are asked.
+/// What a transaction or an update is before the rules on the state.
 #[derive(Drop)]
 pub enum Candidate<'a> {
     /// Its flag is decided.
@@ -25,8 +25,8 @@ impl<'a> Candidate<'a> {
     ghost use Rattle.candidates.specs.SetsFault.{sets_fault};
     ghost use Rattle.candidates.specs.Seen.{seen};
 
-    /// The candidate of a transaction whose origin is good and whose id is new: flagged for its read and write sets, or open with
-    /// these signers. Memory, errors and cost are those of [`InForm::check`].
+    /// The candidate of a transaction whose origin is good and whose id is new: flagged for its read and write sets, or
+    /// open with these signers. Memory, errors and cost are those of [`InForm::check`].
     pub fn open(
         alloc: Global,
         tx: Tx<'a>,
@@ -41,8 +41,8 @@ impl<'a> Candidate<'a> {
         }
     }
 
-    /// Its flag where its checks say this. One that is flagged has its flag whatever they say, and where the endorsement rule
-    /// fails the reads don't count.
+    /// Its flag if its checks return this. A flagged candidate keeps its flag whatever they return, and if the
+    /// endorsement rule fails the reads don't count.
     pub fn flag(&self, is_endorsed: bool, reads: ReadVerdict) -> Flag
         ensures { result ≡ flag_by (seen self.now) is_endorsed reads }
     {

@@ -1,4 +1,4 @@
-//! Whether read and write sets are in form, but for the policies that they write.
+//! Whether read and write sets are well-formed, but for the policies that they write.
 ghost use Rattle.std.specs.Prelude.{◌≡◌, map, IfOk};
 ghost use Rattle.std.specs.List.{list_all};
 ghost use Rattle.rules.specs.Ranges.{is_within};
@@ -52,8 +52,8 @@ fn have_lists_in_form(alloc: Global, set: &NsSet<'_>) -> Result<bool, AllocError
     )
 }
 
-/// Whether no namespace repeats, nor a key in one of its lists, and the results of ranges rise within them. It takes what
-/// [`are_distinct`] takes for each list, and one pass over results.
+/// Whether no namespace repeats, nor a key in one of its lists, and the results of ranges rise within them. Costs that
+/// of [`are_distinct`] for each list, and one pass over results.
 pub(crate) fn are_lists_in_form(alloc: Global, tx: &Tx<'_>) -> Result<bool, AllocError>
     ensures { IfOk result (λ fine. fine ≡ are_lists_in_form tx.now) }
 {

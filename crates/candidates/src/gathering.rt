@@ -19,7 +19,7 @@ use std::alloc::{AllocError, Global};
 use transaction::{NsSet, PolicyWrite, Tx, Write};
 use values::Shared;
 
-/// The policy that a policy write leaves, or nothing where its text can't be read.
+/// The policy that a policy write leaves, or nothing if its text can't be read.
 fn policy_left(
     alloc: Global,
     write: &PolicyWrite<'_>,
@@ -36,7 +36,7 @@ fn policy_left(
     }
 }
 
-/// The value of a write that stands at a place, in a namespace at another.
+/// The value of a write at this place, in a namespace at another.
 fn new_value<'a>(write: &Write<'a>, namespace: usize, place: usize) -> Option<WrittenValue<'a>>
     ensures { result ≡ write.now.value }
 {
@@ -53,7 +53,7 @@ fn new_value<'a>(write: &Write<'a>, namespace: usize, place: usize) -> Option<Wr
     }
 }
 
-/// Adds what a namespace that stands at this place writes.
+/// Adds what the namespace at this place writes.
 fn add_values<'a>(
     written: &mut Vec<WrittenKey<'a>>,
     set: &NsSet<'a>,
@@ -96,7 +96,7 @@ fn add_policies<'a>(
     Ok(true)
 }
 
-/// How many values and policies the sets write, or the greatest number where there are more.
+/// How many values and policies the sets write, or the greatest number if there are more.
 fn count_writes(sets: &[NsSet<'_>]) -> usize
     ensures { result ≡ min (length (flat_map writes_in sets.now)) usize.MAX }
 {
@@ -109,7 +109,7 @@ fn count_writes(sets: &[NsSet<'_>]) -> usize
     count
 }
 
-/// Each value and each policy that it writes by itself, or nothing where a policy can't be read.
+/// Each value and each policy that it writes by itself, or nothing if a policy can't be read.
 fn single_writes<'a>(alloc: Global, tx: &Tx<'a>) -> Result<Option<Vec<WrittenKey<'a>>>, AllocError>
     ensures { IfOk result (λ writes. MatchOption writes (are_policies_in_form tx.now ≡ false) (λ ws. IsTrue (are_policies_in_form tx.now) × (ws.items ≡ single_writes tx.now))) }
 {
@@ -142,7 +142,7 @@ fn in_order<'a>(mut written: Vec<WrittenKey<'a>>) -> Vec<WrittenKey<'a>>
     written
 }
 
-/// The keys that it writes in their order, each once, with what it writes there; nothing where a policy can't be read.
+/// The keys that it writes in their order, each once, with what it writes there; nothing if a policy can't be read.
 fn gathered<'a>(alloc: Global, tx: &Tx<'a>) -> Result<Option<Vec<WrittenKey<'a>>>, AllocError>
     requires { IsTrue (are_lists_in_form tx.now) }
     ensures { IfOk result (λ writes. MatchOption writes (is_in_form tx.now ≡ false) (λ ws. IsGathered tx.now ws.items)) }
@@ -153,9 +153,9 @@ fn gathered<'a>(alloc: Global, tx: &Tx<'a>) -> Result<Option<Vec<WrittenKey<'a>>
     }
 }
 
-/// What it writes, where its read and write sets are in form.
+/// What it writes, if its read and write sets are well-formed.
 ///
-/// Each policy is read once. The keys are sorted: n log n comparisons, n where they are in order already. The memory is
+/// Each policy is read once. The keys are sorted: n log n comparisons, n if they are in order already. The memory is
 /// that of the result, but that a key with value and policy is there twice at first.
 pub(crate) fn written_in_form<'a>(
     alloc: Global,

@@ -12,7 +12,8 @@ use std::alloc::{AllocError, Global};
 use std::marker::Model;
 use transaction::Tx;
 
-/// A transaction whose read and write sets are in form, with the keys that it writes. A contract sees the transaction.
+/// A transaction whose read and write sets are well-formed, with the keys that it writes. A contract sees the
+/// transaction.
 #[derive(Drop)]
 pub struct InForm<'a> {
     tx: Tx<'a>,
@@ -31,12 +32,12 @@ impl<'a> Model for InForm<'a> {
 }
 
 impl<'a> InForm<'a> {
-    /// The transaction, where its sets are in form and its chaincodes defined, else the flag that it gets. The outer `Err` comes
-    /// only where memory is refused.
+    /// The transaction, if its sets are well-formed and its chaincodes defined, otherwise the flag that it gets. The
+    /// outer `Err` is returned only if an allocation failed.
     ///
-    /// Each policy that it writes is read once. Each list takes n log n comparisons of keys, n where it is in their order,
-    /// and each namespace with writes a look-up. Memory for the keys that it writes and for their policies, and in passing
-    /// for a reference to each item of a long list out of order.
+    /// Each policy that it writes is read once. Each list takes n log n comparisons of keys, n if it is in their order,
+    /// and each namespace with writes a look-up. Memory for the keys that it writes and for their policies, and in
+    /// passing for a reference to each item of a long list out of order.
     pub fn check(
         alloc: Global,
         tx: Tx<'a>,

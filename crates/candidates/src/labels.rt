@@ -49,7 +49,7 @@ pub fn is_among<T: Labelled>(label: &[u8], items: &[T]) -> bool
     false
 }
 
-/// Each with all behind it.
+/// Compares each label with all after it.
 fn are_distinct_in_pairs<T: Labelled>(items: &[T]) -> bool
     ensures { result ≡ are_distinct (map T.label items.now) }
 {
@@ -79,8 +79,8 @@ fn are_distinct_in_order(mut labels: Vec<&[u8]>) -> bool
     are_rising(labels.as_slice())
 }
 
-/// Whether no two labels are the same. Where they rise one pass tells it, where they are few each is compared with the
-/// others; else n log n comparisons, and memory for a reference to each.
+/// Whether no two labels are the same. If they rise, one pass shows it; if they are few, each is compared with the
+/// others; otherwise n log n comparisons, and memory for a reference to each.
 pub(crate) fn are_distinct<T: Labelled>(alloc: Global, items: &[T]) -> Result<bool, AllocError>
     ensures { IfOk result (λ distinct. distinct ≡ are_distinct (map T.label items.now)) }
 {

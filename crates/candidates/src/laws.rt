@@ -4,7 +4,8 @@ ghost use Rattle.rules.specs.State as state;
 ghost use Rattle.rules.specs.State.{key_cmp, is_among};
 ghost use Rattle.candidates.specs.Written.{keys_in_order};
 
-/// A law, and no work: keys in their order strictly rise and are the same keys, and no other list is so.
+/// Proved (the function does nothing at run time): keys in their order strictly rise and are the same keys, and no
+/// other list is so.
 pub fn keys_have_one_order()
     ensures rising { (ks : List state.StateKey) → IsStrictlySortedBy key_cmp (keys_in_order ks) }
     ensures members { (k : state.StateKey) (ks : List state.StateKey) → is_among k (keys_in_order ks) ≡ is_among k ks }

@@ -1,5 +1,6 @@
-//! Candidates: what each transaction or update of a block is before the rules on the state are asked. Flagged, or open with
-//! its signers: a transaction with the keys that it writes gathered in order, an update with the policy that its text spells.
+//! Candidates: what each transaction or update of a block is before the rules on the state. Flagged, or open with its
+//! signers: a transaction with the keys that it writes gathered in order, an update with the policy that its text
+//! encodes.
 #![tactic(auto)]
 
 mod candidate;

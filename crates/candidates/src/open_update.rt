@@ -12,13 +12,13 @@ use transaction::Update;
 pub struct OpenUpdate<'a> {
     pub update: Update<'a>,
     pub signers: Signers<'a>,
-    /// What the update's text spells.
+    /// The policy that the update's text encodes.
     pub policy: Policy,
     ghost spelled: { policy_of update.policy ≡ Some policy } by { Prim.hlevel (codes, tree_code) },
 }
 
 impl<'a> OpenUpdate<'a> {
-    /// An update with its signers and the policy that its text spells.
+    /// An update with its signers and the policy that its text encodes.
     pub fn new(update: Update<'a>, signers: Signers<'a>, policy: Policy) -> OpenUpdate<'a>
         requires { policy_of update.policy ≡ Some policy }
         ensures update { result.update ≡ update.entry }

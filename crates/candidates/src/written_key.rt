@@ -11,14 +11,14 @@ use values::Shared;
 #[derive(Drop)]
 pub struct WrittenKey<'a> {
     pub key: StateKey<'a>,
-    /// The new value, `Some(None)` where the key is deleted; `None` where the value isn't written.
+    /// The new value, `Some(None)` if the key is deleted; `None` if the value isn't written.
     pub value: Option<Option<WrittenValue<'a>>>,
-    /// The new policy, read once, `Some(None)` where it is removed; `None` where the policy isn't written.
+    /// The new policy, read once, `Some(None)` if it is removed; `None` if the policy isn't written.
     pub policy: Option<Option<Shared<Policy>>>,
 }
 
 impl<'a> WrittenKey<'a> {
-    /// Takes over what another one has, if it is of the same key; else nothing changes.
+    /// Takes over what another one has, if it is of the same key; otherwise nothing changes.
     pub(crate) fn join(&mut self, next: &mut WrittenKey<'a>) -> bool
         ensures same { result ≡ is_same_key next.old.key self.old.key }
         ensures joined { IsTrue result → self.new ≡ both_writes self.old next.old }

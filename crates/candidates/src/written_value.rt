@@ -3,8 +3,8 @@ ghost use Rattle.std.specs.Prelude.{◌≡◌};
 use std::marker::Model;
 use values::Slice;
 
-/// Where a namespace, a key in it and the key's value may stand in other bytes. No clause speaks of these places: who goes to one
-/// compares the bytes that it finds there.
+/// Where a namespace, a key in it and the key's value may be in other bytes. No contract mentions these places: the
+/// code that uses one compares the bytes that it finds there.
 #[derive(Clone, Copy)]
 pub struct Spots {
     pub namespace: usize,
@@ -12,7 +12,7 @@ pub struct Spots {
     pub value: usize,
 }
 
-/// A value that is written, lent, and where it may stand in its transaction's bytes. A contract sees the value's bytes.
+/// A borrowed value that is written, and where it may be in its transaction's bytes. A contract sees the value's bytes.
 #[derive(Drop)]
 pub struct WrittenValue<'a> {
     bytes: Slice<'a>,
@@ -44,7 +44,7 @@ impl<'a> WrittenValue<'a> {
         self.bytes.as_slice()
     }
 
-    /// Where it may stand in the bytes of a block in which its transaction begins at this place.
+    /// Where it may be in the bytes of a block in which its transaction begins at this place.
     pub fn spots_in_block(&self, tx: usize) -> Spots {
         Spots {
             namespace: tx.wrapping_add(self.spots.namespace),

@@ -28,7 +28,7 @@ nothing_at_all = refl
 two_channels : configuration_of (codes "channel a" ++ 10 ∷ codes "channel a") ≡ Err (repeated 2)
 two_channels = refl
 
--- a bad name goes before the repetition
+-- a bad name takes precedence over the repetition
 bad_and_repeated : configuration_of (codes "channel a" ++ 10 ∷ codes "channel a b") ≡ Err (no_form 2)
 bad_and_repeated = refl
 
@@ -44,7 +44,7 @@ no_such_role : configuration_of (codes "chaincode c 'A.boss'") ≡ Err (no_polic
 unfolding policy_at expression_by gate_at gate_by members_by head_at opening_at separator_at front_at quoted_at principal_in word_at word_in number_at
 no_such_role = rw (get-empty {X = Tree} bytes_cmp (codes "c")) refl
 
--- a repetition goes before a bad policy
+-- a repetition takes precedence over a bad policy
 defined_again : configuration_of (codes "chaincode c 'A.peer'" ++ 10 ∷ codes "chaincode c x") ≡ Err (repeated 2)
 unfolding policy_at expression_by gate_at gate_by members_by head_at opening_at separator_at front_at quoted_at principal_in word_at word_in number_at
 defined_again = rw (get-empty {X = Tree} bytes_cmp (codes "c"), len-empty bytes_cmp Tree, get-insert nat_list_cmp_total empty (codes "c") (principal (codes "A") Peer) (codes "c")) refl
@@ -59,7 +59,7 @@ lone_return = refl
 tab : configuration_of (9 ∷ codes "channel a") ≡ Err (no_form 1)
 tab = refl
 
--- the admin policy behind all other lines, and a chaincode that is named as its line is
+-- the admin policy after all other lines, and a chaincode that is named as its line is
 admin_last : configuration_of (codes "channel ch" ++ 10 ∷ codes "chaincode admin 'B.peer'" ++ 10 ∷ codes "admin OR('Org1.admin')")
     ≡ Ok (record {
       name = codes "ch";
@@ -70,7 +70,7 @@ unfolding policy_at expression_by gate_at gate_by members_by head_at opening_at 
     front_at quoted_at principal_in word_at word_in number_at
 admin_last = rw (get-empty {X = Tree} bytes_cmp (codes "admin"), len-empty bytes_cmp Tree) refl
 
--- and in front of them
+-- and before them
 admin_first : configuration_of (codes "admin 'A.admin'" ++ 10 ∷ codes "chaincode cc 'B.peer'" ++ 10 ∷ codes "channel ch")
     ≡ Ok (record {
       name = codes "ch";
@@ -87,7 +87,7 @@ unfolding policy_at expression_by gate_at gate_by members_by head_at opening_at 
     front_at quoted_at principal_in word_at word_in number_at
 second_admin = refl
 
--- a repetition goes before a bad policy
+-- a repetition takes precedence over a bad policy
 second_admin_and_bad : configuration_of (codes "admin 'A.admin'" ++ 10 ∷ codes "admin AND(") ≡ Err (repeated 2)
 unfolding policy_at expression_by gate_at gate_by members_by head_at opening_at separator_at
     front_at quoted_at principal_in word_at word_in number_at

@@ -8,7 +8,7 @@ use Rattle.policy.specs.Policies.{Policies}
 pub record Configuration : Type 0 where
   pub name : List ℕ
   pub definitions : Policies
-  -- whose signatures an update of a chaincode's policy needs; where there is none, no policy is ever updated
+  -- whose signatures an update of a chaincode's policy needs; if there is none, no policy is ever updated
   pub admin : Option Tree
 
 -- the most chaincodes of a channel

@@ -11,14 +11,14 @@ pub data Fault : Type 0 where
   no_form : ℕ → Fault
   -- a second channel or admin line, or a chaincode that is defined already
   repeated : ℕ → Fault
-  -- the text of the policy spells none
+  -- the text of the policy encodes none
   no_policy : ℕ → policy.Fault → Fault
   -- a 257th chaincode
   too_many : ℕ → Fault
   -- no line names the channel
   no_channel : Fault
 
--- The fault of the text that is answered: of a policy its kind, without the place. Want of memory is none.
+-- The fault of the text that is returned: of a policy its kind, without the place. Out of memory is none.
 abbrev pub fault_of : ChannelFault → Option Fault
 fault_of (Line n) = Some (no_form n)
 fault_of (Repeated n) = Some (repeated n)
@@ -27,6 +27,6 @@ fault_of (TooMany n) = Some (too_many n)
 fault_of NoChannel = Some no_channel
 fault_of Memory = None
 
--- The answer is of the fault that reading a text gives, unless memory ran out.
+-- The result is the fault that reading a text gives, unless memory ran out.
 abbrev pub Refuses : {Y : Type 0} → ChannelFault → Result Y Fault → Type 0
 Refuses e reading = (e ≡ Memory) ⊎ IsErrAnd reading (λ f. fault_of e ≡ Some f)

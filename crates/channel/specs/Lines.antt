@@ -1,4 +1,4 @@
--- What a contract sees of what a line says. No public contract cites this.
+-- What a contract sees of what a line states. No public contract cites this.
 use Rattle.channel.specs.declared.channel_text.Saying as declared
 use Rattle.channel.specs.declared.channel_text.Saying.TheVariants.{NamesChannel, Defines, SetsAdmin, NothingKnown}
 use Rattle.channel.specs.Text.{Says, names_channel, defines, sets_admin, nothing_known}

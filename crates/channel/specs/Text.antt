@@ -1,5 +1,5 @@
--- Channel texts: one line `channel NAME`, up to 256 lines `chaincode NAME POLICY` whose names differ, and at most one line
--- `admin POLICY`.
+-- Channel texts: one line `channel NAME`, up to 256 lines `chaincode NAME POLICY` whose names differ, and at most one
+-- line `admin POLICY`.
 use Rattle.std.specs.Prelude.{ℕ, ◌&&◌, nat_lt, if◌then◌else◌, List, [], ◌∷◌, length, codes, Option, Some, None, is_some, Result, Ok, Err}
 use Rattle.std.specs.FinMap.{contains_key, empty, insert, len}
 use Rattle.std.specs.Str.{bytes_eq}
@@ -12,7 +12,7 @@ use Rattle.text_lines.specs.Lines.{Statement, statements, first_part, after_firs
 use Rattle.channel.specs.Configuration.{Configuration, max_chaincodes}
 use Rattle.channel.specs.Fault.{Fault, no_form, repeated, no_policy, too_many, no_channel}
 
--- what one line says, or that it has none of the forms
+-- what one line states, or that it has none of the forms
 pub data Says : Type 0 where
   names_channel : List ℕ → Says
   -- a chaincode, and the text of its policy
@@ -40,7 +40,7 @@ says line =
     else if bytes_eq (first_part line) (codes "admin") then says_admin (after_first_part line)
     else nothing_known
 
--- What the lines so far say: the channel's name, the policies of chaincodes, and the admin policy.
+-- What the lines so far state: the channel's name, the policies of chaincodes, and the admin policy.
 pub record SoFar : Type 0 where
   pub name : Option (List ℕ)
   pub definitions : Policies
@@ -49,7 +49,7 @@ pub record SoFar : Type 0 where
 abbrev pub nothing_said : SoFar
 nothing_said = record { name = None; definitions = empty; admin = None }
 
--- the channel's name on line n, beside an earlier one or none
+-- the channel's name on line n, with an earlier one or none
 abbrev pub said_name : ℕ → SoFar → List ℕ → Option (List ℕ) → Result SoFar Fault
 said_name n so_far name None = Ok (record so_far { name = Some name })
 said_name n so_far name (Some other) = Err (repeated n)
@@ -58,7 +58,7 @@ abbrev pub on_line : ℕ → Result Tree policy.Fault → Result Tree Fault
 on_line n (Ok tree) = Ok tree
 on_line n (Err f) = Err (no_policy n f)
 
--- the policy on line n that the text spells
+-- the policy on line n that the text encodes
 abbrev pub policy_on : ℕ → List ℕ → Result Tree Fault
 policy_on n text = on_line n (policy_or_fault text)
 
@@ -78,7 +78,7 @@ abbrev pub said_admin : SoFar → Result Tree Fault → Result SoFar Fault
 said_admin so_far (Err fault) = Err fault
 said_admin so_far (Ok tree) = Ok (record so_far { admin = Some tree })
 
--- the lowest fault of line n after the lines so far, or what is said with it
+-- the lowest fault of line n after the lines so far, or what is stated with it
 abbrev pub said_by : ℕ → SoFar → Says → Result SoFar Fault
 said_by n so_far nothing_known = Err (no_form n)
 said_by n so_far (names_channel name) = said_name n so_far name so_far.name
@@ -91,7 +91,7 @@ abbrev pub said_next : (SoFar → Result SoFar Fault) → Result SoFar Fault →
 said_next f (Ok so_far) = f so_far
 said_next f (Err fault) = Err fault
 
--- line by line: the first fault, or what all lines say
+-- line by line: the first fault, or what all lines state
 abbrev pub said_from : SoFar → List Statement → Result SoFar Fault
 said_from so_far [] = Ok so_far
 said_from so_far (s ∷ more) = said_next (λ next. said_from next more) (said_by s.line so_far (says s.bytes))
@@ -100,7 +100,7 @@ abbrev pub named : SoFar → Option (List ℕ) → Result Configuration Fault
 named so_far None = Err no_channel
 named so_far (Some name) = Ok (record { name = name; definitions = so_far.definitions; admin = so_far.admin })
 
--- what all lines configure, where one of them names the channel
+-- what all lines configure, if one of them names the channel
 abbrev pub whole : SoFar → Result Configuration Fault
 whole so_far = named so_far so_far.name
 

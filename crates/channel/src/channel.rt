@@ -9,8 +9,8 @@ use std::alloc::Global;
 use std::marker::Model;
 use values::Name;
 
-/// What a channel text configures, and the policies of its chaincodes once more: those in the configuration stay, and
-/// the others may be updated. A contract sees the configuration.
+/// What a channel text configures, and a second copy of its chaincodes' policies: those in the configuration stay, and
+/// the copies may be updated. A contract sees the configuration.
 #[derive(Drop)]
 pub struct Channel {
     configuration: Configuration,
@@ -34,7 +34,7 @@ impl Model for Channel {
 }
 
 impl Channel {
-    // What all lines say, if one of them names the channel.
+    // What all lines state, if one of them names the channel.
     fn from_lines(lines: SoFar) -> Result<Channel, ChannelFault>
         ensures ok { IfOk result (λ channel. whole lines ≡ Ok channel) }
         ensures err { IfErr result (λ fault. IsErrAnd (whole lines) (λ f. fault_of fault ≡ Some f)) }
@@ -60,16 +60,14 @@ impl Channel {
     /// Reads a channel text: one line `channel NAME`, up to 256 lines `chaincode NAME POLICY` whose names differ, and
     /// at most one line `admin POLICY`, in any order.
     ///
-    /// Lines end with `\n`, which the last may lack; a `\r` before it is dropped, and so are spaces
-    /// (0x20) at both ends. An empty line, and one that begins with `#`, says nothing. The parts of
-    /// a line are separated by one or more spaces. A name has 1 to 64 ASCII letters, digits, `.`,
-    /// `-` and `_`; POLICY is the rest of the line, is not empty, and is read as [`policy::Policy::parse`]
-    /// does.
+    /// Lines end with `\n`, which the last may omit; a `\r` before it is dropped, and so are spaces (0x20) at both
+    /// ends. An empty line, and one that begins with `#`, is ignored. The parts of a line are separated by one or more
+    /// spaces. A name has 1 to 64 ASCII letters, digits, `.`, `-` and `_`; POLICY is the rest of the line, is not
+    /// empty, and is read as [`policy::Policy::parse`] does.
     ///
-    /// An error is the first line's that has a fault, and on one line the first of [`ChannelFault`]'s
-    /// list; the channel's name is missed last. Takes time linear in the text, and for each
-    /// chaincode a look-up among those before; memory for the names and policies, and for those of
-    /// chaincodes once more.
+    /// An error is that of the first line that has a fault, and on one line the first of [`ChannelFault`]'s list; a
+    /// missing channel name comes last. Takes time linear in the text, and for each chaincode a look-up among those
+    /// before; memory for the names and policies, and for a second copy of those of chaincodes.
     pub fn read(alloc: Global, text: &str) -> Result<Channel, ChannelFault>
         ensures ok { IfOk result (λ channel. configuration_of text.now ≡ Ok channel) }
         ensures err { IfErr result (λ fault. Refuses fault (configuration_of text.now)) }
@@ -91,7 +89,7 @@ impl Channel {
         &self.configuration
     }
 
-    /// The configuration, and the policies of its chaincodes once more. Takes no memory.
+    /// The configuration, and the second copy of its chaincodes' policies. Takes no memory.
     pub fn into_parts(self) -> (Configuration, Definitions)
         ensures configuration { result.0 ≡ self }
         ensures definitions { result.1 ≡ self.definitions }

@@ -17,7 +17,7 @@ use values::{Name, NameRef, is_name};
 /// The most chaincodes that a channel has.
 pub(crate) const MAX_CHAINCODES: usize = 256;
 
-// What one line says.
+// What one line states.
 enum Saying<'a> {
     NamesChannel(NameRef<'a>),
     Defines {
@@ -86,7 +86,7 @@ fn policy_of_line(alloc: Global, line: u64, text: &[u8]) -> Result<Policy, Chann
     Policy::parse_bytes(alloc, text).map_err(|fault| ChannelFault::of_policy(line, fault))
 }
 
-// Where memory runs out between them, one of the maps has the policy.
+// If memory runs out between them, one of the maps has the policy.
 fn set_in_both(
     alloc: Global,
     one: &mut Definitions,
@@ -102,8 +102,8 @@ fn set_in_both(
     other.set(&chaincode, copied)
 }
 
-// What the lines so far say, with the definitions once more. A line takes it by value: where memory runs out between
-// the two maps they differ, and then nothing is left of it.
+// What the lines so far state, with a second copy of the definitions. A line takes it by value: if memory runs out
+// between the two maps they differ, and then nothing is left of it.
 #[derive(Drop)]
 pub(crate) struct SoFar {
     pub(crate) name: Option<Name>,
@@ -158,7 +158,7 @@ impl SoFar {
         Ok(self)
     }
 
-    // The policy that a line gives a chaincode, where it may be defined.
+    // The policy that a line gives a chaincode, if it may be defined.
     fn new_policy(
         &self,
         alloc: Global,
@@ -217,7 +217,7 @@ impl SoFar {
         Ok(self)
     }
 
-    // What is said with one more line.
+    // What is stated with one more line.
     fn say(self, alloc: Global, line: u64, bytes: &[u8]) -> Result<SoFar, ChannelFault>
         ensures ok { IfOk result (λ so_far. spec.said_by line self (spec.says bytes.now) ≡ Ok so_far) }
         ensures err { IfErr result (λ fault. Refuses fault (spec.said_by line self (spec.says bytes.now))) }

@@ -9,12 +9,11 @@ use policy::PolicyFault;
 use std::alloc::AllocError;
 use thiserror::Error;
 
-/// The first line of a channel text that has a fault and, where a line has several, the one that
-/// stands first here; or that no line has one and the channel has no name; or that memory ran out
-/// on the way. Lines count from 1.
+/// The first line of a channel text that has a fault and, if a line has several, the one that is listed first here; or
+/// that no line has one and the channel has no name; or that memory ran out on the way. Lines count from 1.
 #[derive(Clone, Copy, Debug, PartialEq, Eq, Error)]
 pub enum ChannelFault {
-    /// The line says something, and is none of `channel NAME`, `chaincode NAME POLICY` and `admin POLICY`.
+    /// The line isn't empty or a comment, and is none of `channel NAME`, `chaincode NAME POLICY` and `admin POLICY`.
     #[error("line {0}: none of `channel NAME`, `chaincode NAME POLICY` and `admin POLICY`")]
     Line(u64),
     /// An earlier line named the channel, defined the same chaincode, or set the admin policy.
@@ -33,7 +32,7 @@ pub enum ChannelFault {
 }
 
 impl ChannelFault {
-    /// Of the policy on a line. Want of memory is none of the line's.
+    /// Of the policy on a line. Out of memory is no fault of the line.
     pub(crate) fn of_policy(line: u64, fault: PolicyFault) -> ChannelFault
         ensures { MatchOption (kind_of fault) (result ≡ Memory) (λ f. fault_of result ≡ Some (no_policy line f)) }
     {

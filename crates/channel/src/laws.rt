@@ -3,7 +3,7 @@ ghost use Rattle.channel.specs.Configuration.{max_chaincodes};
 
 use crate::channel_text::MAX_CHAINCODES;
 
-/// A law, and no work: the limits of this code are those that the definitions name.
+/// Proved (the function does nothing at run time): the limits of this code are those that the definitions name.
 pub fn limits_are_the_definitions()
     ensures { MAX_CHAINCODES ≡ max_chaincodes }
 {}

@@ -1,4 +1,4 @@
--- A job may be shared by threads. As of the rules, it goes part by part.
+-- A job may be shared by threads. As in the rules, the proof goes field by field.
 use denote.Ref.{NamedLft}
 use denote.Param.Send.{IsSync, view_sync, struct_sync, recorded_sync}
 use denote.Struct.Declared.{shape}

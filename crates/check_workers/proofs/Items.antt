@@ -1,4 +1,4 @@
--- Whatever leaves a deque, all items stay below n, and what left is so too.
+-- Whichever items leave a deque, those in it stay below n, and those that left are below n too.
 use Rattle.std.proofs.Common.{ℕ, ◌<◌, All, List, [], ◌∷◌, ◌++◌, length, subst}
 use lib.Seq.{take-append_seam, drop-append_seam}
 use Rattle.std.proofs.lemmas.List.Elements.{All-take, All-drop}

@@ -19,11 +19,11 @@ use verdict_words::{Lent, Steps, VerdictSeat, open};
 pub struct Checked {
     /// The flag of each candidate.
     pub flags: Vec<Flag>,
-    /// How many verdicts no worker had found, out of two for each candidate. No clause says it.
+    /// How many verdicts no worker had found, out of two for each candidate. No contract states it.
     pub gathered: u32,
 }
 
-/// Runs so many workers over the words of a job, until nothing is left for them.
+/// Runs this many workers over the words of a job, until nothing is left for them.
 fn find_by_workers<R: Threads + Wait + Sync, G: Gate + Sync>(
     rt: &R,
     alloc: Global,
@@ -42,7 +42,7 @@ fn find_by_workers<R: Threads + Wait + Sync, G: Gate + Sync>(
     Ok(())
 }
 
-/// Those of a job that has some.
+/// The flags of a job that has candidates.
 fn check_some<'j, R: Threads + Wait + Sync, G: Gate + Sync>(
     rt: &R,
     alloc: Global,
@@ -69,12 +69,13 @@ fn check_some<'j, R: Threads + Wait + Sync, G: Gate + Sync>(
     gather(alloc, job, &mut seat)
 }
 
-/// The flags of a job's candidates, found by so many workers, each but one in a thread of its own, in whatever order they come
-/// to the checks. Each passes the gate before each check.
+/// The flags of a job's candidates, found by this many workers, each but one in a thread of its own, no matter in which
+/// order they reach the checks. Each passes the gate before each check.
 ///
-/// No more workers are started than there are candidates, since the two checks of one come one after the other. One that
-/// can't be started, or gets no deque, is done without; what no worker has found is found here, in order. Takes two words
-/// for each candidate, a desk of tasks, a deque for each worker, and what threads take. Costs what the checks cost, each
+/// No more workers are started than there are candidates, since the two checks of one come one after the other. A
+/// worker that can't be started, or gets no deque, is skipped; what no worker has found is found here, in order. Takes
+/// two words for each candidate, a desk of tasks, a deque for each worker, and what threads take. Costs what the checks
+/// cost, each tried again once for each time that it was blocked.
 /// tried again once for each time that it was blocked.
 pub fn check_all<R: Threads + Wait + Sync, G: Gate + Sync>(
     rt: &R,

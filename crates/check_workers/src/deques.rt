@@ -9,10 +9,10 @@ use std::alloc::{AllocError, Global};
 use std::marker::{Brand, PhantomData};
 use std::sync::Wait;
 
-/// How many tasks a worker hands itself at once where others may steal some of them.
+/// How many tasks a worker gives itself at once if others may steal some of them.
 pub(crate) const BATCH: usize = 32;
 
-/// How many tasks a job has. Who makes deques for a job picks it.
+/// How many tasks a job has. The code that makes deques for a job picks it.
 pub trait Tasks {
     ghost tasks: { ℕ };
 }
@@ -68,7 +68,7 @@ fn steal_from<J: Tasks>(thief: &Thief<J>) -> Steal<u32>
     thief.steal_as::<Below<J>>(&mut pass)
 }
 
-/// A pass over deques, up to the first task that is stolen. `Empty` where each was empty.
+/// A pass over deques, up to the first task that is stolen. `Empty` if each was empty.
 fn pass_over<J: Tasks>(thieves: &[Thief<J>]) -> Steal<u32>
     ensures { MatchSteal result ⊤ ⊤ (λ task. task < J.tasks) }
 {
@@ -87,7 +87,7 @@ fn pass_over<J: Tasks>(thieves: &[Thief<J>]) -> Steal<u32>
     }
 }
 
-/// A stolen task; none where each deque was empty in one pass.
+/// A stolen task; none if each deque was empty in one pass.
 pub(crate) fn steal<J: Tasks, R: Wait>(rt: &R, thieves: &[Thief<J>]) -> Option<u32>
     ensures { IfSome result (λ task. task < J.tasks) }
 {
@@ -112,7 +112,7 @@ fn add_deque<J: Tasks>(
     Ok(())
 }
 
-/// Deques for so many workers, all empty. A worker for which memory is missing is done without.
+/// Deques for this many workers, all empty. A worker whose deque gets no memory is skipped.
 pub(crate) fn deques<J: Tasks>(alloc: Global, workers: usize) -> (Vec<Owner<J>>, Vec<Thief<J>>) {
     let mut owners = Vec::new(alloc);
     let mut thieves = Vec::new(alloc);

@@ -10,7 +10,7 @@ use rules::Flag;
 use std::alloc::{AllocError, Global};
 use verdict_words::VerdictSeat;
 
-/// Settles a task where it is unknown, and counts it. All that it may wait for is known.
+/// Settles a task if it is unknown, and counts it. All that it may wait for is known.
 fn gather_one(job: &Job<'_, '_>, seat: &mut VerdictSeat<'_, '_>, task: u32) -> u32
     requires job { seat.old.job ≡ job.now }
     requires task { task < 2 * length job.now.candidates }

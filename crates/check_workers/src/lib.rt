@@ -1,4 +1,5 @@
-//! The verdicts of one block, found by workers, each but one in a thread of its own, in whatever order they come to them.
+//! The verdicts of one block, found by workers, each but one in a thread of its own, no matter in which order they
+//! reach them.
 #![tactic(auto)]
 
 mod checking;

@@ -36,7 +36,7 @@ pub(crate) type Settlings = ArrayVec<Settled, MOST>;
 /// Tasks that a worker keeps for itself.
 pub(crate) type Kept = ArrayVec<Task, MOST>;
 
-/// What a worker has in its hands between two turns.
+/// What a worker holds between two turns.
 #[derive(Drop)]
 pub(crate) struct Hands {
     pub(crate) settled: Settlings,
@@ -48,7 +48,7 @@ pub(crate) struct Hands {
 pub(crate) enum Turn {
     /// It settles the tasks that it keeps, of which there are some, and then those of its own deque.
     Settle,
-    /// It settles what it can steal from the deques, to which so many batches were pushed before.
+    /// It settles what it can steal from the deques, to which this many batches were pushed before.
     Find(u64),
     /// Nothing is left for it.
     End,
@@ -73,7 +73,7 @@ fn keep_run<J: Tasks>(run: Run, tasks: u32, kept: &mut Kept)
     ensures { All (λ task. task < J.tasks) kept.new.items }
 {
     kept.clear();
-    // The lock doesn't tell that the desk is this job's.
+    // The lock doesn't promise that the desk is this job's.
     for task in run.from..run.end.min(tasks) {
         kept.push(task);
     }
@@ -86,7 +86,8 @@ impl Waited {
         }
     }
 
-    /// Tells the desk what a worker did, in order. Tasks that stand one behind the other are told as one run, since most do.
+    /// Reports to the desk what a worker did, in order. Tasks that follow each other are reported as one run, since
+    /// most do.
     fn report(&mut self, settled: &[Settled]) {
         let mut run = Run { from: 0, end: 0 };
         for settled in settled {
@@ -112,9 +113,9 @@ impl Waited {
         self.done(run);
     }
 
-    /// How many tasks a worker keeps for itself: half of its equal part of those that aren't done, and once a check was blocked
-    /// at most a batch, since others may wait for what it finds. Where half of its part is less than a batch, or a worker
-    /// sleeps, it keeps one: others can steal the rest.
+    /// How many tasks a worker keeps for itself: half of its equal part of those that aren't done, and once a check was
+    /// blocked at most a batch, since others may wait for what it finds. If half of its part is less than a batch, or a
+    /// worker sleeps, it keeps one: others can steal the rest.
     fn most(&self) -> usize
         ensures { (1 ≤ result) × (result ≤ 256) }
     {
@@ -125,7 +126,7 @@ impl Waited {
         half.min(if self.was_blocked { BATCH } else { MOST })
     }
 
-    /// Hands the least task that is ready, and takes it out: whoever pops or steals it later works on it with no lock.
+    /// Takes the least task that is ready out of the desk: the worker that later pops or steals it needs no lock.
     fn hand(&mut self) -> Option<Task> {
         let Some(task) = self.desk.hand() else {
             return None;
@@ -144,8 +145,8 @@ impl Waited {
         }
     }
 
-    /// Takes tasks out for a worker whose deque is empty: those that it keeps, or a batch, of which it keeps one and the others
-    /// are pushed, which wakes all. One that can't be pushed is kept too.
+    /// Takes tasks out for a worker whose deque is empty: those that it keeps, or a batch, of which it keeps one and
+    /// the others are pushed, which wakes all. A task that can't be pushed is kept too.
     fn fill<J: Tasks>(&mut self, own: &mut Owner<J>, tasks: u32, kept: &mut Kept, woken: &Condvar)
         requires { tasks ≡ J.tasks }
         ensures { All (λ task. task < J.tasks) kept.new.items }
@@ -157,7 +158,7 @@ impl Waited {
             let Some(task) = self.hand() else {
                 break;
             };
-            // The lock doesn't tell that the desk is this job's.
+            // The lock doesn't promise that the desk is this job's.
             if task >= tasks {
                 break;
             }
@@ -183,7 +184,7 @@ pub(crate) struct Turns {
 }
 
 impl Turns {
-    /// The desk of a job of n candidates, all tasks ready, for so many workers.
+    /// The desk of a job of n candidates, all tasks ready, for this many workers.
     pub fn new(alloc: Global, n: u32, workers: usize) -> Result<Turns, AllocError>
         requires n { n ≤ 4096 }
         requires workers { workers ≤ max_workers }
@@ -207,8 +208,8 @@ impl Turns {
         self.workers
     }
 
-    /// One turn of the lock, unless it sleeps: a worker whose deque is empty hands in what it did, and hears what it does
-    /// next. Sleeps where no task is ready, and no batch was pushed since the worker knew of so many.
+    /// One turn of the lock, unless it sleeps: a worker whose deque is empty reports what it did, and gets what it does
+    /// next. Sleeps if no task is ready, and no batch was pushed since the worker last read their number.
     pub fn next<J: Tasks, R: Wait>(
         &self,
         rt: &R,
@@ -234,7 +235,7 @@ impl Turns {
             if seen != Some(waited.batches) {
                 return Turn::Find(waited.batches);
             }
-            // All that isn't done is in the hands of others, who go on with what may come of it.
+            // All tasks that aren't done are held by other workers, who also do what these may unblock.
             if waited.desk.out() == waited.desk.left() {
                 return Turn::End;
             }

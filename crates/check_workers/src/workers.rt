@@ -84,7 +84,7 @@ fn settle_stolen<J: Tasks, R: Wait, G: Gate>(
     }
 }
 
-/// The ends of deques that one worker holds: its own one's, and those from which it steals.
+/// The ends of deques that one worker holds: those of its own deque, and those from which it steals.
 #[derive(Drop)]
 struct Ends<'d, J: Tasks> {
     own: Owner<J>,
@@ -139,8 +139,8 @@ fn work<J: Tasks, R: Wait, G: Gate>(
     }
 }
 
-/// Runs workers whose deques hold tasks of this job, and waits until they have ended: as many as the desk is for, of whom one is
-/// the calling thread. One that can't be started, or gets no deque, is done without.
+/// Runs workers whose deques hold tasks of this job, and waits until they have ended: as many as the desk is for, the
+/// calling thread included. One that can't be started, or gets no deque, is skipped.
 pub(crate) fn run<J: Tasks + Send + Sync, R: Threads + Wait + Sync, G: Gate + Sync>(
     rt: &R,
     alloc: Global,
@@ -158,7 +158,7 @@ pub(crate) fn run<J: Tasks + Send + Sync, R: Threads + Wait + Sync, G: Gate + Sy
     let thieves = thieves.as_slice();
     let last = owners.pop();
     if owners.is_empty() {
-        // a scope makes calls of the system, even if it starts nobody
+        // a scope makes system calls, even if it starts no thread
         if let Some(own) = last {
             work(rt, lent.job(), steps, turns, Ends { own, thieves }, gate);
         }

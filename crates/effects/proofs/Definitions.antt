@@ -1,4 +1,4 @@
--- The definitions that are given once the next candidate is taken.
+-- The definitions that updates give, after the next candidate.
 use Rattle.std.proofs.Common.{◌≡◌, ℕ, suc, ◌+◌, List, [], ◌++◌, ap, ◌∙◌, arith}
 use Rattle.std.specs.Prelude.{if◌then◌else◌}
 use Rattle.rules.specs.declared.delta.NewDefinition.{NewDefinition}

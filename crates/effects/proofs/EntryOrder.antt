@@ -34,7 +34,7 @@ not_true false e = refl
 same_bytes : (x y : List ℕ) → bytes_eq x y ≡ true → x ≡ y
 same_bytes x y e = (bytes_eq-Decides x y).0 e
 
--- no key stands twice among the writes of a set in form
+-- no key repeats among the writes of a well-formed set
 writes_apart : (n : NsSet) → is_set_in_form n ≡ true → are_distinct (map (λ w. w.key) n.writes) ≡ true
 writes_apart n form =
     second_holds (are_distinct (map (λ r. r.key) n.reads)) (are_distinct (map (λ w. w.key) n.writes))
@@ -48,7 +48,7 @@ Entries = List (StateKey × HistoryEntry)
 abbrev of_key : StateKey → Entries → Entries
 of_key k es = filter (λ e. is_same_key k e.0) es
 
--- what a key has once these are added, all of them its own
+-- what a key has after these are added, all of them its own
 abbrev behind : Option (List HistoryEntry) → Entries → Option (List HistoryEntry)
 behind o [] = o
 behind o (e ∷ es) = behind (Some (e.1 ∷ unwrap_or o [])) es

@@ -61,7 +61,7 @@ keys_changed (k ∷ ks) (Some row ∷ rows) = ap (map (λ c. c.0)) (changes-cons
 pub keys_rise : (ks : List StateKey) (rows : List (Option (Option Row))) → IsStrictlySortedBy key_cmp ks → IsStrictlySortedBy key_cmp (map (λ c. c.0) (changes_at ks rows))
 keys_rise ks rows h = subst (IsStrictlySortedBy key_cmp) (sym (keys_changed ks rows)) (changed_rise ks rows h)
 
--- ---- none removes a key that isn't there
+-- ---- none removes a key that doesn't exist
 
 module _ (s : State) where
   abbrev Real : List StateKey → List (Option (Option Row)) → Type 0
@@ -101,7 +101,7 @@ module _ (s t : State) where
       let n = neither (is_same_key q k) (is_among q (changed ks rows)) not in
       missed q ks rows (omega (arith, many)) (λ m. h (suc m)) (sym (ap (λ (b : Bool). b || is_among q ks) n.0) ∙ is) n.1
 
--- ---- a key that nobody writes
+-- ---- a key that no candidate writes
 
 none_among : (cs : List Candidate) (k : StateKey) (i : ℕ) → is_among k (flat_map written_by cs) ≡ false → i < length cs → is_among k (written_by (get_or cs i (flagged BadPayload))) ≡ false
 none_among [] k i none lt = absurd (omega arith)

@@ -11,7 +11,7 @@ use Rattle.rules.specs.State.{StateKey}
 use Rattle.effects.specs.Rows.{row_in, rows_in, HasKey, HaveKeys, change_at, changes_at, kept_change_at, kept_changes_at}
 use Rattle.effects.proofs.FinalChanges.{changes-cons}
 
--- with its key, where there is one
+-- with its key, if there is one
 abbrev Kept : Type 0
 Kept = Option (StateKey × Row)
 
@@ -66,7 +66,7 @@ kept_are (k ∷ ks) (w ∷ ws) h =
     ∙ ap (λ l. change_at k (row_in w) ++ l) (kept_are ks ws (λ n. h (suc n)))
     ∙ sym (changes-cons k ks (row_in w) (rows_in ws))
 
--- where rows or keys are at their end, no change is left
+-- when rows or keys are at their end, no change is left
 pub no_change_left : (ks : List StateKey) (ws : List (Option Kept)) → (length ws ≡ 0) ⊎ (length ks ≡ 0) → kept_changes_at ks ws ≡ []
 no_change_left [] [] h = refl
 no_change_left [] (w ∷ ws) h = refl

@@ -1,4 +1,4 @@
--- The rows that a state has once the next candidate is taken, and the history that its entries make.
+-- The rows that a state has after the next candidate, and the history that its entries make.
 use Rattle.std.proofs.Common.{◌≡◌, ℕ, suc, ◌+◌, Bool, true, false, cond, List, [], ◌++◌, Option, refl, sym, ap, ◌∙◌, inl, inr, arith}
 use Rattle.std.specs.Prelude.{if◌then◌else◌}
 use Rattle.std.specs.FinMap.{get}

@@ -17,7 +17,7 @@ use Rattle.rules.proofs.Keys.{key_ties, same_key_is, same_as_itself}
 use Rattle.key_chains.specs.Job.{keys_of}
 use Rattle.effects.specs.Rows.{ShowRows, AreRealRows, change_of_row, is_real_row}
 
--- ---- no key stands twice in a list that strictly rises
+-- ---- no key repeats in a list that strictly rises
 
 above_apart : (k : StateKey) (ks : List StateKey) (n : ℕ) → AllByRecursion (λ y. key_cmp k y ≡ Less) ks → slice_get ks n ≡ Some k → Less ≡ Equal
 above_apart k [] n h e = absurd cc
@@ -46,7 +46,7 @@ one_place (x ∷ ks) k (suc m) (suc n) h a b = ap suc (one_place ks k m n h.1 a 
 
 -- ---- one row is written
 
--- what stands for it at its place
+-- what is kept for it at its place
 pub shows_one_more : (j : Job) (rows : List (Option (Option Row))) (s : State) (n : ℕ) (k : StateKey) (row : Option Row) (written : Option (Option Row)) → unwrap_or written (get j.state k) ≡ row
     → IsStrictlySortedBy key_cmp (keys_of j) → slice_get (keys_of j) n ≡ Some k → n < length rows
     → ShowRows j rows s → ShowRows j (set rows n written) (set_at s k row)

@@ -1,4 +1,4 @@
--- What the writes of one transaction make of the state, key by key.
+-- The state after the writes of one transaction, key by key.
 use Rattle.std.proofs.Common.{◌≡◌, ℕ, zero, suc, ◌+◌, ◌<◌, Bool, true, false, cond, ◌||◌, List, [], ◌∷◌, ◌++◌, length, take, get_or, map, All, arith, Option, Some, None, refl, sym, ap, ◌∙◌}
 use Rattle.std.specs.Prelude.{option_map, slice_get}
 use Rattle.std.proofs.lemmas.List.{append-nil, append_assoc, take_more}
@@ -31,7 +31,7 @@ parts_are v (Some w) None row = refl
 parts_are v None (Some p) row = refl
 parts_are v None None row = refl
 
--- the row that a transaction makes of its key
+-- the row that a transaction leaves at its key
 pub row_written-is : (v : Version) (tx : Tx) (w : WrittenKey) (row : Option Row) → IsWriteOf tx w → row_written v w row ≡ effect_at v tx w.key row
 row_written-is v tx w row is = ap (λ x. row_by_parts v x w.policy row) is.0 ∙ ap (λ p. row_by_parts v (option_map (λ x. x.value) (write_of tx w.key)) p row) is.1 ∙ parts_are v (write_of tx w.key) (policy_write_of tx w.key) row
 
@@ -47,7 +47,7 @@ again v None (Some p) (Some row) = refl
 again v None (Some p) None = refl
 again v None None row = refl
 
--- its writes one by one make of each key what the transaction makes of it
+-- its writes one by one leave each key with what the transaction leaves there
 module _ (v : Version) (tx : Tx) where
   one_more : (s : State) (w : WrittenKey) (k : StateKey) (among b : Bool) → IsWriteOf tx w → is_same_key k w.key ≡ b
       → cond among (effect_at v tx k (cond b (row_written v w (get s w.key)) (get s k))) (cond b (row_written v w (get s w.key)) (get s k)) ≡ cond (b || among) (effect_at v tx k (get s k)) (get s k)
@@ -88,7 +88,7 @@ next_written v w s ws xs n x same are lt is =
     ∙ ap (λ l. with_writes w s (take n l ++ x ∷ [])) (sym are)
     ∙ ap (with_writes w s) (ap (λ y. take n xs ++ y ∷ []) is ∙ sym (take_more xs n x lt)) ∙ ap (λ l. with_writes w s (take (n + 1) l)) are
 
--- and its entry stands behind those before it
+-- and its entry follows those before it
 pub next_entries : (v w : Version) (id : List ℕ) (es : List (StateKey × HistoryEntry)) (ws xs : List WrittenKey) (n : ℕ) (x : WrittenKey) → v ≡ w → xs ≡ ws → n < length xs → x ≡ get_or xs n x
     → (es ++ entries_written w id (take n ws)) ++ entry_written v id x ≡ es ++ entries_written w id (take (n + 1) ws)
 next_entries v w id es ws xs n x same are lt is =

@@ -10,7 +10,7 @@ use Rattle.rules.specs.Job.{Job}
 use Rattle.rules.specs.State.{StateKey}
 use Rattle.candidates.specs.declared.written_key.WrittenKey.{WrittenKey}
 
--- that of a key, where its value is written
+-- that of a key, if its value is written
 abbrev pub entry_at : Version → List ℕ → StateKey → Option (Option (List ℕ)) → List (StateKey × HistoryEntry)
 entry_at v id k None = []
 entry_at v id k (Some value) = (k, record { version = v; id = id; value = value }) ∷ []
@@ -21,6 +21,6 @@ entry_written v id w = entry_at v id w.key w.value
 abbrev pub entries_written : Version → List ℕ → List WrittenKey → List (StateKey × HistoryEntry)
 entries_written v id ws = flat_map (entry_written v id) ws
 
--- They make of a history what the entries of the candidates before i make of it.
+-- They make the same history of any other as the entries of the candidates before i.
 abbrev pub MakeHistory : Job → List NewEntry → ℕ → Type 0
 MakeHistory j es i = (h : History) → with_entries h (entries_in es) ≡ with_entries h (entries_to j i)

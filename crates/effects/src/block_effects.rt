@@ -1,4 +1,4 @@
-//! What the valid candidates of a block make of the state, of the history and of the definitions.
+//! The state, the history and the definitions that the valid candidates of a block lead to.
 ghost use Rattle.std.specs.Prelude.{◌≡◌, length, IfOk};
 ghost use Rattle.rules.specs.State.{with_changes};
 ghost use Rattle.rules.specs.History as history;
@@ -20,11 +20,11 @@ use values::{Bytes, Shared};
 /// What a block changes, but for the ids that it uses.
 #[derive(Drop)]
 pub struct Effects {
-    /// One for each key that some valid transaction writes, in the keys' order, with what the key has behind all of them; but none
-    /// for a key that has no row then and had none before the block.
+    /// One for each key that some valid transaction writes, in the keys' order, with what the key has after all of
+    /// them; but none for a key that has no row then and had none before the block.
     pub changes: Vec<Change>,
     /// One for each value write or delete of a valid transaction: transaction by transaction, and in each in the keys'
-    /// order. The clause says which history they make, and not how those of several keys are mixed.
+    /// order. The contract states which history they make, and not how those of several keys are mixed.
     pub entries: Vec<KeptEntry>,
     /// One for each valid update, in their order.
     pub definitions: Vec<NewDefinition>,
@@ -32,9 +32,9 @@ pub struct Effects {
 
 /// The effects of a block whose flags these are.
 ///
-/// Rows and entries keep keys and values as parts of these bytes, where the transactions begin at these places: what is found
-/// there isn't copied. No clause speaks of bytes and places, and wrong ones cost copies alone. Definitions are copied from
-/// their updates. Linear in the candidates and in what the block writes; an `Err` is want of memory alone.
+/// Rows and entries keep keys and values as slices of these bytes, where the transactions begin at these places: what
+/// is found there isn't copied. No contract mentions bytes and places, and wrong ones only cost copies. Definitions are
+/// copied from their updates. Linear in the candidates and in what the block writes; the only `Err` is out of memory.
 pub fn effects_of(
     alloc: Global,
     job: &Job<'_, '_>,

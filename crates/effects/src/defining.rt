@@ -27,7 +27,7 @@ fn definition_of(alloc: Global, open_update: &OpenUpdate<'_>) -> Result<NewDefin
     })
 }
 
-/// Adds what a candidate with this flag gives.
+/// Adds the definition that a candidate with this flag gives.
 fn add_definition(
     alloc: Global,
     definitions: &mut Vec<NewDefinition>,
@@ -64,7 +64,7 @@ fn take(
     add_definition(alloc, definitions, job.candidate(i), flag)
 }
 
-/// The definitions that the valid updates of a job give, where these are its flags. A copy of each name and policy.
+/// The definitions that the valid updates of a job give, if these are its flags. A copy of each name and policy.
 pub(crate) fn definitions_of(
     alloc: Global,
     job: &Job<'_, '_>,

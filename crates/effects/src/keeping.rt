@@ -1,4 +1,4 @@
-//! What a block writes is kept as parts of the block's own bytes, where it is found there.
+//! What a block writes is kept as slices of the block's own bytes, if it is found there.
 ghost use Rattle.std.specs.Prelude.{◌≡◌, IfOk};
 
 use candidates::{Spots, StateKey, WrittenKey, WrittenValue};
@@ -7,7 +7,7 @@ use std::alloc::{AllocError, Global};
 use transaction::Tx;
 use values::{Bytes, Part, Shared};
 
-// how many bytes tell how long the channel's name is, behind which the id stands
+// how many bytes the length of the channel's name takes, after which the id follows
 const NAME_COUNT: usize = 1;
 
 // of a key that was written nowhere yet
@@ -17,7 +17,8 @@ const NOWHERE: Spots = Spots {
     value: 0,
 };
 
-/// The bytes of a block, where its transactions may begin there, and where each of its keys may stand, as it was written last.
+/// The bytes of a block, where its transactions may begin there, and where each of its keys may be, as it was written
+/// last.
 #[derive(Drop)]
 pub(crate) struct Keeping<'k> {
     alloc: Global,
@@ -27,7 +28,7 @@ pub(crate) struct Keeping<'k> {
 }
 
 impl<'k> Keeping<'k> {
-    /// Of a block that writes so many keys.
+    /// Of a block that writes this many keys.
     pub fn new(
         alloc: Global,
         bytes: &'k Shared<Bytes>,
@@ -42,7 +43,7 @@ impl<'k> Keeping<'k> {
         })
     }
 
-    /// The allocator that has what is kept.
+    /// The allocator of what is kept.
     pub fn alloc(&self) -> Global {
         self.alloc
     }
@@ -57,7 +58,7 @@ impl<'k> Keeping<'k> {
         }
     }
 
-    /// The id of candidate i, to be kept. Takes memory where it isn't found.
+    /// The id of candidate i, to be kept. Takes memory if it isn't found.
     pub fn id(&self, i: u32, tx: &Tx<'_>) -> Result<KeptId, AllocError>
         ensures { IfOk result (λ kept. kept ≡ tx.now.id) }
     {
@@ -70,8 +71,8 @@ impl<'k> Keeping<'k> {
         )
     }
 
-    /// Notes where candidate i writes a key, which has this number: where it writes a value, for else there is no row, or one with
-    /// the value that it had.
+    /// Notes where candidate i writes a key, which has this number: only if it writes a value, since otherwise there is
+    /// no row, or one with the value that it had.
     pub fn note(&mut self, i: u32, number: u32, written: &WrittenKey<'_>) {
         let start = self.start_of(i);
         if let Some(Some(value)) = &written.value {
@@ -92,7 +93,7 @@ impl<'k> Keeping<'k> {
         }
     }
 
-    /// The key of this number, to be kept. Takes memory where it isn't found.
+    /// The key of this number, to be kept. Takes memory if it isn't found.
     pub fn key(&self, number: u32, key: &StateKey<'_>) -> Result<KeptKey, AllocError>
         ensures { IfOk result (λ kept. kept ≡ key.now) }
     {
@@ -104,7 +105,7 @@ impl<'k> Keeping<'k> {
         }
     }
 
-    /// The value that was written last at the key of this number, to be kept. Takes memory where it isn't found.
+    /// The value that was written last at the key of this number, to be kept. Takes memory if it isn't found.
     pub fn value(&self, number: u32, value: &WrittenValue<'_>) -> Result<Part, AllocError>
         ensures { IfOk result (λ part. part ≡ value.now) }
     {

@@ -14,7 +14,7 @@ use rules::{KeptEntry, KeptId, KeptKey, KeyedRow, Row};
 use std::alloc::{AllocError, Global};
 use values::Shared;
 
-/// The row that a key has once a transaction wrote it, and the history entry of that write.
+/// The row that a key has after a transaction wrote it, and the history entry of that write.
 #[derive(Drop)]
 pub(crate) struct KeyEffect {
     pub(crate) row: Option<Shared<KeyedRow>>,
@@ -51,7 +51,7 @@ fn effect_of_delete(alloc: Global, writer: &Writer, key: KeptKey) -> Result<KeyE
     })
 }
 
-/// Where the value isn't written, and this is the row.
+/// If the value isn't written, and this is the row.
 fn effect_of_policy(
     keeping: &Keeping<'_>,
     number: u32,
@@ -71,7 +71,7 @@ fn effect_of_policy(
     Ok(KeyEffect { row, entry: None })
 }
 
-/// Of what is written at the key of this number, whose row this is now.
+/// Of what is written at the key of this number, which now has this row.
 pub(crate) fn key_effect(
     keeping: &Keeping<'_>,
     writer: &Writer,

@@ -1,5 +1,5 @@
-//! What the valid candidates of a block change: the rows of the keys that transactions write, and the histories; and the
-//! definitions that updates give.
+//! What the valid candidates of a block change: the rows of the keys that transactions write, and the histories; and
+//! the definitions that updates give.
 #![tactic(auto)]
 
 mod block_effects;

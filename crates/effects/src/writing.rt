@@ -23,14 +23,14 @@ use std::alloc::{AllocError, Global};
 use transaction::{Tx, Version};
 use values::Shared;
 
-/// What the valid transactions so far made of a key's row, `Some(None)` where they removed it; `None` where none of them wrote
-/// the key, or where it has no row now as before the block.
+/// The row that the valid transactions so far leave at a key, `Some(None)` if they removed it; `None` if none of them
+/// wrote the key, or if it has no row now as before the block.
 pub(crate) type WrittenRow = Option<Option<Shared<KeyedRow>>>;
 
 /// What the valid transactions of a block write.
 #[derive(Drop)]
 pub(crate) struct Written {
-    /// Those of the keys that the block writes, each at its key's place.
+    /// The rows of the keys that the block writes, each at its key's place.
     pub(crate) rows: Vec<WrittenRow>,
     pub(crate) entries: Vec<KeptEntry>,
 }
@@ -45,7 +45,7 @@ fn row_now<'r>(written: &'r WrittenRow, before: Option<&'r Row>) -> Option<&'r R
     }
 }
 
-/// What a row is to the one before the block: no change, where there is none and was none.
+/// What a row is to the one before the block: no change, if there is none and was none.
 fn change_of_row(before: Option<&Row>, row: Option<Shared<KeyedRow>>) -> WrittenRow
     ensures row { row_in result ≡ change_of_row (option_copied before.entry) (option_map (λ p. p.1) row) }
     ensures kept { (x : Option (StateKey × Row)) → result ≡ Some x → x ≡ row }
@@ -166,7 +166,7 @@ fn take(
     }
 }
 
-/// Rows of so many keys that nobody wrote.
+/// Rows of this many keys that no transaction wrote.
 fn unwritten(alloc: Global, count: usize) -> Result<Vec<WrittenRow>, AllocError>
     ensures { IfOk result (λ rows. rows.items ≡ replicate count None) }
 {
@@ -199,7 +199,7 @@ fn take_all(
     Ok(())
 }
 
-/// What all candidates of a job write, whose flags these are: the rows behind them, and the history entries. Linear in
+/// What all candidates of a job write, whose flags these are: the rows after them, and the history entries. Linear in
 /// what the valid ones write.
 pub(crate) fn write_block(
     keeping: &mut Keeping<'_>,
@@ -218,7 +218,7 @@ pub(crate) fn write_block(
     let entries = Vec::with_capacity(keeping.alloc(), count)?;
     let mut all = Written { rows, entries };
     take_all(keeping, &mut all, job, flags)?;
-    // worlds keep the list, which is shorter where transactions are invalid
+    // worlds keep the list, which is shorter if transactions are invalid
     all.entries.shrink_to_fit();
     Ok(all)
 }

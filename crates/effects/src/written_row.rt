@@ -1,4 +1,4 @@
-//! What the writes of one key make of its row.
+//! The row that the writes of one key leave.
 ghost use Rattle.std.specs.Prelude.{◌≡◌, None, IfOk};
 ghost use Rattle.std.specs.Option.{option_copied};
 ghost use Rattle.effects.specs.WrittenRow.{policy_beside, row_by_parts};
@@ -9,7 +9,7 @@ use std::alloc::AllocError;
 use transaction::Version;
 use values::Shared;
 
-/// The policy beside a written value.
+/// The policy for a written value.
 pub(crate) fn policy_beside(
     written: &Option<Option<Shared<Policy>>>,
     row: Option<&Row>,
@@ -22,7 +22,8 @@ pub(crate) fn policy_beside(
     }
 }
 
-/// The row where the value isn't written: with the policy that is, if one is. What it has gets one more owner. Takes no memory.
+/// The row if the value isn't written: with the policy that is, if one is. What it has gets a second reference. Takes
+/// no memory.
 pub(crate) fn row_beside(
     version: Version,
     policy: &Option<Option<Shared<Policy>>>,

@@ -1,4 +1,4 @@
--- The step of now, at a world of version 1 and bytes of no other, is the step of the first version.
+-- Today's step, over a world of version 1 and bytes of no other, is the step of the first version.
 use Rattle.std.proofs.Common.{◌≡◌, ◌≢◌, ℕ, ◌==◌, zero, suc, ◌-◌, cond, Bool, true, false, List, [], ◌∷◌, ◌++◌, length, map, get_or, Option, Some, None, Result, Ok, Err, refl, sym, ap, subst, ◌∙◌, arith}
 use Rattle.std.specs.Prelude.{if◌then◌else◌, option_map, option_to_list, unwrap_or, slice_get}
 use Rattle.std.specs.List.{AllByRecursion, range_with_len}
@@ -105,7 +105,7 @@ at-map [] i = refl
 at-map (c ∷ cs) zero = refl
 at-map (c ∷ cs) (suc i) = at-map cs i
 
--- ---- the fold
+-- ---- serial execution
 
 abbrev embed_job : Option Tree → was_job.Job → job.Job
 embed_job a j = record { number = j.number; state = j.state; definitions = j.definitions; admin = a; candidates = map embed j.candidates }
@@ -128,7 +128,7 @@ flag_of-same : (a : Option Tree) (d : Policies) (s : State) (r : was.Running) (c
 flag_of-same a d s r (was_candidate.flagged flag) = refl
 flag_of-same a d s r (was_candidate.opened tx signers) = flag_same (was_candidate.opened tx signers) (is_endorsed d s r.touched tx signers) (read_verdict r.state tx)
 
--- what a candidate makes of what runs along
+-- what runs along, after a candidate
 abbrev after : Option Tree → Policies → State → Version → fold.Running → candidate.Candidate → fold.Running
 after a d s v r c = record {
   state = if is_valid (flag_of a d s r c) then job.state_by v c r.state else r.state;

@@ -1,4 +1,4 @@
--- The step of the first version has one answer and one world after it, want of memory aside.
+-- The step of the first version has one answer and one world after it, out of memory aside.
 use Rattle.std.proofs.Common.{◌≡◌, ◌≢◌, ◌⊎◌, ℕ, zero, suc, List, [], ◌∷◌, ◌++◌, ◌-◌, length, map, get_or, Result, Ok, Err, Option, Some, None, refl, sym, ap, subst, ◌∙◌, inl, inr, arith}
 use Rattle.std.specs.Prelude.{option_map, unwrap_or, slice_get}
 use Rattle.transaction.specs.declared.block_version.BlockVersion.{BlockVersion}
@@ -30,13 +30,13 @@ use Rattle.first_version.proofs.AsBefore.{step_as_before}
 
 -- ---- one answer
 
--- the laws of the grammar of version 1
+-- what is proved of the grammar of version 1
 pub record ReadsOnce : Type 0 where
   pub one_block : (bytes : List ℕ) (a b : Block) → Spells bytes a → Spells bytes b → a ≡ b
   pub one_fault : (bytes : List ℕ) (f g : BlockFault) → HasFault bytes f → HasFault bytes g → f ≡ g
   pub block_or_fault : (bytes : List ℕ) (b : Block) (f : BlockFault) → Spells bytes b → HasFault bytes f → ⊥
 
--- a refusal that isn't want of memory is of bytes that spell no block, or of a block
+-- a refusal other than out of memory is of bytes that encode no block, or of a block
 abbrev IsOfBytes : List ℕ → Refused → Type 0
 IsOfBytes bytes r = (f : BlockFault) × (r ≡ Malformed f) × HasFault bytes f
 
@@ -117,9 +117,9 @@ one_step_by laws channel accepts old a b bytes (Err r) (Err r') s t p q =
     let second = of_bytes_or_block old bytes r' t.0 (not_memory r' q) in
     (ap refused_answer (one_refusal laws old bytes r r' first second), s.1 ∙ sym t.1)
 
--- ---- and there is one: that of now, where the bytes are of version 1
+-- ---- and one exists: that of today, if the bytes are of version 1
 
--- a world of now whose blocks are all of version 1
+-- a world of today whose blocks are all of version 1
 abbrev kept_of : CommittedBlock → kept.CommittedBlock
 kept_of b = record { bytes = b.bytes; header_hash = b.header_hash; commit_hash = []; version = V1; flags = b.flags }
 
@@ -172,7 +172,7 @@ second_or_not bytes (inr (NoMemory, h)) = absurd h
 abbrev pub HasAnswer : Configuration → Accepts → World → List ℕ → Type 0
 HasAnswer channel accepts old bytes = (x : Result Accepted Refused) × (new : World) × Step channel accepts old bytes x new × (x ≢ Err Memory)
 
--- the same of now
+-- the same of today
 abbrev pub HasAnswerNow : channel.Configuration → Accepts → world.World → List ℕ → Type 0
 HasAnswerNow channel accepts old bytes = (x : Result now.Accepted Refused) × (new : world.World) × step.Step channel accepts old bytes x new × (x ≢ Err Memory)
 

@@ -1,4 +1,4 @@
--- A chain that ends in version 1 is one of the first version, whatever was refused in it.
+-- A chain that ends in version 1 is one of the first version, no matter what was refused in it.
 use Rattle.std.proofs.Common.{◌≡◌, ℕ, ◌-◌, cond, Bool, true, false, List, [], ◌∷◌, ◌++◌, length, take, drop, get_or, Option, Result, Ok, Err, refl, sym, ap, subst, ◌∙◌, arith}
 use Rattle.std.specs.Prelude.{option_map, unwrap_or, slice_get}
 use Rattle.std.proofs.lemmas.Bool.{false≢true}
@@ -43,11 +43,11 @@ first_before V1 V1 e h = refl
 first_before V1 V2 e h = absurd (false≢true (sym h))
 first_before V2 w e h = absurd cc
 
--- the version of a block behind which the world's version is 1
+-- the version of a block after which the world's version is 1
 first_block : (channel : Configuration) (accepts : Accepts) (old new : World) (bytes : List ℕ) (b : Block) → new ≡ commit.world_after channel accepts old bytes b → IsFirst new → b.version ≡ V1
 first_block channel accepts old new bytes b made is = sym (version_behind channel accepts old bytes b) ∙ sym (ap last_version made) ∙ is
 
--- where a step leaves version 1, it began with it, and with the same definitions
+-- if a step leaves version 1, it began with it, and with the same definitions
 step_back : (channel : Configuration) (accepts : Accepts) (old new : World) (bytes : List ℕ) (x : Result Accepted Refused)
     → Step channel accepts old bytes x new → IsFirst new → IsFirst old × (new.definitions ≡ old.definitions)
 step_back channel accepts old new bytes (Ok accepted) s is =

@@ -1,4 +1,4 @@
--- What the first version answers, worked out by hand.
+-- What the first version returns, worked out by hand.
 use Rattle.std.specs.Prelude.{◌≡◌, true, false, [], ◌∷◌, codes, Err, refl}
 use Rattle.block.specs.declared.fault.BlockFault.TheVariants.{BadMagic, Truncated}
 use Rattle.policy_eval.specs.Accepts.{Accepts}

@@ -1,4 +1,4 @@
--- A block as it is kept, and what is answered to one that is accepted.
+-- A block as it is kept, and what is returned for one that is accepted.
 use Rattle.std.specs.Prelude.{ℕ, List}
 use Rattle.rules.specs.declared.flag.Flag.{Flag}
 

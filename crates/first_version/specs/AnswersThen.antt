@@ -1,4 +1,4 @@
--- What the first version answers to strings of bytes that today's ledger took or refused.
+-- What the first version returns for byte strings that today's ledger accepted or refused.
 use Rattle.std.specs.Prelude.{ℕ, List, [], ◌∷◌, take, Bool, if◌then◌else◌, Result, Err}
 use Rattle.std.specs.Str.{bytes_eq}
 use Rattle.transaction.specs.declared.block_version.BlockVersion.TheVariants.{V2}

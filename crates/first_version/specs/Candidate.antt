@@ -1,4 +1,4 @@
--- Candidates: what each transaction of a block is before the rules on the state are asked.
+-- Candidates: what each transaction of a block is before the rules on the state.
 use Rattle.std.specs.Prelude.{ℕ, List, [], ◌∷◌, ◌++◌, Bool, not, if◌then◌else◌, Option, Some, None, is_none, option_to_list}
 use Rattle.std.specs.Str.{bytes_eq}
 use Rattle.transaction.specs.declared.identity.Identity.{Identity}
@@ -19,8 +19,7 @@ pub data Candidate : Type 0 where
   flagged : EarlyFlag → Candidate
   opened : Tx → List Identity → Candidate
 
--- Where it comes from: its channel, its creator's signature over all bytes before it, its id. A fault here leaves the id
--- unused.
+-- Its origin: its channel, its creator's signature over all bytes before it, its id. A fault here leaves the id unused.
 abbrev pub origin_fault : Configuration → Accepts → Tx → Option EarlyFlag
 origin_fault channel accepts tx = first_failed (
     (bytes_eq tx.channel channel.name, TargetChainNotFound)
@@ -28,7 +27,7 @@ origin_fault channel accepts tx = first_failed (
     ∷ (bytes_eq tx.id (tx_id_of tx.nonce (identity_bytes tx.creator)), BadProposalTxId)
     ∷ [])
 
--- what it says: an id that is new, read and write sets in form, chaincodes that are defined
+-- its content: an id that is new, well-formed read and write sets, chaincodes that are defined
 abbrev pub content_fault : Configuration → Bool → Tx → Option EarlyFlag
 content_fault channel used tx = first_failed (
     (not used, DuplicateTxId)
@@ -40,8 +39,8 @@ abbrev pub flagged_or : Option EarlyFlag → Candidate → Candidate
 flagged_or (Some flag) c = flagged flag
 flagged_or None c = c
 
--- The candidate of a place, whose bytes spell this transaction or, at None, no transaction; used says whether its id was
--- used before. The first test that fails gives the flag.
+-- The candidate of a place, whose bytes encode this transaction or, at None, no transaction; used states whether its id
+-- was used before. The first test that fails gives the flag.
 abbrev pub candidate_of : Configuration → Accepts → Bool → Option Tx → Candidate
 candidate_of channel accepts used None = flagged BadPayload
 candidate_of channel accepts used (Some tx) =
@@ -49,7 +48,7 @@ candidate_of channel accepts used (Some tx) =
 
 -- ---- used ids
 
--- the id that a transaction uses: its own, unless there is a fault in where it comes from
+-- the id that a transaction uses: its own, unless its origin has a fault
 abbrev pub used_id : Configuration → Accepts → Option Tx → Option (List ℕ)
 used_id channel accepts None = None
 used_id channel accepts (Some tx) = if is_none (origin_fault channel accepts tx) then Some tx.id else None

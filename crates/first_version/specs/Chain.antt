@@ -1,4 +1,4 @@
--- Strings of bytes handed in one after the other.
+-- Byte strings submitted one after the other.
 use Rattle.std.specs.Prelude.{◌≡◌, List, [], ◌∷◌, Result}
 use Rattle.first_version.specs.Configuration.{Configuration}
 use Rattle.first_version.specs.Answer.{Accepted}

@@ -1,4 +1,4 @@
--- What a linked block makes of a world.
+-- The world after a linked block.
 use Rattle.std.specs.Prelude.{ℕ, suc, List, [], ◌∷◌, ◌++◌, length, map, Option, option_to_list}
 use Rattle.block.specs.first_version.Grammar.{Block}
 use Rattle.transaction.specs.declared.transaction.Tx.{Tx}
@@ -15,7 +15,7 @@ use Rattle.rules.specs.History.{with_entries}
 use Rattle.rules.specs.FirstUses.{with_uses}
 use Rattle.first_version.specs.World.{World, height_of}
 
--- the transactions of a block, none where the bytes spell none
+-- the transactions of a block, none where the bytes encode none
 abbrev pub txs_of : Block → List (Option Tx)
 txs_of b = map tx_of b.txs
 
@@ -48,7 +48,7 @@ committed channel accepts w txs kept =
       blocks = w.blocks ++ kept ∷ [];
     }
 
--- the world after a linked block, which bytes spell
+-- the world after a linked block, which bytes encode
 abbrev pub world_after : Configuration → Accepts → World → List ℕ → Block → World
 world_after channel accepts w bytes b =
     committed channel accepts w (txs_of b) (committed_of bytes b (job_of channel accepts w (txs_of b)))

@@ -19,15 +19,15 @@ endorsed_in j i r = endorsement j i r.touched
 abbrev pub flag_in : Job → ℕ → Running → Flag
 flag_in j i r = flag_by (candidate_at j i) (endorsed_in j i r) (reads j i r.state)
 
--- A valid candidate is applied. The keys whose policy is written by one that passes the endorsement rule are touched for
--- all later ones, also where its reads fail.
+-- A valid candidate is applied. The keys whose policy is written by one that passes the endorsement rule are touched
+-- for all later ones, also if its reads fail.
 abbrev pub step : Job → ℕ → Running → Running
 step j i r = record {
   state = if is_valid (flag_in j i r) then state_after j i r.state else r.state;
   touched = if endorsed_in j i r then r.touched ++ touched_by (candidate_at j i) else r.touched;
 }
 
--- what runs along before candidate i is taken
+-- what runs along before candidate i
 unfoldable pub running : Job → ℕ → Running
 running j zero = record { state = j.state; touched = [] }
 running j (suc i) = step j i (running j i)

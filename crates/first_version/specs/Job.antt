@@ -33,7 +33,7 @@ candidate_at j i = slice_index_or j.candidates i (flagged BadPayload)
 abbrev pub version_of : Job → ℕ → Version
 version_of j i = record { block = j.number; tx = i }
 
--- ---- one candidate of whatever kind; a flagged one writes and reads nothing
+-- ---- one candidate of any kind; a flagged one writes and reads nothing
 
 -- the keys whose policy it writes
 abbrev pub touched_by : Candidate → List StateKey
@@ -74,7 +74,7 @@ flag_by (opened tx signers) endorsed verdict = open_flag endorsed verdict
 
 -- ---- candidate i
 
--- whether it passes the endorsement rule where these keys were touched
+-- whether it passes the endorsement rule if these keys were touched
 abbrev pub endorsement : Job → ℕ → List StateKey → Bool
 endorsement j i touched = endorsement_by j.definitions j.state touched (candidate_at j i)
 
@@ -82,6 +82,6 @@ endorsement j i touched = endorsement_by j.definitions j.state touched (candidat
 abbrev pub reads : Job → ℕ → State → ReadVerdict
 reads j i s = reads_by s (candidate_at j i)
 
--- the state once it is applied
+-- the state after it is applied
 abbrev pub state_after : Job → ℕ → State → State
 state_after j i s = state_by (version_of j i) (candidate_at j i) s

@@ -32,12 +32,12 @@ IsUnlinked w b OldVersion = ⊥
 IsUnlinked w b (Malformed fault) = ⊥
 IsUnlinked w b Memory = ⊥
 
--- Why bytes aren't taken: they spell no block, or one that isn't linked.
+-- Why bytes are refused: they encode no block, or one that isn't linked.
 abbrev pub IsRefused : World → List ℕ → Refused → Type 0
 IsRefused w bytes (Malformed fault) = HasFault bytes fault
 IsRefused w bytes (WrongNumber want got) = (b : Block) × Spells bytes b × IsUnlinked w b (WrongNumber want got)
 IsRefused w bytes WrongPrevious = (b : Block) × Spells bytes b × IsUnlinked w b WrongPrevious
 IsRefused w bytes WrongDataHash = (b : Block) × Spells bytes b × IsUnlinked w b WrongDataHash
 IsRefused w bytes OldVersion = ⊥
--- want of memory may come in the place of any answer
+-- any answer may be replaced by out of memory
 IsRefused w bytes Memory = Unit {0}

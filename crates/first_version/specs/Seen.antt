@@ -1,4 +1,4 @@
--- What the first version sees of a world of now, and of what is answered.
+-- What the first version sees of a world of today, and of its answers.
 use Rattle.std.specs.Prelude.{◌≡◌, ◌≢◌, ℕ, List, ◌++◌, map, Result, Ok, Err}
 use Rattle.transaction.specs.declared.block_version.BlockVersion.TheVariants.{V1, V2}
 use Rattle.block.specs.Grammar.{magic_of}

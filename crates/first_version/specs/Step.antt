@@ -1,4 +1,4 @@
--- What one string of bytes makes of a world, and what is answered.
+-- The world after one byte string, and the answer.
 use Rattle.std.specs.Prelude.{◌≡◌, ℕ, List, Result, Ok, Err}
 use Rattle.block.specs.first_version.Grammar.{Block, Spells}
 use Rattle.first_version.specs.Configuration.{Configuration}
@@ -11,7 +11,7 @@ use Rattle.first_version.specs.Linked.{IsLinked, IsRefused}
 use Rattle.first_version.specs.Commit.{txs_of, job_of, world_after}
 use Rattle.first_version.specs.Fold.{flags}
 
--- what is answered to a linked block
+-- the answer to a linked block
 abbrev pub accepted_of : Configuration → Accepts → World → Block → Accepted
 accepted_of channel accepts w b = record {
   number = b.header.number;
@@ -19,8 +19,8 @@ accepted_of channel accepts w b = record {
   flags = flags (job_of channel accepts w (txs_of b));
 }
 
--- Bytes that spell a linked block are accepted, other bytes are refused for the first reason that holds. To either, want
--- of memory may be answered in its place. A refusal changes nothing.
+-- Bytes that encode a linked block are accepted, other bytes are refused for the first reason that holds. Either answer
+-- may be replaced by out of memory. A refusal changes nothing.
 abbrev pub Step : Configuration → Accepts → World → List ℕ → Result Accepted Refused → World → Type 0
 Step channel accepts old bytes (Ok accepted) new =
     (b : Block) × Spells bytes b × IsLinked old b × (accepted ≡ accepted_of channel accepts old b) × (new ≡ world_after channel accepts old bytes b)

@@ -17,10 +17,10 @@ ghost use Rattle.first_version.specs.Seen.{seen_channel, seen, seen_answer, IsFi
 ghost use Rattle.first_version.specs.Step.{Step};
 ghost use Rattle.first_version.specs.World.{World, empty_world};
 
-/// Laws, and no work: where the world's version is 1 and the bytes don't begin with the magic of version 2, a step is one of the
-/// first version over the world's definitions, and leaves version and definitions as they are. And so a chain of such strings,
-/// from the empty world of a channel, is one of the first version: the same refusals or flags, values, versions, key policies,
-/// history, first uses, blocks and header hashes.
+/// Proved (the function does nothing at run time): if the world's version is 1 and the bytes don't begin with the magic
+/// of version 2, a step is one of the first version over the world's definitions, and leaves version and definitions
+/// unchanged. And so a chain of such byte strings, from the empty world of a channel, is one of the first version: the
+/// same refusals or flags, values, versions, key policies, history, first uses, blocks and header hashes.
 pub fn first_version_steps_as_before()
     ensures step { (channel : channel.Configuration) (accepts : Accepts) (old new : world.World) (bytes : List ℕ) (answer : Result now.Accepted Refused)
         → step.Step channel accepts old bytes answer new → StepsAsBefore channel accepts old bytes answer new }
@@ -30,9 +30,10 @@ pub fn first_version_steps_as_before()
         → Chain (seen_channel channel channel.definitions) empty_world submissions (map seen_answer answers) (seen new) }
 {}
 
-/// Laws, and no work: a chain from the empty world of a channel that ends in version 1 leaves the channel's definitions as they were.
-/// It is a chain of the first version over the same strings, and the worlds behind it are the same. The answers are, too, but to
-/// strings that begin with the magic of version 2: each of them was refused, and the first version refuses it for its magic.
+/// Proved (the function does nothing at run time): a chain from the empty world of a channel that ends in version 1
+/// leaves the channel's definitions unchanged. It is a chain of the first version over the same byte strings, and the
+/// worlds after it are the same. The answers are, too, except to byte strings that begin with the magic of version 2:
+/// each of them was refused, and the first version refuses it for its magic.
 pub fn chains_that_end_in_version_1()
     ensures definitions { (channel : channel.Configuration) (new : world.World) (submissions : List chain.Submission) (answers : List (Result now.Accepted Refused))
         → chain.Chain channel (world.empty_world channel.definitions) submissions answers new → IsFirst new → new.definitions ≡ channel.definitions }
@@ -41,8 +42,8 @@ pub fn chains_that_end_in_version_1()
         → Chain (seen_channel channel channel.definitions) empty_world submissions (answers_then submissions answers) (seen new) }
 {}
 
-/// Laws, and no work: the step of the first version is a function, want of memory aside. A world and a string of bytes have one
-/// answer and one world after it.
+/// Proved (the function does nothing at run time): the step of the first version is a function, out of memory aside. A
+/// world and a byte string have one answer and one world after it.
 pub fn one_first_version_step()
     ensures some_answer { (channel : Configuration) (accepts : Accepts) (old : World) (bytes : List ℕ) → ((i : ℕ) → slice_index bytes i < 256)
         → (x : Result Accepted Refused) × (new : World) × Step channel accepts old bytes x new × (x ≢ Err Memory) }

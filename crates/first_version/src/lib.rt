@@ -1,5 +1,5 @@
-//! The first version: what a step of a ledger was when blocks had one version, word for word, and that a step of today is the
-//! same where nothing is of another version. The definitions here stay as they are, whatever becomes of those of `rules`.
+//! The first version: what a step of a ledger was when blocks had one version, word for word, and that a step of today
+//! is the same if nothing is of another version. The definitions here never change, even if those of `rules` do.
 #![tactic(auto)]
 
 mod laws;

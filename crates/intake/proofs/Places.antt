@@ -1,4 +1,4 @@
--- What is known before the used ids, with the marks of these, is the candidates.
+-- What is known before the used ids, together with the marks of used ids, is the candidates.
 use Rattle.std.proofs.Common.{◌≡◌, ◌≤◌, ℕ, ◌==◌, Bool, true, false, not, List, [], ◌∷◌, ◌++◌, map, Option, Some, None, option_to_list, length, append-nil, ◌⊎◌, ⊎_elim, refl, sym, ap, ◌∙◌, arith}
 use Rattle.std.specs.Prelude.{is_none, if◌then◌else◌}
 use Rattle.std.specs.List.{zip}
@@ -28,7 +28,7 @@ new_or_used : (content : Bool → Option EarlyFlag) (whole : Candidate) (t : Tak
 new_or_used content whole t true twice is = ap (λ f. flagged_or f whole) (sym twice)
 new_or_used content whole t false twice is = is
 
--- a fault of the origin comes before the id is asked
+-- a fault of the origin comes before the id is looked up
 by_origin : (fault : Option EarlyFlag) (content : Bool → Option EarlyFlag) (whole : Candidate) (uses : FirstUses) (earlier : List (List ℕ)) (id : List ℕ) (t : Taken) → content true ≡ Some DuplicateTxId
     → seen t.candidate ≡ flagged_or fault (flagged_or (content false) whole)
     → seen (placed true t (is_used uses earlier (if is_none fault then Some id else None))) ≡ flagged_or fault (flagged_or (content (is_used uses earlier (if is_none fault then Some id else None))) whole)
@@ -43,7 +43,7 @@ alone_at_place channel accepts uses earlier (Some (item.Tx tx)) t is =
 alone_at_place channel accepts uses earlier (Some (item.Update u)) t is =
     by_origin (origin_fault channel accepts (item.Update u)) (λ used. content_fault channel true used (item.Update u)) (updates u (update_signers_of accepts u)) uses earlier u.id t refl is
 
--- ---- beside other items
+-- ---- next to other items
 
 beside_others : Candidate → Candidate
 beside_others (flagged flag) = flagged flag
@@ -56,7 +56,7 @@ seen-beside (Flagged flag) = refl
 seen-beside (Opened tx) = refl
 seen-beside (Updates u) = refl
 
--- the candidate of an item beside others is that of the same item alone, but that no update is open
+-- the candidate of an item next to others is that of the same item as the only one, but that no update is open
 candidate-beside : (channel : Configuration) (accepts : Accepts) (used : Bool) (x : Option Item) → beside_others (candidate_of channel accepts true used x) ≡ candidate_of channel accepts false used x
 unfolding beside_others
 candidate-beside channel accepts used None = refl

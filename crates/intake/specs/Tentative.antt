@@ -1,4 +1,4 @@
--- What the items of a block are where none of the ids that they use was used before, and what they are behind the marks of used ids.
+-- What the items of a block are if none of the ids that they use was used before, and once used ids are marked.
 use Rattle.std.specs.Prelude.{◌≡◌, ℕ, ◌==◌, Bool, false, List, length, map, Option, if◌then◌else◌}
 use Rattle.std.specs.List.{zip}
 use Rattle.rules.specs.Candidate.{Candidate, flagged}
@@ -12,7 +12,7 @@ pub record AreTentative (taken : List Taken) (ids : List (Option (List ℕ))) (c
   pub are_ids : ids ≡ map (λ t. t.id) taken
   pub are_candidates : candidates ≡ map (λ t. seen (placed (length taken == 1) t false)) taken
 
--- where a mark says that its id is used a candidate is flagged for that
+-- if a mark states that its id is used, a candidate is flagged for that
 abbrev pub mark : Candidate × Bool → Candidate
 mark p = if p.1 then flagged DuplicateTxId else p.0
 

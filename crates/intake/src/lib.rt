@@ -1,4 +1,4 @@
-//! From a block to its candidates: what can be said of a transaction without the world, for any piece of a block, and
+//! From a block to its candidates: what is known of a transaction without the ledger, for any part of a block, and
 //! then, with the ids that are used, what each is.
 #![tactic(auto)]
 

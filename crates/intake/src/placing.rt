@@ -21,7 +21,7 @@ use rules::EarlyFlag;
 use std::alloc::{AllocError, Global};
 use transaction::TxId;
 
-/// Whether it is an update that may be asked for.
+/// Whether it is an update that the channel allows.
 fn is_update(candidate: &Candidate<'_>) -> bool
     ensures update { result ≡ true → beside candidate.now ≡ Flagged InvalidConfigTransaction }
     ensures other { result ≡ false → beside candidate.now ≡ candidate.now }
@@ -32,7 +32,7 @@ fn is_update(candidate: &Candidate<'_>) -> bool
     }
 }
 
-/// An update is none beside other items.
+/// Next to other items an update isn't allowed.
 fn beside<'a>(candidate: Candidate<'a>) -> Candidate<'a>
     ensures { result ≡ beside candidate.entry }
 {
@@ -44,7 +44,7 @@ fn beside<'a>(candidate: Candidate<'a>) -> Candidate<'a>
     }
 }
 
-/// What it is where its id is new.
+/// What it is if its id is new.
 fn as_new<'a>(alone: bool, candidate: Candidate<'a>) -> Candidate<'a>
     ensures { result ≡ (if alone then candidate.entry else beside candidate.entry) }
 {
@@ -58,7 +58,7 @@ fn is_one(taken: &[Taken<'_>]) -> bool
     taken.len() == 1
 }
 
-/// The ids and candidates of these places where all ids are new.
+/// The ids and candidates of these places if all ids are new.
 fn all_new<'a>(
     alloc: Global,
     alone: bool,
@@ -77,8 +77,9 @@ fn all_new<'a>(
     Ok((ids, candidates))
 }
 
-/// The id that each place of a block uses, and the candidates that its items are where none of these was used before, in a block or at
-/// an earlier place. An update that isn't its block's only item is flagged. One pass, and lists of both; no candidate is copied.
+/// The id that each place of a block uses, and the candidates that its items are if none of these was used before, in a
+/// block or at an earlier place. An update that isn't its block's only item is flagged. One pass, and lists of both; no
+/// candidate is copied.
 pub fn tentative<'a>(
     alloc: Global,
     taken: Vec<Taken<'a>>,
@@ -89,7 +90,7 @@ pub fn tentative<'a>(
     all_new(alloc, alone, taken)
 }
 
-/// What it is where its id is used, or isn't.
+/// What it is if its id is used, or isn't.
 fn mark<'a>(candidate: Candidate<'a>, used: bool) -> Candidate<'a>
     ensures { seen result ≡ mark (seen candidate.entry, used) }
 {
@@ -101,7 +102,7 @@ fn mark<'a>(candidate: Candidate<'a>, used: bool) -> Candidate<'a>
     }
 }
 
-/// The candidates of a block, made of tentative ones: one whose mark says that its id is used is flagged for that. One
+/// The candidates of a block, from tentative ones: one whose mark states that its id is used is flagged for that. One
 /// pass, and a list of them.
 pub fn marked<'a>(
     alloc: Global,
@@ -118,8 +119,8 @@ pub fn marked<'a>(
     Ok(all)
 }
 
-/// Laws, and no work: tentative candidates, marked by a ledger's first uses, are the block's by the definitions; and the ids are those
-/// that the block's items use.
+/// Proved (the function does nothing at run time): tentative candidates, marked by a ledger's first uses, are the
+/// block's by the definitions; and the ids are those that the block's items use.
 pub fn tentative_candidates_are_the_definitions()
     ensures candidates { (channel : Configuration) (accepts : Accepts) (uses : FirstUses) (items : List (Option Item)) (taken : List as_taken.Taken) (ids : List (Option (List ℕ))) (cs : List by_rules.Candidate)
         → AreTentative taken ids cs → map shown taken ≡ map (taken_of channel accepts) items

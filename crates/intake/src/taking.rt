@@ -1,4 +1,4 @@
-//! What can be said of items without the world.
+//! What is known of items without the ledger.
 ghost use Rattle.std.specs.Prelude.{◌≡◌, map, true, None, Some, cond, is_some, IfOk};
 ghost use Rattle.transaction.specs.Grammar.{body_bytes};
 ghost use Rattle.transaction.specs.Items.{item_of};
@@ -25,14 +25,14 @@ use values::Slice;
 /// What is known of a place of a block before it is known which ids are used, and as if its block had no other item.
 #[derive(Drop)]
 pub struct Taken<'a> {
-    /// The id that its item uses: none where there is a fault in where it comes from.
+    /// The id that its item uses: none if its origin has a fault.
     pub id: Option<TxId>,
-    /// What the item is where that id is new.
+    /// What the item is if that id is new.
     pub candidate: Candidate<'a>,
 }
 
-/// The candidate of a transaction whose origin is good and whose id is new. Only where its sets are in form and its
-/// chaincodes defined are its endorsers' signatures verified.
+/// The candidate of a transaction whose origin is good and whose id is new. Its endorsers' signatures are verified only
+/// if its sets are well-formed and its chaincodes defined.
 fn candidate_of<'a, V: Verify>(
     alloc: Global,
     definitions: &Definitions,
@@ -53,7 +53,7 @@ fn candidate_of<'a, V: Verify>(
     }
 }
 
-/// The policy of a text, where it spells one.
+/// The policy that a text encodes, if it encodes one.
 fn policy_in(alloc: Global, text: &[u8]) -> Result<Option<Policy>, AllocError>
     ensures { IfOk result (λ policy. policy ≡ policy_of text.now) }
 {
@@ -64,7 +64,8 @@ fn policy_in(alloc: Global, text: &[u8]) -> Result<Option<Policy>, AllocError>
     }
 }
 
-/// The policy of an update that may be asked for: the channel has an admin policy, the chaincode has a policy, and the text spells one.
+/// The policy of an update that is allowed: the channel has an admin policy, the chaincode has a policy, and the text
+/// encodes one.
 fn policy_if_asked(
     alloc: Global,
     channel: &Configuration,
@@ -79,8 +80,8 @@ fn policy_if_asked(
     policy_in(alloc, update.policy.as_slice())
 }
 
-/// The candidate of an update whose origin is good and whose id is new, as if its block had no other item. Only where it may be
-/// asked for are its endorsers' signatures verified.
+/// The candidate of an update whose origin is good and whose id is new, as if its block had no other item. Its
+/// endorsers' signatures are verified only if it is allowed.
 fn update_candidate<'a, V: Verify>(
     alloc: Global,
     channel: &Configuration,
@@ -107,8 +108,8 @@ fn without_id<'a>(flag: EarlyFlag) -> Taken<'a>
     }
 }
 
-/// Takes in one item of a block of this version: the id that it uses, and its candidate as if its block had no other item. The tests,
-/// their order and the memory are those that [`take_in`] has for each item.
+/// Pre-checks one item of a block of this version: the id that it uses, and its candidate as if its block had no other
+/// item. The tests, their order and the memory are those that [`take_in`] has for each item.
 pub fn take_in_one<'a, V: Verify>(
     alloc: Global,
     channel: &Configuration,
@@ -133,12 +134,13 @@ pub fn take_in_one<'a, V: Verify>(
     Ok(Taken { id, candidate })
 }
 
-/// Takes in the items of a block of this version, or of any piece of one, in order.
+/// Pre-checks the items of a block of this version, or of any part of one, in order.
 ///
-/// In each one test comes after the other up to the first that fails: its grammar, its channel, its creator's signature,
-/// its id; of a transaction then its read and write sets and the chaincodes that it names, of an update the channel's admin policy, its
-/// chaincode and its text. Its endorsers' signatures come last, where all these hold. Fields are lent from the bytes; memory for
-/// lists of them, for the keys that are written, for signers, and for an update's policy.
+/// The tests of each item come one after the other, up to the first that fails: its grammar, its channel, its creator's
+/// signature, its id; of a transaction then its read and write sets and the chaincodes that it names, of an update the
+/// channel's admin policy, its chaincode and its text. Its endorsers' signatures come last, if all these hold. Fields
+/// are borrowed from the bytes; memory for lists of them, for the keys that are written, for signers, and for an
+/// update's policy.
 pub fn take_in<'a, V: Verify>(
     alloc: Global,
     channel: &Configuration,

@@ -1,4 +1,5 @@
--- The fault of bytes that spell no block of version 1, which stays as it is: that of the first field, from left to right, that can't be read.
+-- The fault of bytes that encode no block of version 1, which never changes: that of the first field, from left to
+-- right, that can't be read.
 use Rattle.std.specs.Prelude.{◌≡◌, ◌≢◌, ℕ, ◌^◌, ◌<◌, ◌≤◌, List, [], ◌∷◌, ◌++◌, length}
 use Rattle.std.specs.List.{AllByRecursion}
 use Rattle.byteorder.specs.Endian.{big_bytes}
@@ -11,7 +12,7 @@ use Rattle.block.specs.declared.fault.BlockFault.{BlockFault}
 use Rattle.block.specs.declared.fault.BlockFault.TheVariants.{BadMagic, Truncated, PreviousLength, TooManyTxs, TxTooLong, TrailingBytes, Memory}
 use Rattle.block.specs.first_version.Grammar.{Block, magic, previous_bytes, header_bytes, txs_bytes, IsPrevious, IsHeader, IsTx, Spells}
 
--- A field behind the magic, with what was read before it.
+-- A field after the magic, with what was read before it.
 pub data Field : Type 0 where
   number : Field
   previous_length : ℕ → Field
@@ -41,7 +42,7 @@ size (count h) = 4
 size (tx_length h n txs) = 4
 size (tx h n txs len) = len
 
--- what could be read before it is within its limits, and it is wanted
+-- what could be read before it is within its limits, and a field is due
 abbrev pub IsReached : Field → Type 0
 IsReached number = Unit {0}
 IsReached (previous_length n) = n < 2 ^ 64
@@ -62,11 +63,11 @@ HasFault bytes BadMagic = (rest : List ℕ) → bytes ≢ magic ++ rest
 HasFault bytes Truncated = (field : Field) × (rest : List ℕ) × Reaches bytes field rest × (length rest < size field)
 -- the length of the previous hash is neither 0 nor that of a hash
 HasFault bytes PreviousLength = (n : ℕ) × (len : ℕ) × (rest : List ℕ) × Reaches bytes (previous_length n) (len ∷ rest) × (len ≢ 0) × (len ≢ hash_bytes)
--- the count is over its limit, whatever follows
+-- the count is over its limit, no matter what follows
 HasFault bytes TooManyTxs = (h : Header) × (n : ℕ) × (rest : List ℕ) × Reaches bytes (count h) (big_bytes 4 n ++ rest) × (n < 2 ^ 32) × (max_txs < n)
--- a transaction's length is over its limit, whatever follows
+-- a transaction's length is over its limit, no matter what follows
 HasFault bytes TxTooLong =
     (h : Header) × (n : ℕ) × (txs : List (List ℕ)) × (len : ℕ) × (rest : List ℕ) × Reaches bytes (tx_length h n txs) (big_bytes 4 len ++ rest) × (len < 2 ^ 32) × (max_tx_bytes < len)
--- bytes remain behind a block
+-- bytes remain after a block
 HasFault bytes TrailingBytes = (b : Block) × (front : List ℕ) × (rest : List ℕ) × Spells front b × (bytes ≡ front ++ rest) × (0 < length rest)
 HasFault bytes Memory = ⊥

@@ -1,4 +1,4 @@
--- The block grammar of version 1: which bytes spell which block. It stays as it is.
+-- The block grammar of version 1: which bytes encode which block. It never changes.
 use Rattle.std.specs.Prelude.{◌≡◌, ℕ, ◌^◌, ◌<◌, ◌≤◌, List, [], ◌∷◌, ◌++◌, length}
 use Rattle.std.specs.List.{flat_map, AllByRecursion}
 use Rattle.byteorder.specs.Endian.{big_bytes}
@@ -46,7 +46,7 @@ pub record IsHeader (h : Header) : Type 0 where
 abbrev pub IsTx : List ℕ → Type 0
 IsTx tx = length tx ≤ max_tx_bytes
 
--- The bytes spell the block: header, count and transactions, each within its limits, and nothing behind them.
+-- The bytes encode the block: header, count and transactions, each within its limits, and nothing after them.
 pub record Spells (bytes : List ℕ) (b : Block) : Type 0 where
   pub header : IsHeader b.header
   pub count : length b.txs ≤ max_txs
