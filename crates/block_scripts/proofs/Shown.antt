@@ -1,4 +1,4 @@
--- From what a script says to the block that it drafts.
+-- From what a script states to the block that it drafts.
 use Rattle.std.proofs.Common.{◌≡◌, ℕ, ◌≤◌, List, [], ◌∷◌, length, map, Option, Some, None, Result, Ok, Err, ap, refl, sym, ◌∙◌, subst}
 use Rattle.std.specs.List.{AllByRecursion}
 use Rattle.hex.specs.Hex.{IsBytes}
@@ -24,7 +24,7 @@ raw_bytes : (keys : List Entry) (channel : List ℕ) (txs : List (List ℕ)) →
 raw_bytes keys channel [] = refl
 raw_bytes keys channel (tx ∷ txs) = ap (λ (r : Result (List (List ℕ)) DraftFault). r >>= λ others. Ok (tx ∷ others)) (raw_bytes keys channel txs)
 
--- a line for each says them
+-- a line for each states them
 pub raw_lines_say : (keys : List Entry) (channel : List ℕ) (version : BlockVersion) (txs : List (List ℕ)) → AllByRecursion IsBytes txs → length txs ≤ max_txs → AllByRecursion (λ tx. length tx ≤ max_tx_bytes) txs
     → txs_of version keys channel (raw_lines txs) ≡ Ok txs
 raw_lines_say keys channel version txs bytes count short =
@@ -46,7 +46,7 @@ no_fault (Ok found) None txs said = refl
 no_fault (Ok found) (Some n) txs said = cc
 no_fault (Err e) fault txs said = cc
 
--- what is said where nobody can sign is said on each channel and by all keys
+-- what is stated without anybody's keys is stated on each channel and by all keys
 pub any_says : (keys : List Entry) (channel other : List ℕ) (version : BlockVersion) (txs : List (List ℕ)) (text : List ℕ) → txs_of version [] other text ≡ Ok txs → txs_of version keys channel text ≡ Ok txs
 any_says keys channel other version txs text said =
     let mine = script_of version [] text in

@@ -1,4 +1,4 @@
-//! Comments that tell of a block by itself.
+//! Comments about a block by itself.
 use block::{Block, BlockVersion, Header, Previous};
 use cli_lines::write_hash;
 use header_hash::{data_hash, header_hash};

@@ -8,12 +8,12 @@ const MAGIC: usize = 4;
 
 const NUMBER: usize = 8;
 
-// What is behind so many bytes, or what is too short to have them.
+// What follows the first `len` bytes, or what is too short to have them.
 fn behind(bytes: &[u8], len: usize) -> Result<&[u8], &[u8]> {
     bytes.get(len..).ok_or(bytes)
 }
 
-// What is behind the previous hash, or the field that can't be read.
+// What follows the previous hash, or the field that can't be read.
 fn behind_previous(bytes: &[u8]) -> Result<&[u8], &[u8]> {
     match bytes {
         [0, rest @ ..] => Ok(rest),
@@ -22,7 +22,7 @@ fn behind_previous(bytes: &[u8]) -> Result<&[u8], &[u8]> {
     }
 }
 
-// What is behind a header, or the field that can't be read.
+// What follows a header, or the field that can't be read.
 fn behind_header(bytes: &[u8]) -> Result<&[u8], &[u8]> {
     if !bytes.starts_with(b"FBK1") && !bytes.starts_with(b"FBK2") {
         return Err(bytes);
@@ -33,7 +33,7 @@ fn behind_header(bytes: &[u8]) -> Result<&[u8], &[u8]> {
     behind(rest, HASH_BYTES)
 }
 
-// A count or a length, and what is behind it.
+// A count or a length, and what follows it.
 fn number(bytes: &[u8], most: usize) -> Result<(usize, &[u8]), &[u8]> {
     let [a, b, c, d, rest @ ..] = bytes else {
         return Err(bytes);
@@ -50,7 +50,7 @@ fn behind_tx(bytes: &[u8]) -> Result<&[u8], &[u8]> {
     behind(rest, len)
 }
 
-// What is behind the last transaction, or the field that can't be read.
+// What follows the last transaction, or the field that can't be read.
 fn behind_txs(bytes: &[u8]) -> Result<&[u8], &[u8]> {
     let (count, mut rest) = number(behind_header(bytes)?, MAX_TXS)?;
     for _ in 0..count {

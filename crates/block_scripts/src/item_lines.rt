@@ -1,4 +1,4 @@
-//! The lines by which a script says a transaction or an update.
+//! The lines by which a script states a transaction or an update.
 use cli_lines::write_identity;
 use std::io;
 use std::io::Write;
@@ -56,7 +56,7 @@ pub(crate) fn ends_a_line(text: &[u8]) -> bool {
     *first != b' ' && *last != b' ' && text.iter().all(|byte| is_printed(*byte))
 }
 
-// A text that no line can end with is told by its word.
+// A text that no line can end with is written as its word.
 fn write_policy_text<W: Write>(out: &mut W, text: &[u8]) -> io::Result<()> {
     if ends_a_line(text) {
         out.write_all(text)?;
@@ -140,7 +140,7 @@ fn write_update<W: Write>(out: &mut W, update: &Update<'_>) -> io::Result<()> {
     write_endorsers(out, update.endorsements.as_slice())
 }
 
-/// Writes the lines that say all of it but its channel, its id and its signatures.
+/// Writes the lines that state all of it but its channel, its id and its signatures.
 pub(crate) fn write_item<W: Write>(out: &mut W, item: &Item<'_>) -> io::Result<()> {
     match item {
         Item::Tx(tx) => write_tx(out, tx),

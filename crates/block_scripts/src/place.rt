@@ -47,7 +47,7 @@ fn is_said(
     }
 }
 
-// What can be read of a transaction or an update that no lines say, and its bytes.
+// What can be read of a transaction or an update that no lines state, and its bytes.
 fn write_unsaid(
     alloc: Global,
     out: &mut Vec<u8>,
@@ -80,8 +80,8 @@ fn write_spelled(
     write_unsaid(alloc, out, signing, spelled, lines, bytes)
 }
 
-/// Writes what stands in this place of a block of this version: lines that say it where drafting them gives these
-/// bytes, else the bytes, and in comments what can be read of them.
+/// Writes what is in this place of a block of this version: lines that state it if drafting them gives these bytes,
+/// otherwise the bytes, and in comments what can be read of them.
 pub(crate) fn write_place(
     alloc: Global,
     out: &mut Vec<u8>,

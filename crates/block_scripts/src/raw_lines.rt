@@ -1,4 +1,4 @@
-//! The lines that say bytes as they are.
+//! The lines that state bytes as they are.
 ghost use Rattle.std.specs.Prelude.{◌≡◌, [], ◌∷◌, ◌++◌, codes, IfOk, OnOk};
 ghost use Rattle.std.specs.List.{AllByRecursion};
 ghost use Rattle.hex.specs.Hex.{IsBytes};
@@ -16,7 +16,7 @@ fn write_digits(out: &mut Vec<u8>, digits: &[u8]) -> Result<(), AllocError>
     Ok(())
 }
 
-/// Writes the line at the end. Takes its digits in memory beside.
+/// Writes the line at the end. Allocates memory for its digits.
 pub(crate) fn write_raw(alloc: Global, out: &mut Vec<u8>, bytes: &[u8]) -> Result<(), AllocError>
     ensures written { OnOk result (out.new.items ≡ out.old.items ++ spec.raw_line bytes.now) }
     ensures bytes { IsBytes bytes.now }

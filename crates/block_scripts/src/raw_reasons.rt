@@ -1,4 +1,4 @@
-//! Comments that tell why no lines say a transaction which can be read.
+//! Comments that state why no lines state a transaction which can be read.
 use crate::item_lines::ends_a_line;
 use crate::signing::Signing;
 use cli_lines::{LineFault, write_identity};
@@ -14,7 +14,7 @@ use transaction::{
 };
 use values::{Name, NameRef, Slice};
 
-// What a transaction and an update have alike: all fields but what they change.
+// What a transaction and an update have in common: all fields but what they change.
 #[derive(Clone, Copy)]
 struct Envelope<'i, 'a> {
     channel: &'i NameRef<'a>,
@@ -66,7 +66,7 @@ fn write_signer_reason<W: Write>(
     }
 }
 
-// The body stands in the message, and behind it the endorser's bytes meanwhile.
+// The message has the body, and meanwhile the endorser's bytes after it.
 fn write_endorser_reason<W: Write>(
     out: &mut W,
     keys: &KeyBook,
@@ -78,7 +78,7 @@ fn write_endorser_reason<W: Write>(
     match append_identity(message, signer) {
         Ok(()) => {}
         Err(EncodeFault::Memory) => return Err(LineFault::Memory),
-        // What was read has a spelling.
+        // What was read has an encoding.
         Err(EncodeFault::TooLarge) => return Ok(()),
     }
     let signature = endorsement.signature.as_slice();
@@ -148,7 +148,7 @@ fn write_opening_reasons<W: Write>(
     Ok(())
 }
 
-/// Writes what keeps lines from saying it: another channel, another id than its own, signatures that the book doesn't
+/// Writes what keeps lines from stating it: another channel, another id than its own, signatures that the book doesn't
 /// give, and texts with which no line ends.
 pub(crate) fn write_raw_reasons<W: Write>(
     alloc: Global,

@@ -1,4 +1,4 @@
-//! Whether a script says these bytes.
+//! Whether a script states these bytes.
 ghost use Rattle.std.specs.Prelude.{◌≡◌, true, Some, Ok, IfOk, slice_get};
 ghost use Rattle.drafts.specs.DraftBlock.{txs_of};
 

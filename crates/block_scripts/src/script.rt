@@ -18,7 +18,7 @@ use key_book::KeyBook;
 use std::alloc::{AllocError, Global};
 use values::{Bytes, Name};
 
-// What is written into memory lacks nothing but memory.
+// Writing into memory can only fail by running out of it.
 fn memory(_fault: LineFault) -> AllocError {
     AllocError
 }
@@ -40,20 +40,20 @@ fn lines_of(
 }
 
 /// The script that a block is shown as: drafted again on this channel by these keys, it gives the block's transactions
-/// to the byte. `before` is the header of the block before it, where that is known, and is spoken of in comments alone.
+/// to the byte. `before` is the header of the block before it, if that is known, and is only used in comments.
 ///
-/// A transaction or an update is said by lines where drafting these gives its bytes. Else a `raw` line has its bytes,
-/// and comments above it tell what can be read of it, and what keeps lines from saying it: another channel, an id that
+/// Lines state a transaction or an update if drafting these gives its bytes. Otherwise a `raw` line has its bytes, and
+/// comments above it state what can be read of it, and what keeps lines from stating it: another channel, an id that
 /// isn't its own, signatures that the book doesn't give, a policy's text that is empty, begins or ends with a space, or
-/// isn't of printable ASCII alone. Above each stands its place and id, and above all the block's number, version and
-/// hashes, and whether these are right. All is printable ASCII. Tests alone show this: no clause speaks of comments, nor
-/// of when a line is `raw`.
+/// isn't only printable ASCII. Above each is its place and id, and above all the block's number, version and hashes,
+/// and whether these are right. All is printable ASCII. Only tests show this: no contract mentions comments, nor when a
+/// line is `raw`.
 ///
-/// That the text says the block is looked at before it is answered, by drafting it; if it didn't, `raw` lines without
-/// comments would take its place, so that there is always an answer.
+/// Before the text is returned, it is drafted to check that it states the block; if it didn't, `raw` lines without
+/// comments would replace it, so that there is always a result.
 ///
-/// Each transaction is drafted twice, once alone and once with the others: linear in the block, and for each endorser
-/// in the body that it signs. The memory is linear in the block.
+/// Each transaction is drafted twice, once by itself and once with the others: linear in the block, and for each
+/// endorser in the body that it signs. The memory is linear in the block.
 pub fn block_script(
     alloc: Global,
     channel: &Name,
@@ -61,7 +61,7 @@ pub fn block_script(
     before: Option<&Header>,
     block: &Block<'_>,
 ) -> Result<Bytes, AllocError>
-    // As of each block that is spelled.
+    // As of each block that has an encoding.
     requires count { length block.now.txs ≤ max_txs }
     requires each { AllByRecursion IsTx block.now.txs }
     ensures { IfOk result (λ text. Shows keys.now channel.now block.now.version block.now.txs text) }
@@ -82,7 +82,7 @@ fn no_keys(alloc: Global) -> Result<KeyBook, AllocError>
     KeyBook::read(alloc, "").map_err(|_| AllocError)
 }
 
-// Whether lines in which nothing is signed say the block: then they do so on each channel and by all keys.
+// Whether lines in which nothing is signed state the block: then they do so on each channel and by all keys.
 fn is_said_by_any(alloc: Global, block: &Block<'_>, lines: &Bytes) -> Result<bool, AllocError>
     ensures { IfOk result (λ said. said ≡ true → (keys : List Entry) (channel : List ℕ) → txs_of block.now.version keys channel lines.now ≡ Ok block.now.txs) }
 {
@@ -96,8 +96,8 @@ fn is_said_by_any(alloc: Global, block: &Block<'_>, lines: &Bytes) -> Result<boo
     Ok(says(alloc, &signing, block.version, lines.as_slice(), txs)?)
 }
 
-/// The script that a block is shown as where no channel and no keys are known: a `raw` line for each transaction, with
-/// comments of what can be read of it. An `Err` is want of memory; time and memory are linear in the block. Drafted
+/// The script that a block is shown as if no channel and no keys are known: a `raw` line for each transaction, with
+/// comments of what can be read of it. An `Err` is out of memory; time and memory are linear in the block. Drafted
 /// again on any channel by any keys, it gives the block's transactions to the byte.
 pub fn raw_script(
     alloc: Global,

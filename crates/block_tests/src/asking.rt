@@ -1,4 +1,4 @@
-//! What the checks say, over what is known.
+//! What the checks return, over what is known.
 ghost use Rattle.std.specs.Prelude.{◌≡◌, length, IfOk};
 
 use crate::building::{Ground, state_key};
@@ -78,7 +78,7 @@ fn version(
     Ok(mvcc::version_at(job, i, &at, &mut board))
 }
 
-/// What is said of a transaction by both checks, and of a key's version before it.
+/// What both checks return for a transaction, and the version of a key before it.
 #[derive(Clone, Copy)]
 pub struct Said {
     pub endorsement: Decision<bool>,
@@ -100,7 +100,7 @@ fn said_over(
     })
 }
 
-/// What is said of each transaction of a job.
+/// What is returned for each transaction of a job.
 pub type Answers = [Option<Said>; TXS];
 
 fn all_over(
@@ -119,7 +119,7 @@ fn all_over(
     Ok(all)
 }
 
-/// What is said of each transaction of the case, where this is known.
+/// What is returned for each transaction of the case, if this is known.
 pub fn ask(
     alloc: Global,
     case: &JobCase,
@@ -131,7 +131,7 @@ pub fn ask(
     all_over(alloc, &job, known, place)
 }
 
-/// What is said of transaction i of the case, and of the first key before it.
+/// What is returned for transaction i of the case, and for the first key before it.
 pub fn said_of(alloc: Global, case: &JobCase, known: &KnownCase, i: usize) -> Result<Said, Failed> {
     let all = ask(alloc, case, known, KeyPlace::new(0, 0))?;
     match all.get(i) {

@@ -1,4 +1,4 @@
-//! From a case to the job that the checks are asked about.
+//! From a case to the job that the checks work on.
 use crate::cases::{
     BLOCK, DEFINITIONS, JobCase, KEYS, LETTERS, NAMESPACES, RowCase, Rule, TxCase, UpdateCase,
 };
@@ -235,7 +235,7 @@ fn admin_of(alloc: Global, case: &JobCase) -> Result<Option<Policy>, Failed> {
     }
 }
 
-/// What a job lends from.
+/// What a job borrows from.
 #[derive(Drop)]
 pub struct Ground {
     bytes: Vec<Bytes>,
@@ -245,7 +245,7 @@ pub struct Ground {
 }
 
 impl Ground {
-    /// What the jobs of this case stand on. The error is `Missing` or want of memory.
+    /// What the jobs of this case need. The error is `Missing` or out of memory.
     pub fn of(alloc: Global, case: &JobCase) -> Result<Ground, Failed> {
         Ok(Ground {
             bytes: bytes_of(alloc, case)?,

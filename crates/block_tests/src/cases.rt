@@ -46,7 +46,7 @@ impl KeyPlace {
     }
 }
 
-/// Whose endorsements a policy asks for.
+/// Whose endorsements a policy requires.
 #[derive(Clone, Copy)]
 pub enum Rule {
     First,
@@ -74,10 +74,10 @@ pub enum NewValue {
 /// What a transaction does at a key.
 #[derive(Clone, Copy)]
 pub struct KeyUse {
-    /// The version that was read, `Some(None)` where the key was read as absent.
+    /// The version that was read, `Some(None)` if the key was read as absent.
     pub read: Option<Option<Version>>,
     pub value: Option<NewValue>,
-    /// The new policy, `Some(None)` where it is removed.
+    /// The new policy, `Some(None)` if it is removed.
     pub policy: Option<Option<Rule>>,
 }
 
@@ -99,7 +99,7 @@ pub struct Query {
 }
 
 impl Query {
-    /// Whether this key stands between the bounds.
+    /// Whether this key is between the bounds.
     pub fn is_in_bounds(&self, letter: u8) -> bool {
         let is_from = match self.start {
             None => true,
@@ -164,7 +164,7 @@ pub struct JobCase {
     pub txs: [TxCase; TXS],
     /// How many of the transactions there are.
     pub count: usize,
-    /// An update is alone in its block, where there are no transactions.
+    /// An update is alone in its block, which has no transactions.
     pub update: Option<UpdateCase>,
 }
 

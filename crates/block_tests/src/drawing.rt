@@ -51,7 +51,7 @@ impl Drawing {
         Some(RowCase { version, policy })
     }
 
-    // Mostly that of the row; else absent, or one of the block.
+    // Mostly that of the row; otherwise absent, or one of the block.
     fn version(&mut self, row: Option<RowCase>) -> Option<Version> {
         match self.random.below(6) {
             0 => None,

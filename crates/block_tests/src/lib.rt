@@ -1,5 +1,5 @@
-//! Tests of the two checks of a block over whatever is known: small jobs are judged by every assignment of the unknown
-//! verdicts, over plain lists. And of what a block changes, and of what becomes of an update.
+//! Tests of the two checks of a block, no matter what is known: small jobs are judged by every assignment of the
+//! unknown verdicts, over plain lists. And of what a block changes, and of an update.
 #![tactic(auto)]
 
 #[cfg(test)]

@@ -1,4 +1,4 @@
-//! What comes of a small block: flags, changes and definitions.
+//! The results of a small block: flags, changes and definitions.
 
 use crate::building::Ground;
 use crate::cases::{JobCase, Rule};
@@ -77,7 +77,7 @@ fn is_outcome(alloc: Global, job: &Job<'_, '_>, wanted: &Outcome) -> Result<bool
     are_effects(alloc, &effects, wanted)
 }
 
-/// Whether this comes of the case's block.
+/// Whether these are the results of the case's block.
 pub fn comes_out(alloc: Global, case: &JobCase, wanted: &Outcome) -> Result<bool, Failed> {
     let ground = Ground::of(alloc, case)?;
     let job = ground.job(alloc, case)?;

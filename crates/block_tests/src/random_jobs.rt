@@ -11,7 +11,7 @@ use test_support::Failed;
 
 const JOBS: u32 = 2500;
 
-/// How often each answer was given.
+/// How often each result was returned.
 #[derive(Clone, Copy)]
 struct Times {
     passed: u32,
@@ -57,7 +57,7 @@ impl Times {
         }
     }
 
-    // Whether each answer was given often.
+    // Whether each result was returned often.
     fn are_all_there(&self) -> bool {
         let Times {
             passed,
@@ -84,7 +84,7 @@ impl Times {
     }
 }
 
-/// A job with what is known of it, and a key that is asked about.
+/// A job with what is known of it, and a key to check.
 #[derive(Clone, Copy)]
 struct Question {
     case: JobCase,
@@ -107,7 +107,7 @@ impl Question {
             && is_right_of_version(&self.case, self.place, i, &self.known, said.version)
     }
 
-    // Whether of each of its transactions something is said, which is right.
+    // Whether each of its transactions has a result, which is right.
     fn are_right(&self, answers: &Answers, times: &mut Times) -> bool {
         for i in 0..TXS {
             match &answers[i] {
@@ -130,7 +130,7 @@ impl Question {
     }
 }
 
-// The first job with a wrong answer.
+// The first job with a wrong result.
 fn first_wrong(alloc: Global, times: &mut Times) -> Result<Option<u32>, Failed> {
     let mut drawing = Drawing::new();
     for number in 0..JOBS {

@@ -1,4 +1,4 @@
-//! What a small block changes: a removal of what isn't there is no change.
+//! What a small block changes: a removal of a missing key is no change.
 
 use crate::cases::{FLAGGED, JobCase, KEYS, KeyUse, NOTHING, NewValue, RowCase, TxCase, UNUSED};
 use crate::outcome::{Outcome, comes_out};
@@ -21,8 +21,8 @@ fn tx_of(uses: [KeyUse; KEYS]) -> TxCase {
     tx
 }
 
-// Of the keys b, d, f, h and j the fourth alone has a row before the block. The first transaction deletes d and h and puts f, which
-// the second one deletes; that one puts j.
+// Of the keys b, d, f, h and j only the fourth has a row before the block. The first transaction deletes d and h and
+// puts f, which the second one deletes; that one puts j.
 fn deletes() -> JobCase {
     let put = write_of(NewValue::Put);
     let delete = write_of(NewValue::Delete);

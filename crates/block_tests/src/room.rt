@@ -1,4 +1,4 @@
-//! Bytes one behind another, for which no memory is asked.
+//! Bytes one after another, which need no allocation.
 
 // More than any case's transaction has.
 const ROOM: usize = 2048;

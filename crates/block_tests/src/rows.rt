@@ -1,4 +1,4 @@
-//! Small jobs whose answers were worked out by hand.
+//! Small jobs whose results were worked out by hand.
 
 use crate::asking::{Said, said_of};
 use crate::cases::{
@@ -46,7 +46,7 @@ fn tx_of(uses: [KeyUse; KEYS]) -> TxCase {
     tx
 }
 
-// The key is absent before the block. The first transaction inserts it, the second writes its policy alone, and the
+// The key is absent before the block. The first transaction inserts it, the second writes only its policy, and the
 // third reads the second's version.
 fn insert_policy_read() -> JobCase {
     let second = Version {
@@ -62,7 +62,7 @@ fn insert_policy_read() -> JobCase {
 }
 
 // The example of Fabric's documentation: five keys have rows before the block. The second transaction reads what the
-// first writes, the fourth what the first and the third write, and the fifth what nobody writes.
+// first writes, the fourth what the first and the third write, and the fifth what none writes.
 fn readers_and_writers() -> JobCase {
     let mut put_after_read = PUT;
     put_after_read.read = Some(Some(BEFORE));
@@ -97,7 +97,7 @@ impl Block {
     }
 }
 
-// What is said of a transaction, or of the first key before it.
+// The result for a transaction, or for the first key before it.
 #[derive(Clone, Copy)]
 enum Answer {
     Endorsement(Decision<bool>),
@@ -115,7 +115,7 @@ impl Answer {
     }
 }
 
-// A block, the flags that are known of its first two transactions, the transaction that is asked about, and the answer.
+// A block, the flags that are known of its first two transactions, the transaction that is checked, and the result.
 type Row = (Block, Option<Flag>, Option<Flag>, usize, Answer);
 
 fn rows() -> &'static [Row] {
@@ -140,16 +140,16 @@ const SECOND: Answer = Answer::Version(Decision::Sure(Some(Version {
 const ENDORSED: Answer = Answer::Endorsement(Decision::Sure(true));
 
 static ROWS: [Row; 8] = [
-    // A policy write counts where its key is there.
+    // A policy write counts if its key exists.
     (Block::InsertPolicyRead, YES, YES, 2, GOOD),
     (Block::InsertPolicyRead, NO, YES, 2, STALE),
     (Block::InsertPolicyRead, None, YES, 2, BLOCKED),
     (Block::InsertPolicyRead, YES, NO, 2, STALE),
     // The version of a policy write.
     (Block::InsertPolicyRead, YES, YES, 2, SECOND),
-    // An endorsement that nobody touches.
+    // An endorsement that no transaction touches.
     (Block::ReadersAndWriters, None, None, 3, ENDORSED),
-    // Reads of what an unknown one writes, and of what nobody writes.
+    // Reads of what an unknown one writes, and of what none writes.
     (Block::ReadersAndWriters, None, None, 1, BLOCKED),
     (Block::ReadersAndWriters, None, None, 4, GOOD),
 ];

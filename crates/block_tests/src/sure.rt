@@ -1,4 +1,4 @@
-//! Whether what a check says of a transaction is right, by every assignment of the unknown verdicts.
+//! Whether what a check returns for a transaction is right, by every assignment of the unknown verdicts.
 
 use crate::cases::{JobCase, KeyPlace, TXS, TxCase};
 use crate::verdicts::{
@@ -29,7 +29,7 @@ fn assignment(number: u32) -> Assignment {
     ]
 }
 
-/// What is known of who counts in the reads of later ones.
+/// What is known of which transactions count in the reads of later ones.
 fn validity(flags: &[Option<Flag>; TXS]) -> [Option<bool>; TXS] {
     let mut valid = [None; TXS];
     for h in 0..TXS {
@@ -40,7 +40,7 @@ fn validity(flags: &[Option<Flag>; TXS]) -> [Option<bool>; TXS] {
     valid
 }
 
-/// Whether the assignment is of the transactions before i, and says what is known of them.
+/// Whether the assignment is of the transactions before i, and agrees with what is known of them.
 fn agrees(called: &Assignment, i: usize, known: &[Option<bool>; TXS]) -> bool {
     for h in 0..TXS {
         let wanted = if h < i { known[h] } else { Some(false) };
@@ -113,7 +113,7 @@ fn unknown_before<'a>(
     None
 }
 
-/// Whether the answer is that of every assignment of the unknown verdicts, or names one that the check depends on.
+/// Whether the result is that of every assignment of the unknown verdicts, or names one that the check depends on.
 pub fn is_right_of_endorsement(
     case: &JobCase,
     tx: &TxCase,

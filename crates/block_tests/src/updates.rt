@@ -1,4 +1,4 @@
-//! What becomes of an update that is alone in its block.
+//! The results of an update that is alone in its block.
 
 use crate::asking::{Said, said_of};
 use crate::cases::{JobCase, NOTHING, Rule, Signed, UpdateCase};
@@ -16,7 +16,7 @@ fn rows() -> &'static [Row] {
     &ROWS
 }
 
-// The chaincode's own policy asks for either: it isn't asked.
+// The chaincode's own policy requires either: it isn't used.
 static ROWS: [Row; 8] = [
     (Some(Rule::First), true, false, true),
     (Some(Rule::First), false, true, false),
@@ -53,7 +53,7 @@ fn outcome_of(is_valid: bool) -> Outcome {
     }
 }
 
-// What both checks say of the update, and of a key's version before it.
+// What both checks return for the update, and the version of a key before it.
 fn is_said(said: &Said, is_endorsed: bool) -> bool {
     said.endorsement == Decision::Sure(is_endorsed)
         && said.reads == Decision::Sure(ReadVerdict::Good)

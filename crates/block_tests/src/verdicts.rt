@@ -1,4 +1,4 @@
-//! The rules on the state, where it is said of each earlier transaction whether it counts.
+//! The rules on the state, if it is given of each earlier transaction whether it counts.
 
 use crate::cases::{
     BLOCK, DEFINITIONS, JobCase, KEYS, KeyPlace, KeyUse, LETTERS, NAMESPACES, NewValue, Query,
@@ -7,7 +7,7 @@ use crate::cases::{
 use rules::ReadVerdict;
 use transaction::Version;
 
-/// Yes or no for each transaction. No is said of those that aren't before the one that is asked about.
+/// Yes or no for each transaction. It is no for those that aren't before the one that is checked.
 pub type Assignment = [bool; TXS];
 
 /// The version of each key.
@@ -47,7 +47,7 @@ fn apply(state: &mut State, tx: &TxCase, version: Version) {
     }
 }
 
-/// The state once the open transactions that are called yes are applied in order.
+/// The state after the open transactions that are called yes are applied in order.
 pub fn state_under(case: &JobCase, called: &Assignment) -> State {
     let mut state = state_before(case);
     for h in 0..TXS {

@@ -27,7 +27,7 @@ const THREE_OF_VERSION_2: &[u8] = b"FBK2\xff\xfe\xfd\xfc\xfb\xfa\xf9\xf8\x20\
     \x09\x09\x09\x09\x09\x09\x09\x09\x09\x09\x09\x09\x09\x09\x09\x09\x09\x09\x09\x09\x09\x09\x09\x09\x09\x09\x09\x09\x09\x09\x09\x09\
     \0\0\0\x03\0\0\0\x02ab\0\0\0\0\0\0\0\x01c";
 
-// What a block's bytes say.
+// What a block's bytes encode.
 struct Row {
     bytes: &'static [u8],
     version: BlockVersion,
@@ -94,7 +94,7 @@ fn says(block: &Block<'_>, row: &Row) -> bool {
         && are_txs(block.txs.as_slice(), row.txs)
 }
 
-// Whether the bytes are read as what they say, and that is written as the bytes.
+// Whether the bytes are read as what they encode, and that is written as the bytes.
 fn is_both_ways(alloc: Global, row: &Row) -> bool {
     match decode_block(alloc, row.bytes) {
         Ok(block) => says(&block, row) && is_spelled(alloc, &block, row.bytes),
@@ -136,7 +136,7 @@ fn faults() -> &'static [(usize, &'static [u8], BlockFault)] {
     &FAULTS
 }
 
-// How much of the empty block stands, what is behind it, and the first fault.
+// How much of the empty block is kept, what follows it, and the first fault.
 static FAULTS: [(usize, &[u8], BlockFault); 17] = [
     // The magic.
     (0, b"FBK3", BlockFault::BadMagic),
@@ -186,7 +186,7 @@ fn the_first_fault(rt: HostRuntime) -> Result<(), AllocError> {
     Ok(())
 }
 
-// Transactions without bytes, and one more behind them.
+// Transactions without bytes, and one more after them.
 fn txs_of<'a>(alloc: Global, empty: usize, last: &'a [u8]) -> Result<Items<Slice<'a>>, AllocError> {
     let mut txs = Items::new(alloc);
     for _ in 0..empty {
@@ -233,7 +233,7 @@ fn sizes() -> &'static [(usize, usize, Written)] {
     &SIZES
 }
 
-// How many transactions have no bytes, and how many the one behind them has: all at their limits, and each one past it.
+// How many transactions have no bytes, and how many the one after them has: all at their limits, and each one past it.
 static SIZES: [(usize, usize, Written); 3] = [
     (4095, 1_048_576, Ok((81 + 4 * 4096 + 1_048_576, Some(4096)))),
     (4096, 0, Err(EncodeFault::TooLarge)),

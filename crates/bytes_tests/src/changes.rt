@@ -1,4 +1,4 @@
-//! An example that is cut, and one with other fields, which are good or spell nothing.
+//! An example that is cut, and one with other fields, which are good or encode nothing.
 
 use crate::fields::{Field, with_field};
 use std::alloc::{AllocError, Global};
@@ -12,7 +12,7 @@ pub enum Kind {
     Update,
 }
 
-/// A field in place of the bytes from one place to before another, and whether they are good with it.
+/// A field that replaces the bytes from one place to before another, and whether they are good with it.
 pub type Change = (usize, usize, Field, bool);
 
 fn fault_of(alloc: Global, kind: Kind, bytes: &[u8]) -> Option<TxFault> {
@@ -33,7 +33,7 @@ pub fn first_unlike_cut(alloc: Global, kind: Kind, example: &[u8]) -> Option<usi
     None
 }
 
-/// Whether the example with the change's field is good or not, as the change says.
+/// Whether the example with the change's field is good or not, as the change states.
 pub fn is_as_said(
     alloc: Global,
     kind: Kind,

@@ -1,4 +1,4 @@
-//! Bytes with a field in place of some of theirs.
+//! Bytes with a field that replaces some of theirs.
 
 use std::alloc::{AllocError, Global};
 
@@ -6,7 +6,7 @@ use std::alloc::{AllocError, Global};
 pub enum Field {
     /// These bytes.
     Is(&'static [u8]),
-    /// A front, a unit so many times, and a back.
+    /// A front, a unit this many times, and a back.
     Long(&'static [u8], &'static [u8], usize, &'static [u8]),
 }
 
@@ -30,7 +30,7 @@ fn joined(alloc: Global, parts: &[&[u8]]) -> Result<Vec<u8>, AllocError> {
     parts.concat(alloc)
 }
 
-/// The bytes with a field in place of those from one place to before another.
+/// The bytes with a field that replaces those from one place to before another.
 pub fn with_field(
     alloc: Global,
     bytes: &[u8],

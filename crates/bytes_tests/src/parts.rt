@@ -1,9 +1,9 @@
-//! What transactions and updates at their limits are made of.
+//! The parts of transactions and updates at their limits.
 
 use std::process::Abort;
 use values::{KeyRef, NameRef, Slice, is_key, is_name};
 
-/// So many bytes of the filler.
+/// The first `len` bytes of the filler.
 pub fn letters(filler: &[u8], len: usize) -> Slice<'_> {
     Slice::new(filler.get(..len).unwrap_or_default())
 }

@@ -4,7 +4,7 @@ use transaction::EncodeFault;
 
 pub type Faults = [Option<EncodeFault>; 3];
 
-/// The first that is too large; so is what it stands in.
+/// The first that is too large; so is what contains it.
 #[derive(Clone, Copy)]
 pub enum TooLarge {
     Nothing,
@@ -14,7 +14,7 @@ pub enum TooLarge {
 }
 
 impl TooLarge {
-    /// What is answered when the body, what is signed of it and the whole are written.
+    /// What is returned when the body, what is signed of it and the whole are written.
     pub fn faults(self) -> Faults {
         let fault = Some(EncodeFault::TooLarge);
         match self {

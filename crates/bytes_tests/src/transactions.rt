@@ -40,7 +40,7 @@ fn example() -> &'static [u8] {
     EXAMPLE
 }
 
-// How long what was written is, where it is a beginning of the bytes.
+// How long what was written is, if it is a beginning of the bytes.
 pub(crate) fn beginning(written: Result<Bytes, EncodeFault>, bytes: &[u8]) -> Option<usize> {
     match written {
         Ok(written) if bytes.starts_with(written.as_slice()) => Some(written.len()),
@@ -48,7 +48,7 @@ pub(crate) fn beginning(written: Result<Bytes, EncodeFault>, bytes: &[u8]) -> Op
     }
 }
 
-// How long its body, what is signed of it, and all of it are, where they are beginnings of the bytes.
+// How long its body, what is signed of it, and all of it are, if they are beginnings of the bytes.
 fn lens(tx: &Tx<'_>, alloc: Global, bytes: &[u8]) -> [Option<usize>; 3] {
     [
         beginning(encode_body(alloc, tx), bytes),
@@ -81,7 +81,7 @@ fn is_written(spelled: &SpelledTx<'_>, alloc: Global, row: &Row) -> bool {
     lens(spelled.tx(), alloc, bytes) == [Some(body), Some(signed), Some(bytes.len())]
 }
 
-// Whether all is read, found and written as the row says.
+// Whether all is read, found and written as the row states.
 fn is_both_ways(alloc: Global, row: &Row) -> Result<bool, TxFault> {
     let spelled = decode_tx(alloc, row.0)?;
     Ok(

@@ -12,7 +12,8 @@ mod limits;
 pub mod memory;
 mod versions;
 
-// In channel `ch`, `cc` gets the policy `OR('Org2.peer')`. Creator `Org1:admin:a0`, nonce `n2`, one endorsement of the creator's.
+// In channel `ch`, `cc` gets the policy `OR('Org2.peer')`. Creator `Org1:admin:a0`, nonce `n2`, one endorsement of the
+// creator's.
 const EXAMPLE: &[u8; 178] = b"\0\x02ch\
     \x05\x05\x05\x05\x05\x05\x05\x05\x05\x05\x05\x05\x05\x05\x05\x05\x05\x05\x05\x05\x05\x05\x05\x05\x05\x05\x05\x05\x05\x05\x05\x05\
     \x05\x05\x05\x05\x05\x05\x05\x05\x05\x05\x05\x05\x05\x05\x05\x05\x05\x05\x05\x05\x05\x05\x05\x05\x05\x05\x05\x05\x05\x05\x05\x05\
@@ -44,7 +45,7 @@ fn fault_of(alloc: Global, bytes: &[u8]) -> Option<TxFault> {
     decode_update(alloc, bytes).err()
 }
 
-// How long its body, what is signed of it, and all of it are, where they are beginnings of the bytes.
+// How long its body, what is signed of it, and all of it are, if they are beginnings of the bytes.
 fn lens(update: &Update<'_>, alloc: Global, bytes: &[u8]) -> [Option<usize>; 3] {
     [
         beginning(encode_update_body(alloc, update), bytes),

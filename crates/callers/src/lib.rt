@@ -1,4 +1,4 @@
-//! Calls of public functions that nothing else in the product calls. A proof of them shows that a caller outside of their
+//! Calls of public functions that nothing else in the product calls. Their proofs show that a caller outside of their
 //! crates can meet what they require.
 #![tactic(auto)]
 

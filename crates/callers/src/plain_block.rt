@@ -4,7 +4,7 @@ use policy_eval::Verify;
 use rules::Flag;
 use std::alloc::{AllocError, Global};
 
-// What the parts of a list are counted by.
+// The most items of a list that are counted.
 const MOST: usize = 0xffff_ffff;
 
 /// The flags of the next block, or none if it has more transactions than are counted.

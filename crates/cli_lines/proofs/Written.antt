@@ -1,4 +1,4 @@
--- What is written to a writer piece by piece.
+-- What is written to a writer in several parts.
 use Rattle.std.proofs.Common.{◌≡◌, ◌++◌, ℕ, List, [], Option, Some, None, ap, sym, ◌∙◌, append_assoc, subst}
 use Rattle.std.specs.Io.KnownBytes.{Appends}
 use Rattle.std.proofs.lemmas.List.{append-nil}
@@ -13,6 +13,6 @@ then (Some xs) None c x y first second = absurd first
 then (Some xs) (Some ys) None x y first second = absurd second
 then (Some xs) (Some ys) (Some zs) x y first second = second ∙ (ap (λ l. l ++ y) first ∙ append_assoc xs x y)
 
--- the same of two texts whose whole is another text
+-- the same of two texts that joined are another text
 pub then_whole : (a b c : Option (List ℕ)) (x y z : List ℕ) → Appends a b x → Appends b c y → x ++ y ≡ z → Appends a c z
 then_whole a b c x y z first second e = subst (λ l. Appends a c l) e (then a b c x y first second)

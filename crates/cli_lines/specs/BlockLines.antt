@@ -54,7 +54,7 @@ block_line format number header_hash = numbered_line format (codes "block") numb
 abbrev pub commit_line : Format → ℕ → List ℕ → List ℕ
 commit_line format number commit_hash = numbered_line format (codes "commit") number commit_hash
 
--- want of memory is no refusal
+-- out of memory is no refusal
 abbrev pub refusal_of : Refused → Option Refusal
 refusal_of (refused.Malformed no_block.BadMagic) = Some refusal.BadMagic
 refusal_of (refused.Malformed no_block.Truncated) = Some refusal.Truncated
@@ -81,7 +81,7 @@ code_of refusal.WrongPrevious = codes "C3"
 code_of refusal.WrongDataHash = codes "C4"
 code_of refusal.OldVersion = codes "C8"
 
--- what stands behind the code
+-- what follows the code
 abbrev pub numbers_of : Refusal → List ℕ
 numbers_of refusal.BadMagic = []
 numbers_of refusal.Truncated = []
@@ -97,7 +97,7 @@ numbers_of refusal.OldVersion = []
 abbrev pub refusal_text : Refusal → List ℕ
 refusal_text why = code_of why ++ numbers_of why
 
--- its code, and what stands behind it, in JSON
+-- its code, and what follows it, in JSON
 abbrev pub further_members : Refusal → List ℕ
 further_members refusal.BadMagic = []
 further_members refusal.Truncated = []

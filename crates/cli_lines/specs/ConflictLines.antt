@@ -1,4 +1,4 @@
--- The lines that say what made transactions invalid, each with the line feed that ends it.
+-- The lines that state what made transactions invalid, each with the line feed that ends it.
 use Rattle.std.specs.Prelude.{◌≡◌, ℕ, nat_lt, if◌then◌else◌, List, [], ◌++◌, codes}
 use Rattle.std.specs.List.{flat_map}
 use Rattle.std.specs.Fmt.{decimal}
@@ -96,7 +96,7 @@ chaincode_line Json l = chaincode_members l.most_missing.0.0 l.transactions l.mo
 abbrev pub report_text : Format → List Reason → List Line → List ChaincodeLine → List ℕ
 report_text format reasons keys chaincodes = flag_lines format reasons ++ (flat_map (key_line format) keys ++ flat_map (chaincode_line format) chaincodes)
 
--- What is told of transactions that have these reasons, with so many keys at most.
+-- What is reported of transactions that have these reasons, with `top` keys at most.
 pub record IsReport (format : Format) (reasons : List Reason) (top : ℕ) (text : List ℕ) : Type 0 where
   pub keys : List Line
   pub are_first : AreFirst (conflicts_of reasons) top keys

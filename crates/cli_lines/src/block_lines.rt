@@ -19,7 +19,7 @@ pub fn write_hash<W: Write>(out: &mut W, hash: &Hash) -> io::Result<()>
     ensures { OnOk result (Appends (W.contents out.old) (W.contents out.new) (encode_lower hash.now)) }
 {
     let mut digits = [0; 64];
-    // Two digits a byte fill it, so there is no other answer.
+    // Two digits a byte fill it, so this can't fail.
     encode_to_slice(*hash, &mut digits).unwrap();
     out.write_all(&digits)
 }
@@ -52,7 +52,7 @@ fn write_flags<W: Write>(out: &mut W, flags: &[Flag]) -> io::Result<()>
     Ok(())
 }
 
-// Those behind the first one of a list.
+// Those after the first one of a list.
 fn write_more_flags<W: Write>(out: &mut W, flags: &[Flag]) -> io::Result<()>
     ensures { OnOk result (Appends (W.contents out.old) (W.contents out.new) (flat_map spec.further_flag flags.now)) }
 {
@@ -186,7 +186,7 @@ pub fn write_commit<W: Write>(
     write_numbered(out, format, "commit", number, commit_hash)
 }
 
-// What stands behind the quotation mark of the fault.
+// What follows the quotation mark of the fault.
 fn write_refusal_members<W: Write>(out: &mut W, refusal: Refusal) -> io::Result<()>
     ensures { OnOk result (Appends (W.contents out.old) (W.contents out.new) (spec.refusal_members refusal)) }
 {

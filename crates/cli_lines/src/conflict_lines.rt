@@ -1,4 +1,4 @@
-//! The lines that say what made transactions invalid.
+//! The lines that state what made transactions invalid.
 ghost use Rattle.std.specs.Prelude.{◌≡◌, List, OnOk};
 ghost use Rattle.std.specs.List.{flat_map};
 ghost use Rattle.std.specs.Io.KnownBytes.{Appends};
@@ -240,9 +240,9 @@ fn write_chaincodes<W: Write>(
     Ok(())
 }
 
-/// Writes `flag FLAG NAME N` for each flag that transactions have, `key NAMESPACE KEY N stale N phantom N policy N touched N
-/// in-block N` for each of these keys, and `chaincode NAME N missing ORG.ROLE N` for each of these chaincodes; or
-/// an object of each. Takes no memory.
+/// Writes `flag FLAG NAME N` for each flag that transactions have, `key NAMESPACE KEY N stale N phantom N policy N
+/// touched N in-block N` for each of these keys, and `chaincode NAME N missing ORG.ROLE N` for each of these
+/// chaincodes; or an object of each. Takes no memory.
 pub fn write_report<W: Write>(
     out: &mut W,
     format: Format,

@@ -1,6 +1,6 @@
-//! The lines in which the program `fabcommit` tells what a ledger holds and what came of a block: rows, entries of a
-//! history, accepted and refused blocks, the reasons of flags, and what made transactions invalid: each in words, or as
-//! an object of JSON with the same content, in which bytes that aren't UTF-8 are `{"hex":"DIGITS"}`.
+//! The lines in which the program `fabcommit` reports what a ledger holds and what happened to a block: rows, entries
+//! of a history, accepted and rejected blocks, the reasons of flags, and what made transactions invalid: each in words,
+//! or as an object of JSON with the same content, in which bytes that aren't UTF-8 are `{"hex":"DIGITS"}`.
 #![tactic(auto)]
 
 mod block_lines;

@@ -5,7 +5,7 @@ use std::alloc::AllocError;
 use std::io;
 use thiserror::Error;
 
-/// Why a line wasn't written, or not whole.
+/// Why a line wasn't written, or not completely.
 #[derive(Clone, Copy, Debug, PartialEq, Eq, Error)]
 pub enum LineFault {
     #[error("cannot write output")]

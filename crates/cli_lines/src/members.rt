@@ -1,5 +1,5 @@
-//! What lines are made of. A plain line is words with spaces between them, of which some are labels; of JSON it is an
-//! object, where what follows a label, or stands at its place, is a member with a name.
+//! What lines consist of. A plain line is words with spaces between them, some of them labels; of JSON it is an object,
+//! in which what follows a label, or replaces it, is a member with a name.
 ghost use Rattle.std.specs.Prelude.{◌++◌, OnOk};
 ghost use Rattle.std.specs.Io.KnownBytes.{Appends};
 ghost use Rattle.cli_lines.specs.RowLines as spec;
@@ -30,7 +30,7 @@ pub(crate) fn write_end<W: Write>(out: &mut W, format: Format) -> io::Result<()>
     }
 }
 
-/// What stands before a value: a space, or the member's name.
+/// What precedes a value: a space, or the member's name.
 pub(crate) fn write_name<W: Write>(out: &mut W, format: Format, name: &str) -> io::Result<()>
     ensures { OnOk result (Appends (W.contents out.old) (W.contents out.new) (spec.name_of format name.now)) }
 {
@@ -40,7 +40,7 @@ pub(crate) fn write_name<W: Write>(out: &mut W, format: Format, name: &str) -> i
     }
 }
 
-/// A word that plain lines have before a value of this name. JSON has the name alone.
+/// A word that plain lines have before a value of this name. JSON only has the name.
 pub(crate) fn write_label<W: Write>(out: &mut W, format: Format, label: &str) -> io::Result<()>
     ensures { OnOk result (Appends (W.contents out.old) (W.contents out.new) (spec.label_of format label.now)) }
 {
@@ -62,7 +62,7 @@ pub(crate) fn write_number<W: Write>(
     write!(out, "{number}")
 }
 
-/// Text that stands for itself in plain lines.
+/// Text that plain lines have as it is.
 pub(crate) fn write_text<W: Write>(
     out: &mut W,
     format: Format,
@@ -97,7 +97,7 @@ pub(crate) fn write_bytes<W: Write>(
     }
 }
 
-/// What there is none of: a word, or `null`.
+/// If there is no value: a word, or `null`.
 pub(crate) fn write_none<W: Write>(
     out: &mut W,
     format: Format,

@@ -41,7 +41,7 @@ pub(crate) fn write_flag<W: Write>(out: &mut W, format: Format, flag: Flag) -> i
     write_text(out, format, "name", name_of(flag))
 }
 
-// The word that tells reasons apart.
+// The word that distinguishes reasons.
 fn write_word<W: Write>(out: &mut W, format: Format, word: &str) -> io::Result<()> {
     write_text(out, format, "reason", word)
 }
@@ -88,7 +88,7 @@ fn write_by<W: Write>(out: &mut W, format: Format, writer: u32) -> io::Result<()
     write_number(out, format, "by", u64::from(writer))
 }
 
-// where there is one
+// if there is one
 fn write_writer<W: Write>(out: &mut W, format: Format, writer: Option<u32>) -> io::Result<()> {
     match writer {
         Some(writer) => write_by(out, format, writer),
@@ -308,7 +308,7 @@ fn write_named<W: Write>(out: &mut W, format: Format, word: &str, bytes: &[u8]) 
     write_bytes(out, format, word, bytes)
 }
 
-// What stands behind the flag's name, of a place of the block of this number.
+// What follows the flag's name, of a place of the block of this number.
 fn write_words<W: Write>(
     out: &mut W,
     format: Format,
@@ -335,7 +335,7 @@ fn write_words<W: Write>(
     }
 }
 
-// The canonical text of the policy that the reason names, empty where it names none.
+// The canonical text of the policy that the reason names, empty if it names none.
 fn policy_of(alloc: Global, reason: &Reason) -> Result<String, AllocError> {
     match reason {
         Reason::NotEndorsed(EndorsementFault::Unsatisfied { shortfall, .. })
@@ -354,13 +354,13 @@ pub struct ReasonLine<'r> {
     number: u64,
     place: usize,
     reason: &'r Reason,
-    /// The transaction's id, where it is wanted.
+    /// The transaction's id, if it is to be written.
     id: Option<&'r TxId>,
 }
 
 impl<'r> ReasonLine<'r> {
-    /// A place, from 0, of the block of this number, with its reason; and the transaction's id, where the line is to
-    /// have it.
+    /// A place, from 0, of the block of this number, with its reason; and the transaction's id, if the line is to have
+    /// it.
     pub fn new(
         number: u64,
         place: usize,
@@ -376,7 +376,7 @@ impl<'r> ReasonLine<'r> {
     }
 }
 
-// The place stands first in a plain line, which has no other kind.
+// The place comes first in a plain line, which has no other kind.
 fn write_transaction<W: Write>(out: &mut W, format: Format, place: usize) -> io::Result<()> {
     match format {
         Format::Plain => write!(out, "{place}"),
@@ -384,7 +384,7 @@ fn write_transaction<W: Write>(out: &mut W, format: Format, place: usize) -> io:
     }
 }
 
-/// Writes `TX FLAG NAME` and the words of the reason, and `id ID` behind them where the id is wanted. The memory is the
+/// Writes `TX FLAG NAME` and the words of the reason, and `id ID` after them if the line has the id. The memory is the
 /// text of the policy that it names, which is made before any of the line is written.
 pub fn write_reason<W: Write>(
     alloc: Global,

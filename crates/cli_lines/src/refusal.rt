@@ -8,7 +8,7 @@ use rules::Refused;
 use std::alloc::AllocError;
 use std::fmt;
 
-/// Why a block was refused, which prints as the lines name it. Want of memory is none of them.
+/// Why a block was rejected, which prints as the lines name it. Out of memory is none of them.
 #[derive(Clone, Copy)]
 pub enum Refusal {
     BadMagic,
@@ -24,7 +24,7 @@ pub enum Refusal {
 }
 
 impl Refusal {
-    /// The refusal, unless it is want of memory. Takes no memory.
+    /// The refusal, unless it is out of memory. Takes no memory.
     pub fn of(refused: Refused) -> Result<Refusal, AllocError>
         ensures refusal { IfOk result (λ refusal. spec.refusal_of refused ≡ Some refusal) }
         ensures memory { IsErr result ↔ (refused ≡ refused_as.Memory ⊎ refused ≡ refused_as.Malformed block_fault.Memory) }
@@ -44,7 +44,7 @@ impl Refusal {
         })
     }
 
-    /// What stands before the numbers of a refusal, if it has any.
+    /// What precedes the numbers of a refusal, if it has any.
     pub(crate) fn code(&self) -> &'static str
         ensures { result.now ≡ spec.code_of self.now }
     {

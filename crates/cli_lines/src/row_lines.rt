@@ -1,4 +1,4 @@
-//! The lines in which the ledger's contents are told.
+//! The lines that report the ledger's contents.
 ghost use Rattle.std.specs.Prelude.{◌++◌, OnOk, codes};
 ghost use Rattle.std.specs.Option.{option_copied};
 ghost use Rattle.std.specs.Io.KnownBytes.{Appends};
@@ -101,7 +101,7 @@ fn write_policy<W: Write>(out: &mut W, format: Format, text: &str) -> io::Result
     write_end(out, format)
 }
 
-/// Writes `definition TEXT`, the canonical text of a chaincode's policy, or `absent` where there is none. The memory is
+/// Writes `definition TEXT`, the canonical text of a chaincode's policy, or `absent` if there is none. The memory is
 /// that text, which is made before any of the line is written.
 pub fn write_definition<W: Write>(
     alloc: Global,
@@ -121,7 +121,7 @@ pub fn write_definition<W: Write>(
     Ok(())
 }
 
-// A value, which isn't taken for a deletion.
+// A value, which can't be mistaken for a deletion.
 fn write_written<W: Write>(out: &mut W, format: Format, value: &[u8]) -> io::Result<()>
     ensures { OnOk result (Appends (W.contents out.old) (W.contents out.new) (spec.name_of format (codes "value") ++ spec.written_in format value.now)) }
 {
@@ -135,7 +135,7 @@ fn write_written<W: Write>(out: &mut W, format: Format, value: &[u8]) -> io::Res
     }
 }
 
-/// Writes `entry BLOCK TX ID VALUE`, or `deleted` in the value's place. Takes no memory.
+/// Writes `entry BLOCK TX ID VALUE`, or `deleted` instead of the value. Takes no memory.
 pub fn write_entry<W: Write>(out: &mut W, format: Format, entry: &HistoryEntry) -> io::Result<()>
     ensures { OnOk result (Appends (W.contents out.old) (W.contents out.new) (spec.entry_line format entry.now)) }
 {

@@ -1,4 +1,4 @@
-//! Who signed, and what a policy lacks.
+//! Who signed, and what a policy is missing.
 use crate::members::{write_label, write_text};
 use cli_values::Format;
 use json_lines::write_value;
@@ -59,7 +59,7 @@ pub(crate) fn write_signer<W: Write>(
     }
 }
 
-// ` SIGNER` for each behind the first of a list
+// ` SIGNER` for each of these, in JSON with a comma before it
 fn write_more_signers<W: Write>(
     out: &mut W,
     format: Format,
@@ -105,7 +105,7 @@ fn write_signers<W: Write>(
     }
 }
 
-// ` missing ORG.ROLE`; a name stands for itself, as word and in a string
+// ` missing ORG.ROLE`; a name is written as it is, as word and in a string
 fn write_missing<W: Write>(
     out: &mut W,
     format: Format,

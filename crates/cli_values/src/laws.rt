@@ -5,8 +5,8 @@ ghost use Rattle.cli_values.specs.Printed.{value_word_of};
 
 use text_lines::printed_words_are_read_back;
 
-/// A law, and no work: the word that a history has for a value spells this value. So no two values print alike there,
-/// and none like a deletion.
+/// Proved (the function does nothing at run time): the word that a history has for a value encodes this value. So no
+/// two values print alike there, and none like a deletion.
 pub fn printed_values_are_read_back()
     ensures { (bytes : List ℕ) → All (λ b. b < 256) bytes → word_bytes (value_word_of bytes) ≡ Some bytes }
 {

@@ -1,5 +1,5 @@
-//! The values that words of the command line spell, the word that a line has for a value, and the forms of lines. Words
-//! are those of `text_lines`.
+//! The values that words of the command line encode, the word that a line has for a value, and the forms of lines.
+//! Words are those of `text_lines`.
 #![tactic(auto)]
 
 mod format;

@@ -4,7 +4,7 @@ ghost use Rattle.cli_values.specs.Printed as spec;
 use std::fmt;
 use text_lines::Word;
 
-/// A value, which prints as the word that spells it; the value `deleted` as `%64eleted`, since a history has `deleted`
+/// A value, which prints as the word that encodes it; the value `deleted` as `%64eleted`, since a history has `deleted`
 /// for a deletion. Takes no memory.
 #[derive(Clone, Copy)]
 pub struct ValueWord<'a>(pub &'a [u8]);

@@ -12,7 +12,7 @@ use text_lines::read_word;
 use transaction::{ID_BYTES, TxId};
 use values::{Bytes, Key, Name, is_key, is_name};
 
-/// The bytes that a word spells. An `Err` is a text that is no word, or want of memory. Linear in the word, whose
+/// The bytes that a word encodes. An `Err` is a text that is no word, or out of memory. Linear in the word, whose
 /// length is the most memory that it needs.
 pub fn bytes_of(alloc: Global, word: &str) -> Result<Bytes, WordFault>
     ensures ok { IfOk result (λ bytes. word_bytes word.now ≡ Some bytes) }
@@ -24,7 +24,7 @@ pub fn bytes_of(alloc: Global, word: &str) -> Result<Bytes, WordFault>
     }
 }
 
-/// The key that a word spells, of 1 to 1,024 bytes. An `Err` is a word of other bytes, or one of `bytes_of`. Linear in
+/// The key that a word encodes, of 1 to 1,024 bytes. An `Err` is a word of other bytes, or one of `bytes_of`. Linear in
 /// the word, in time and memory.
 pub fn key_of(alloc: Global, word: &str) -> Result<Key, WordFault>
     ensures ok { IfOk result (λ key. word_bytes word.now ≡ Some key) }
@@ -37,7 +37,7 @@ pub fn key_of(alloc: Global, word: &str) -> Result<Key, WordFault>
     Ok(Key::from_slice(alloc, bytes.as_slice())?)
 }
 
-/// The transaction id that a word spells, of 64 bytes. An `Err` is a word of other bytes, or one of `bytes_of`. Linear
+/// The transaction id that a word encodes, of 64 bytes. An `Err` is a word of other bytes, or one of `bytes_of`. Linear
 /// in the word, in time and memory.
 pub fn id_of(alloc: Global, word: &str) -> Result<TxId, WordFault>
     ensures ok { IfOk result (λ id. word_bytes word.now ≡ Some id) }
@@ -53,8 +53,8 @@ pub fn id_of(alloc: Global, word: &str) -> Result<TxId, WordFault>
     Ok(id)
 }
 
-/// The name that an option gives. An `Err` is a text that is no name, or want of memory. Linear in the text, in time
-/// and memory.
+/// The name that an option gives. An `Err` is a text that is no name, or out of memory. Linear in the text, in time and
+/// memory.
 pub fn name_of(alloc: Global, text: &str) -> Result<Name, WordFault>
     ensures ok { IfOk result (λ name. name ≡ text.now) }
     ensures err { result ≡ Err NotAWord → is_name text.now ≡ false }

@@ -10,7 +10,7 @@ fn changes() -> &'static [Change] {
 }
 
 static CHANGES: [Change; 45] = [
-    // A byte behind the end.
+    // A byte after the end.
     (200, 200, Is(b"\0"), false),
     // The creator's role, a key's length, the flags of a version and a value, a value's length.
     (72, 73, Is(b"\x04"), false),
@@ -34,7 +34,7 @@ static CHANGES: [Change; 45] = [
         Long(b"\0\x0f\xff\x3a", b"v", 1_048_378, b""),
         false,
     ),
-    // 65,535 namespaces, and none of them there.
+    // 65,535 namespaces, all of them missing.
     (82, 200, Is(b"\xff\xff"), false),
     // The key of the read.
     (89, 93, Long(b"\0\0", b"k", 0, b""), false),
@@ -46,7 +46,7 @@ static CHANGES: [Change; 45] = [
     (110, 114, Long(b"\0\x01", b"k", 1, b""), true),
     (110, 114, Long(b"\x04\0", b"k", 1_024, b""), true),
     (110, 114, Long(b"\x04\x01", b"k", 1_025, b""), false),
-    // One range in place of none: its first bound, then the other one.
+    // One range instead of none: its first bound, then the other one.
     (106, 108, Is(b"\0\x01\0\0\0\0\x01\0\0"), true),
     (
         106,
@@ -90,7 +90,7 @@ static CHANGES: [Change; 45] = [
     (84, 87, Long(b"\x40", b"a", 64, b""), true),
     (84, 87, Long(b"\x41", b"a", 65, b""), false),
     (84, 87, Is(b"\x03a b"), false),
-    // A policy write of the most bytes that a policy may have, and of more, which the decoder takes and intake flags.
+    // A policy write of the most bytes that a policy may have, and of more, which the decoder accepts and intake flags.
     (
         120,
         122,
@@ -115,7 +115,7 @@ static CHANGES: [Change; 45] = [
         Long(b"\0\x01\0\x01k\x01\xff\xff", b" ", 65_536, b""),
         false,
     ),
-    // Endorsements without signatures, all of them there.
+    // Endorsements without signatures, none missing.
     (122, 166, Long(b"\x40", b"\x01O\x02\0\0\0", 64, b""), true),
     (122, 166, Long(b"\x41", b"\x01O\x02\0\0\0", 65, b""), false),
 ];

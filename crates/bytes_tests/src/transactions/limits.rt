@@ -1,4 +1,4 @@
-//! What a transaction's parts can be, up to their limits, written and read again.
+//! How large a transaction's parts can be, up to their limits, written and read again.
 
 use crate::parts::{key, letters, name};
 use crate::too_large::TooLarge::{Body, Nothing, Signed, Whole};
@@ -28,7 +28,7 @@ const SMALL: Sizes = Sizes {
     signature: 0,
 };
 
-// The part of which it is said how large it is.
+// The part whose size is given.
 #[derive(Clone, Copy)]
 enum Part {
     Label,
@@ -128,8 +128,8 @@ fn tx<'a>(
     }
 }
 
-// With labels and nonces of two bytes and no endorsements its body has 104 bytes beside the value, the signed part 105,
-// the whole 107 beside the signature.
+// With labels and nonces of two bytes and no endorsements its body has 104 bytes besides the value, the signed part
+// 105, the whole 107 besides the signature.
 fn with_sizes<'a>(
     rt: &impl Abort,
     alloc: Global,
@@ -161,7 +161,7 @@ fn is_written_as(tx: &Tx<'_>, alloc: Global, bytes: &[u8]) -> bool {
     }
 }
 
-// Whether what was written is read, with so many endorsements, and written again, as it is.
+// Whether what was written is read, with this many endorsements, and written again, unchanged.
 fn is_read_again(alloc: Global, written: &[u8], endorsements: usize) -> bool {
     match decode_tx(alloc, written) {
         Ok(read) => {

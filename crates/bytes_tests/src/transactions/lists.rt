@@ -1,12 +1,12 @@
-//! Lists of as many entries as their count can tell, and of one fewer and one more than it tells.
+//! Lists of as many entries as their count can state, and of one fewer and one more than it states.
 
 use super::example;
 use crate::changes::{Kind, is_as_said};
 use crate::fields::Field::Long;
 use std::alloc::{AllocError, Global};
 
-// Where a list stands in the example, with what before it, and an entry: namespaces, reads, ranges, results of a
-// range, deletes and policies that are removed.
+// Where a list is in the example, with what precedes it, and an entry: namespaces, reads, ranges, results of a range,
+// deletes and policies that are removed.
 type List = (usize, usize, &'static [u8], &'static [u8]);
 
 fn lists() -> &'static [List] {
@@ -27,7 +27,7 @@ static LISTS: [List; 6] = [
     (120, 122, b"\xff\xff", b"\0\x01k\0"),
 ];
 
-// How many entries are there, where the count tells 65,535, and whether they are read.
+// How many entries the list has, while its count is 65,535, and whether they are read.
 fn counts() -> &'static [(usize, bool)] {
     &COUNTS
 }

@@ -1,9 +1,9 @@
-//! Where what a transaction writes stands in its bytes, which no clause says.
+//! Where what a transaction writes is in its bytes, which no contract states.
 
 use transaction::{NsSet, SpelledTx};
 use values::found_at;
 
-// Whether the keys and values that a namespace writes stand where it says, where it stands at this place itself.
+// Whether the keys and values that a namespace writes are at the places that it states, if it is itself at this place.
 fn are_writes_found(bytes: &[u8], place: usize, set: &NsSet<'_>) -> bool {
     let mut place = place.wrapping_add(set.writes_place());
     for write in set.writes.as_slice() {
@@ -22,7 +22,7 @@ fn are_writes_found(bytes: &[u8], place: usize, set: &NsSet<'_>) -> bool {
     true
 }
 
-/// Whether all that the namespaces write stands where they say; the last of them ends the body.
+/// Whether all that the namespaces write is at the places that they state; the last of them ends the body.
 pub fn is_all_found(bytes: &[u8], spelled: &SpelledTx<'_>) -> bool {
     let mut place = spelled.tx().namespaces_place();
     for set in spelled.tx().namespaces.as_slice() {

@@ -1,4 +1,4 @@
-//! What an update's parts can be, up to their limits, written and read again.
+//! How large an update's parts can be, up to their limits, written and read again.
 
 use super::{fault_of, update_of};
 use crate::fields::with_field;
@@ -34,7 +34,7 @@ const SMALL: Sizes = Sizes {
     endorser_signature: 0,
 };
 
-// The part of which it is said how large it is.
+// The part whose size is given.
 #[derive(Clone, Copy)]
 enum Part {
     Label,
@@ -44,7 +44,7 @@ enum Part {
     EndorserLabel,
     EndorserSignature,
     Signature,
-    // The policy beside 16 endorsements, with which the signed part has 1,040,178 bytes more, the whole two more.
+    // The policy with 16 endorsements, with which the signed part has 1,040,178 bytes more, the whole two more.
     PolicyOfMany,
 }
 
@@ -95,7 +95,8 @@ fn endorsements<'a>(
     Ok(endorsements)
 }
 
-// Its body has 81 bytes beside the label, the nonce and the policy, each endorsement 6 beside what it has of these sizes.
+// Its body has 81 bytes besides the label, the nonce and the policy, each endorsement 6 besides what it has of these
+// sizes.
 fn with_sizes<'a>(
     rt: &impl Abort,
     alloc: Global,
@@ -131,7 +132,7 @@ fn is_written_as(update: &Update<'_>, alloc: Global, bytes: &[u8]) -> bool {
     }
 }
 
-// Whether what was written is read, and written again, as it is.
+// Whether what was written is read, and written again, unchanged.
 fn is_read_again(alloc: Global, written: &[u8]) -> bool {
     match update_of(alloc, written) {
         Ok(update) => is_written_as(&update, alloc, written),
@@ -196,8 +197,8 @@ fn written(rt: &impl Abort, alloc: Global, sizes: &Sizes) -> Result<Bytes, Encod
     encode_update(alloc, &update)
 }
 
-// Whether these 1,048,576 bytes are read, and with one byte more of the policy, which has 8,396 and whose length stands
-// at 79, aren't.
+// Whether these 1,048,576 bytes are read, and with one byte more of the policy, which has 8,396 and whose length is at
+// 79, aren't.
 fn are_most(alloc: Global, bytes: &[u8]) -> Result<bool, AllocError> {
     let more = with_field(alloc, bytes, 79, 81, b"\x20\xcda")?;
     Ok(

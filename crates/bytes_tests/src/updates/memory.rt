@@ -1,4 +1,4 @@
-//! An update that is read and written with memory that is refused.
+//! An update that is read and written while allocations fail.
 
 use super::{decode_update, example};
 use std::alloc::Global;
@@ -31,7 +31,7 @@ fn written(alloc: Global, update: &Update<'_>, part: Part) -> Result<Bytes, Enco
     }
 }
 
-// Whether so many bytes of the example were written, or want of memory is answered.
+// Whether this many bytes of the example were written, or out of memory is returned.
 fn is_written(written: Result<Bytes, EncodeFault>, len: usize) -> Result<bool, EncodeFault> {
     match written {
         Ok(bytes) => Ok(example().get(..len) == Some(bytes.as_slice())),
@@ -39,7 +39,7 @@ fn is_written(written: Result<Bytes, EncodeFault>, len: usize) -> Result<bool, E
     }
 }
 
-// It is written again where memory was wanting.
+// It is written again if memory ran out.
 fn outcome_of_part(alloc: Global, update: &Update<'_>, part: Part, len: usize) -> Outcome {
     match is_written(written(alloc, update, part), len) {
         Ok(true) => Outcome::Done,
@@ -59,7 +59,7 @@ fn outcome_of_writing(alloc: Global, update: &Update<'_>) -> Outcome {
     outcome
 }
 
-// What comes of reading it, and then of writing what was read.
+// The outcome of reading it, and then of writing what was read.
 fn outcome_of_reading(alloc: Global, read: Outcome) -> Result<Outcome, TxFault> {
     let spelled = decode_update(alloc, example())?;
     match spelled.item() {
@@ -68,7 +68,7 @@ fn outcome_of_reading(alloc: Global, read: Outcome) -> Result<Outcome, TxFault> 
     }
 }
 
-/// What comes of reading and writing the example.
+/// The outcome of reading and writing the example.
 pub fn outcome(alloc: Global) -> Result<Outcome, Failed> {
     begins(alloc)?;
     match outcome_of_reading(alloc, Outcome::Done) {
@@ -78,8 +78,8 @@ pub fn outcome(alloc: Global) -> Result<Outcome, Failed> {
     }
 }
 
-// To be tried with memory that is refused at any one allocation, by `bench/refused_memory.py`: then want of memory is
-// answered, and the same call does as it should when it is called again.
+// Run by `bench/refused_memory.py`, which lets any one allocation fail: then out of memory is returned, and the same
+// call does as it should when it is called again.
 #[test]
 fn updates_with_refused_memory(rt: HostRuntime) -> Result<(), Failed> {
     assert!(rt; outcome(rt.alloc())? == Outcome::Done);

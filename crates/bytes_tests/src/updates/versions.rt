@@ -26,7 +26,7 @@ fn in_both(alloc: Global, bytes: &[u8]) -> InBoth {
 
 const NONE: Result<bool, TxFault> = Err(TxFault::Form);
 
-// Bytes, how many are left out in front, what stands there in place of them, and what is read.
+// Bytes, how many are left out in front, what replaces them, and what is read.
 type Row = (&'static [u8], usize, &'static [u8], InBoth);
 
 fn rows() -> &'static [Row] {
@@ -37,10 +37,10 @@ static ROWS: [Row; 6] = [
     // The update, and the same without its mark.
     (EXAMPLE, 0, b"", [NONE, Ok(true)]),
     (EXAMPLE, 1, b"", [NONE, NONE]),
-    // The transaction, and the same behind a mark.
+    // The transaction, and the same after a mark.
     (transactions::EXAMPLE, 0, b"", [Ok(false), Ok(false)]),
     (transactions::EXAMPLE, 0, b"\0", [NONE, NONE]),
-    // No bytes, and a mark alone.
+    // No bytes, and only a mark.
     (b"", 0, b"", [NONE, NONE]),
     (b"", 0, b"\0", [NONE, NONE]),
 ];
