@@ -114,7 +114,7 @@ chain_room channel old new (s ∷ submissions) (x ∷ answers) room c =
 chain_room channel old new [] (x ∷ answers) room c = absurd c
 chain_room channel old new (s ∷ submissions) [] room c = absurd c
 
--- ---- what the hashed bytes tell
+-- ---- what the hashed bytes determine
 
 pub told_alike : (p q : List ℕ) (a b : BlockCommit) → IsHash p → IsHash q → HasRoom a → HasRoom b → p ++ commit_bytes a ≡ q ++ commit_bytes b → (p ≡ q) × AreToldAlike a b
 told_alike p q a b first second room also same =

@@ -88,7 +88,7 @@ definitions_fit_by (updates u signers) h = by (policy_of u.policy) refl
     by None e = tt
     by (Some t) e = ((h, text_short u.policy t e), tt)
 
--- what is given where a candidate is valid
+-- what is given if a candidate is valid
 given_where : {A : Type 0} (P : A → Type 0) (b : Bool) (xs : List A) → AllByRecursion P xs → AllByRecursion P (if b then xs else [])
 given_where P true xs h = h
 given_where P false xs h = tt

@@ -1,4 +1,5 @@
--- Chains of blocks with the same commit hash at the same height do the same at each height, and their states have the same rows.
+-- Chains of blocks with the same commit hash at the same height do the same at each height, and their states have the
+-- same rows.
 use Rattle.std.proofs.Common.{◌≡◌, ℕ, eqb, Bool, true, false, cond, ◌&&◌, List, [], ◌∷◌, ◌++◌, length, map, Option, Some, None, Result, Ok, Err, refl, sym, ap, subst, ◌∙◌, arith, length-append}
 use Rattle.std.specs.Prelude.{if◌then◌else◌, option_map, unwrap_or}
 use Rattle.std.specs.Str.{bytes_eq}
@@ -44,7 +45,7 @@ pub chain_commits : (channel : Configuration) (new : World) (submissions : List 
     → Chain channel (empty_world channel.definitions) submissions answers new → (cs : List BlockCommit) × AreCommits channel cs new
 chain_commits channel new submissions answers c = commits_from channel [] (empty_world channel.definitions) new submissions answers refl c
 
--- ---- what is known behind them
+-- ---- what is known after them
 
 pub record Known (cs : List BlockCommit) (w : World) : Type 0 where
   pub room : WorldHasRoom w
@@ -69,7 +70,7 @@ commit_room : (channel : Configuration) (old new : World) (c : BlockCommit) (cs 
 commit_room channel old new c cs known leads =
     subst HasRoom (sym leads.commit) (block_room channel leads.accepts old leads.bytes leads.block known.room.rows leads.spelled leads.linked)
 
--- ---- at each height the same is told
+-- ---- at each height the commit hashes cover the same
 
 tells : (first second : Configuration) (cs ds : List BlockCommit) (v w : World) → AreCommits first cs v → AreCommits second ds w → length cs ≡ length ds → hash_behind cs ≡ hash_behind ds
     → NoneCollide cs ds → AreAllToldAlike cs ds
@@ -90,7 +91,7 @@ blocks_told first second v w cs ds are also high same apart =
     let other = known second ds w also in
     tells first second cs ds v w are also (sym one.height ∙ high ∙ other.height) (sym one.hash ∙ ap commit_hash_before same ∙ other.hash) apart
 
--- ---- what is told of the rows that differ gives each row behind
+-- ---- what the hash covers of the rows that differ gives each row after them
 
 abbrev told : Option Row → Option ToldRow
 told o = option_map told_row o
@@ -114,7 +115,7 @@ unchanged_told (Some r) (Some s) e =
 unchanged_told None (Some s) e = absurd cc
 unchanged_told (Some r) None e = absurd cc
 
--- the row behind, by that before and by what is told of the change
+-- the row after, by that before and by what the hash covers of the change
 after_told : (before after : Option Row) → told after ≡ unwrap_or (option_map told (difference before after)) (told before)
 after_told before after = by (is_unchanged before after) refl
   where

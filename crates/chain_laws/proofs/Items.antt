@@ -1,4 +1,4 @@
--- What the reader of transactions and updates takes: names, keys and values within their limits, and few writes.
+-- What the reader of transactions and updates accepts: names, keys and values within their limits, and few writes.
 use Rattle.std.proofs.Common.{◌≡◌, ℕ, zero, suc, ◌+◌, ◌*◌, ◌^◌, ◌<◌, ◌≤◌, ◌==◌, nat_le, cond, true, List, [], ◌∷◌, ◌++◌, length, Option, Some, None, ap, subst, ◌∙◌, arith, leb-true, length-append}
 use Rattle.std.specs.Prelude.{IfSome, ◌&&◌}
 use Rattle.std.specs.List.{AllByRecursion, flat_map, list_all}
@@ -71,7 +71,7 @@ bound_takes : {most : ℕ} → Takes most bound_at (λ b. 0) (λ b. Unit {0})
 unfolding bound_at
 bound_takes = said_takes (λ b. 0) (λ b. Unit {0}) (tested_takes is_bound (counted_takes 2)) (λ b. omega arith) (λ b h. tt)
 
--- ---- what is in front of the writes
+-- ---- what precedes the writes
 
 identity_takes : {most : ℕ} → Takes most identity_at (λ i. 0) (λ i. Unit {0})
 unfolding identity_at

@@ -126,7 +126,7 @@ is_less Less e = refl
 is_less Equal e = absurd cc
 is_less Greater e = absurd cc
 
--- a key that stands before all is none of theirs
+-- a key that is before all is none of theirs
 before_all : {X : Type 0} (k : StateKey) (es : List (StateKey × X)) → below_all key_cmp k es ≡ true → found key_cmp k es ≡ None
 before_all k [] below = refl
 before_all k (e ∷ es) below =

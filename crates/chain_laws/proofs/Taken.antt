@@ -1,4 +1,5 @@
--- What readers take of any list of numbers: a value that fits its limits, with a size that is no more than what was taken.
+-- What readers accept of any list of numbers: a value that fits its limits, with a size that is no more than what was
+-- read.
 use Rattle.std.proofs.Common.{◌≡◌, ℕ, zero, suc, ◌+◌, ◌≤◌, Bool, true, false, cond, ltb, List, [], ◌∷◌, length, take, drop, Option, Some, None, refl, sym, ap, subst, ◌∙◌, arith, ltb-false, length-append, length-drop, take-append-drop}
 use Rattle.std.specs.Prelude.{IfSome, option_map}
 use Rattle.std.specs.List.{AllByRecursion}
@@ -6,7 +7,7 @@ use Rattle.byteorder.specs.Endian.{big_number}
 use Rattle.transaction.specs.Combined.{◌>>=◌, Read, Reader, bytes_at, number_at, counted_at, tested_at, pair_at, mapped_at, byte_at, optional_at, fields_at, listed_at}
 use Rattle.transaction.proofs.FieldLaws.{bind_some, some_is, if_some}
 
--- of at most so many
+-- of at most this many
 pub record Takes {A : Type 0} (most : ℕ) (read : Reader A) (size : A → ℕ) (Fits : A → Type 0) : Type 0 where
   pub taken : (bytes : List ℕ) (x : A × List ℕ) → length bytes ≤ most → read bytes ≡ Some x → (size x.0 + length x.1 ≤ length bytes) × Fits x.0
 
@@ -20,7 +21,7 @@ if_none : {A : Type 0} (b : Bool) (o : Option A) (y : A) → cond b None o ≡ S
 if_none true o y e = absurd cc
 if_none false o y e = (refl, e)
 
--- the two fields of a pair, and what stands between
+-- the two fields of a pair, and what is between
 pub pair_parts : {A B : Type 0} (ra : Reader A) (rb : Reader B) (bytes : List ℕ) (x : (A × B) × List ℕ) → pair_at ra rb bytes ≡ Some x
     → (mid : List ℕ) × (ra bytes ≡ Some (x.0.0, mid)) × (rb mid ≡ Some (x.0.1, x.1))
 pair_parts {A} {B} ra rb bytes x e =
@@ -72,7 +73,7 @@ counted_takes {most} k = record { taken = taken }
         let b = inside.taken a.0.1 x (omega (arith, n.0, few)) a.2 in
         (omega (arith, n.0, b.0), b.1)
 
--- a byte that stands for a value
+-- a byte that encodes a value
 byte_taken : {A : Type 0} (value : ℕ → Option A) (bytes : List ℕ) (x : A × List ℕ) → byte_at value bytes ≡ Some x → length x.1 ≤ length bytes
 byte_taken value [] x e = absurd cc
 byte_taken {A} value (b ∷ bytes) x e =

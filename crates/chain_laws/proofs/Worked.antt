@@ -1,4 +1,5 @@
--- Worked out: a first block of no transactions is accepted, and what is hashed of it; rows that have no room; blocks that aren't told alike.
+-- Worked out: a first block of no transactions is accepted, and what is hashed of it; rows that have no room; blocks of
+-- which the hash covers different things.
 use Rattle.std.proofs.Common.{◌≡◌, ℕ, ◌^◌, ◌≤◌, Bool, cond, List, [], ◌∷◌, ◌++◌, length, map, Some, None, refl, sym, ap, ◌∙◌, arith}
 use Rattle.std.specs.Prelude.{replicate}
 use Rattle.std.specs.FinMap.{get, empty, insert, entries, put as in_place, get-empty, get-insert, entries-insert, len-entries, len-empty}
@@ -97,7 +98,7 @@ module _ (k : StateKey) (row : Row) (rows : RowsHaveRoom (insert empty k row)) w
   pub long_policy : 2 ^ 16 ≤ length (policy_text row.policy) → ⊥
   long_policy long = omega (arith, long, own_room.1.1.1.1)
 
--- ---- blocks that aren't told alike
+-- ---- blocks of which the hash covers different things
 
 pub other_version : (c : BlockCommit) → AreToldAlike (record c { version = V1 }) (record c { version = V2 }) → ⊥
 other_version c alike = let same : V1 ≡ V2 = alike.version in absurd cc

@@ -1,4 +1,4 @@
--- What the blocks of a chain are and do, one behind the other, and the commit hashes over them.
+-- What the blocks of a chain are and do, one after the other, and the commit hashes over them.
 use Rattle.std.specs.Prelude.{◌≡◌, ℕ, List, [], ◌∷◌, ◌++◌, replicate}
 use Rattle.sha2.specs.Sha256.{sha256}
 use Rattle.block.specs.declared.block.Block.{Block}
@@ -26,17 +26,17 @@ abbrev pub AreCommits : Configuration → List BlockCommit → World → Type 0
 AreCommits channel [] new = new ≡ empty_world channel.definitions
 AreCommits channel (c ∷ cs) new = (old : World) × AreCommits channel cs old × Leads channel old c new
 
--- the commit hash behind all of them
+-- the commit hash after all of them
 abbrev pub hash_behind : List BlockCommit → List ℕ
 hash_behind [] = replicate 32 0
 hash_behind (c ∷ cs) = sha256 (hash_behind cs ++ commit_bytes c)
 
--- of blocks as many, what is hashed at each height doesn't collide
+-- for blocks of equal number, what is hashed at each height doesn't collide
 abbrev pub NoneCollide : List BlockCommit → List BlockCommit → Type 0
 NoneCollide (c ∷ cs) (d ∷ ds) = DontCollide (hash_behind cs ++ commit_bytes c) (hash_behind ds ++ commit_bytes d) × NoneCollide cs ds
 NoneCollide _ _ = Unit {0}
 
--- they are as many, and the same is told of those at each height
+-- they are equal in number, and at each height the hash covers the same of both
 abbrev pub AreAllToldAlike : List BlockCommit → List BlockCommit → Type 0
 AreAllToldAlike [] [] = Unit {0}
 AreAllToldAlike (c ∷ cs) (d ∷ ds) = AreToldAlike c d × AreAllToldAlike cs ds

@@ -1,10 +1,10 @@
--- Blocks of which the same is told, and strings of bytes that SHA-256 tells apart.
+-- Blocks of which the commit hash covers the same, and byte strings that SHA-256 distinguishes.
 use Rattle.std.specs.Prelude.{◌≡◌, ℕ, List, map, option_map}
 use Rattle.sha2.specs.Sha256.{sha256}
 use Rattle.rules.specs.Differing.{differing}
 use Rattle.rules.specs.CommitBytes.{BlockCommit, told_change, told_definition}
 
--- the same version, number, flags, rows that differ and replaced definition, where each policy is told by its canonical text
+-- the same version, number, flags, rows that differ and replaced definition, with each policy as its canonical text
 pub record AreToldAlike (a b : BlockCommit) : Type 0 where
   pub version : a.version ≡ b.version
   pub number : a.number ≡ b.number

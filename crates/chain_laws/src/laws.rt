@@ -19,8 +19,8 @@ ghost use Rattle.chain_laws.specs.AcceptedBlock.{AcceptedBlock, commit_of, hash_
 ghost use Rattle.chain_laws.specs.Commits.{AreCommits, NoneCollide, AreAllToldAlike};
 ghost use Rattle.chain_laws.specs.ToldAlike.{AreToldAlike, DontCollide};
 
-/// Laws, and no work: the empty world has room for what is hashed of a block, whatever the channel's definitions, and each step,
-/// and so each chain, leaves a world that has room.
+/// Proved (the function does nothing at run time): the empty world has room for what is hashed of a block, for any
+/// definitions of the channel, and each step, and so each chain, leaves a world that has room.
 pub fn steps_keep_room()
     ensures empty { (definitions : Policies) → WorldHasRoom (empty_world definitions) }
     ensures step { (channel : Configuration) (accepts : Accepts) (old new : World) (bytes : List ℕ) (answer : Result Accepted Refused)
@@ -29,8 +29,9 @@ pub fn steps_keep_room()
         → WorldHasRoom old → Chain channel old submissions answers new → WorldHasRoom new }
 {}
 
-/// Laws, and no work: whatever was handed in from the empty world of a channel on, each length and number of a block that is linked
-/// to the world behind it has room in the bytes that are hashed of it. And so of each block that is accepted.
+/// Proved (the function does nothing at run time): no matter what was submitted from the empty world of a channel on,
+/// each length and number of a block that is linked to the world after it has room in the bytes that are hashed of it.
+/// And so of each block that is accepted.
 pub fn accepted_blocks_have_room()
     ensures linked { (channel : Configuration) (accepts : Accepts) (w : World) (submissions : List Submission) (answers : List (Result Accepted Refused))
         (bytes : List ℕ) (b : Block) → Chain channel (empty_world channel.definitions) submissions answers w → Spells bytes b → IsLinked w b
@@ -38,23 +39,25 @@ pub fn accepted_blocks_have_room()
     ensures accepted { (a : AcceptedBlock) → HasRoom (commit_of a) }
 {}
 
-/// A law, and no work: where the same bytes are hashed of two accepted blocks, each behind its own chain, the commit hashes before them
-/// are the same, and so are version, number, flags, rows that differ and replaced definition.
+/// Proved (the function does nothing at run time): if the same bytes are hashed of two accepted blocks, each after its
+/// own chain, the commit hashes before them are the same, and so are version, number, flags, rows that differ and
+/// replaced definition.
 pub fn accepted_blocks_tell()
     ensures { (a b : AcceptedBlock) → hashed_of a ≡ hashed_of b → (hash_before a ≡ hash_before b) × AreToldAlike (commit_of a) (commit_of b) }
 {}
 
-/// A law, and no work: where two accepted blocks are answered the same commit hash, and what is hashed of them doesn't collide, the
-/// commit hashes before them are the same, and so are version, number, flags, rows that differ and replaced definition.
+/// Proved (the function does nothing at run time): if two accepted blocks get the same commit hash, and what is hashed
+/// of them doesn't collide, the commit hashes before them are the same, and so are version, number, flags, rows that
+/// differ and replaced definition.
 pub fn equal_commit_hashes_tell()
     ensures { (a b : AcceptedBlock) → DontCollide (hashed_of a) (hashed_of b) → a.answer.commit_hash ≡ b.answer.commit_hash
         → (hash_before a ≡ hash_before b) × AreToldAlike (commit_of a) (commit_of b) }
 {}
 
-/// Laws, and no work: each chain from the empty world of a channel has commits. Where two such chains, of one channel or of two, led to
-/// the same height and the same commit hash, and what was hashed at each height doesn't collide, then at each height version, number,
-/// flags, rows that differ and replaced definition are the same, and behind the chains each key has the same version, value and
-/// canonical policy text, or no row in either.
+/// Proved (the function does nothing at run time): each chain from the empty world of a channel has commits. If two
+/// such chains, of one channel or of two, led to the same height and the same commit hash, and what was hashed at each
+/// height doesn't collide, then at each height version, number, flags, rows that differ and replaced definition are the
+/// same, and after the chains each key has the same version, value and canonical policy text, or no row in either.
 pub fn equal_commit_hashes_tell_the_chain()
     ensures commits { (channel : Configuration) (w : World) (submissions : List Submission) (answers : List (Result Accepted Refused))
         → Chain channel (empty_world channel.definitions) submissions answers w → (cs : List BlockCommit) × AreCommits channel cs w }

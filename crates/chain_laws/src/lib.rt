@@ -1,4 +1,4 @@
-//! What holds of whole chains: that what is hashed of an accepted block tells the block.
+//! What holds of whole chains: that what is hashed of an accepted block determines the block.
 #![tactic(auto)]
 
 mod laws;

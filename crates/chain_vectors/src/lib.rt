@@ -1,4 +1,4 @@
-//! What vectors/chain.py makes: a chain of 32 blocks with all that it leaves behind, and short chains.
+//! What vectors/chain.py makes: a chain of 32 blocks with all that it leaves, and short chains.
 #![tactic(auto)]
 
 pub mod first_blocks;
@@ -40,7 +40,7 @@ pub struct Left {
     pub history: &'static [u8],
 }
 
-/// A value, its version, and the text of its own policy, which is empty where it has none.
+/// A value, its version, and the text of its own policy, which is empty if it has none.
 #[derive(Clone, Copy)]
 pub struct LeftRow {
     pub value: &'static [u8],
@@ -55,8 +55,8 @@ pub struct Scripted {
     pub flags: &'static [u8],
 }
 
-/// The blocks of a chain, what they leave at each key that they write and at the keys `k` and `none` of `cc`, and the first
-/// uses of their ids, as those of `uses` are spelled.
+/// The blocks of a chain, what they leave at each key that they write and at the keys `k` and `none` of `cc`, and the
+/// first uses of their ids, encoded like those of `uses`.
 pub struct WorkedChain {
     pub name: &'static str,
     pub blocks: &'static [Scripted],
@@ -73,7 +73,7 @@ pub struct Used {
     pub flag: u8,
 }
 
-/// What 67 bytes of `uses` say.
+/// The first use that 67 bytes of `uses` encode.
 pub fn read_use(bytes: &[u8; 67]) -> Used {
     let mut id = [0; 64];
     id.copy_from_slice(&bytes[..64]);

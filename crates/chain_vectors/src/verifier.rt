@@ -1,7 +1,7 @@
 use policy_eval::Verify;
 use transaction::Identity;
 
-/// A signature is good where it is the two bytes `ok`.
+/// A signature is good if it is the two bytes `ok`.
 pub struct SaysOk;
 
 impl Verify for SaysOk {

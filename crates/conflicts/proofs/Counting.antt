@@ -1,4 +1,4 @@
--- What one conflict more makes of counts.
+-- The counts after one conflict more.
 use Rattle.std.proofs.Common.{◌≡◌, ◌≤◌, ◌<◌, ℕ, zero, suc, ◌+◌, Bool, true, false, cond, ◌&&◌, List, [], ◌∷◌, ◌++◌, length, get_or, take, replicate, Option, Some, None, refl, sym, ap, ◌∙◌, arith, append_assoc}
 use Rattle.std.specs.List.{count_by, cons_option, filter_map}
 use Rattle.std.proofs.lemmas.List.{take_more}
@@ -36,7 +36,7 @@ module _ (k : StateKey) (before : List Conflict) (c : Conflict) where
     in_block = (kept (is_in_block k) before c (ap (λ b. b && c.in_block) e)) i;
   }
 
-  -- it counts for its key alone
+  -- it counts for its key only
   pub one_more : counts_of k (before ++ c ∷ []) ≡ cond (is_same_key c.key k) (with_conflict c.kind c.in_block (counts_of k before)) (counts_of k before)
   one_more = by (is_same_key c.key k) refl
 
@@ -61,7 +61,7 @@ few_with : (o : Option Conflict) (cs : List Conflict) (n : ℕ) → length cs �
 few_with None cs n h = omega arith
 few_with (Some c) cs n h = omega arith
 
--- no more conflicts than transactions, and no more lacks
+-- no more conflicts than transactions, and no more missing endorsements
 pub few : (found : Reason → Option Conflict) (reasons : List Reason) → length (filter_map found reasons) ≤ length reasons
 few found [] = omega arith
 few found (r ∷ rs) = let h = few_with (found r) (filter_map found rs) (length rs) (few found rs) in omega (arith, h)

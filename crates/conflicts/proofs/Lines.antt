@@ -1,4 +1,4 @@
--- What a key has in lines once one conflict is counted.
+-- What a key has in lines after one conflict is counted.
 use Rattle.std.proofs.Common.{◌≡◌, ◌≤◌, ℕ, ◌+◌, Bool, true, false, cond, List, [], ◌∷◌, ◌++◌, Option, Some, None, refl, sym, ap, ◌∙◌, subst, arith}
 use Rattle.std.specs.Prelude.{unwrap_or, is_some}
 use Rattle.std.specs.BTreeMap.{is_at}

@@ -1,4 +1,4 @@
--- That a principal's text may stand in the place of a key.
+-- That a principal's text may be used as a key.
 use Rattle.std.proofs.Common.{◌≡◌, ◌≤◌, ℕ, ◌+◌, Bool, true, ◌&&◌, leb, List, ◌∷◌, length, arith}
 use Rattle.std.specs.Prelude.{IsTrue}
 use Rattle.std.specs.List.{list_all}

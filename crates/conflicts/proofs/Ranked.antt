@@ -37,7 +37,7 @@ pick e es false h = rw h refl
 pub one_line : (lines es : List Line) (e : Line) → (lines ++ line_to_list e) ++ filter is_line es ≡ lines ++ filter is_line (e ∷ es)
 one_line lines es e = append_assoc lines (line_to_list e) (filter is_line es) ∙ ap (λ l. lines ++ l) (pick e es (is_line e) refl)
 
--- ---- a key with a conflict has something
+-- ---- a key with a conflict has a count
 
 abbrev same : StateKey → StateKey → Bool
 same = eq_by_cmp key_cmp
@@ -108,7 +108,7 @@ module _ (conflicts : List Conflict) (table lines : List Line) (ordered : IsStri
   lines_count = All-permutation (λ l. (l.1 ≡ counts_of l.0 conflicts) × (0 < total_of l.1)) (filter is_line table) lines moved
       (λ k d l. (All-filter is_line (λ e. e.1 ≡ counts_of e.0 conflicts) table table_counts k d l, passes (get_or (filter is_line table) k d) (filter_passes is_line table k d l)))
 
-  -- a key that has something has a line
+  -- a key that has a count has a line
   there : (k : StateKey) → 0 < total_of (counts_of k conflicts) → is_among k (map (λ l. l.0) lines) ≡ true
   there k h =
       let found = has (lookup (same k) table) (lookup (same k) table) refl (subst (λ (n : KeyCounts). 0 < total_of n) (sym (counts k)) h) in

@@ -1,4 +1,4 @@
--- Worked rows of what conflicts cost: each computes, and a wrong expectation is refused.
+-- Worked rows of what conflicts cost: each computes, and a wrong expectation is rejected.
 use Rattle.std.proofs.Common.{◌≡◌, ◌<◌, ℕ, zero, suc, List, [], ◌∷◌, Option, Some, None, false, refl, arith}
 use Rattle.std.specs.Prelude.{codes}
 use Rattle.std.specs.List.Sorted.{IsStrictlySortedBy, IsSorted}
@@ -143,9 +143,9 @@ in_order zero d l h = refl
 in_order (suc zero) d l h = refl
 in_order (suc (suc k)) d l h = absurd (omega (arith, h))
 
--- Most first: cars before bank, which lacks one principal as often. Of two with as many the first in order: bank before deal.
--- Of cars most lack Org2's peer, though Org1's comes before it; of deal as many lack each, and the first stands there. Each
--- chaincode stands once.
+-- Most first: cars before bank, which is missing one principal as often. Of two with as many the first in order: bank
+-- before deal. Of cars most are missing Org2's peer, though Org1's comes before it; of deal as many are missing each,
+-- and the first is listed. Each chaincode is listed once.
 pub worst_chaincodes : AreChaincodes (lacks_of unendorsed) chaincodes
 worst_chaincodes = record {
   ranking = missing_lines;
@@ -154,6 +154,6 @@ worst_chaincodes = record {
   order = in_order;
 }
 
--- the lines have together what the reasons say
+-- the lines have together what the reasons state
 pub three_in_lines : total_where (λ k. bytes_eq k.0 cars) missing_lines ≡ 3
 three_in_lines = refl

@@ -26,7 +26,7 @@ use Rattle.conflicts.specs.Ranking.{Line, line_cmp, IsRanking}
 use Rattle.conflicts.proofs.Sums.{once}
 use Rattle.conflicts.proofs.Unique.{keys, Counted, absent, counted}
 
--- no key stands twice
+-- no key is listed twice
 abbrev Apart : List Line → Type 0
 Apart [] = Unit {0}
 Apart (l ∷ ls) = (is_among l.0 (keys ls) ≡ false) × Apart ls

@@ -101,7 +101,7 @@ each_way true b there back = sym (there refl)
 each_way false true there back = back refl
 each_way false false there back = refl
 
--- a key with something is among keys that all conflicts have theirs among
+-- a key with a count is among keys that all conflicts have theirs among
 reached_by : (k : StateKey) (ks : List StateKey) (c : Conflict) (cs : List Conflict) (same : Bool) → is_same_key c.key k ≡ same
     → (0 < count_by (λ x. is_same_key x.key k) cs → is_among k ks ≡ true) → is_among c.key ks ≡ true
     → 0 < count_by (λ x. is_same_key x.key k) (c ∷ cs) → is_among k ks ≡ true

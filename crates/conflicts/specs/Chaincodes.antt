@@ -19,7 +19,7 @@ is_in chaincode k = bytes_eq k.0 chaincode
 abbrev pub if_first : List Line → Line → List Line
 if_first before l = if list_any (λ b. is_in l.0.0 b.0) before then [] else l ∷ []
 
--- the first line of each chaincode, behind these
+-- the first line of each chaincode, after these
 abbrev pub firsts : List Line → List Line → List Line
 firsts before [] = []
 firsts before (l ∷ ls) = if_first before l ++ firsts (before ++ l ∷ []) ls
@@ -32,8 +32,8 @@ chaincode_line lacks l = record { transactions = count_by (λ c. is_in l.0.0 c.k
 abbrev pub chaincode_cmp : ChaincodeLine → ChaincodeLine → Ordering
 chaincode_cmp = then_cmp (on (λ l. l.transactions) (flip_args nat_cmp)) (on (λ l. l.most_missing.0.0) bytes_cmp)
 
--- The first line of each chaincode in the ranking has the principal that is missing most in it, of several the first. The
--- chaincodes stand in an order of their own.
+-- The first line of each chaincode in the ranking has the principal that is missing most in it, of several the first.
+-- The chaincodes have an order of their own.
 pub record AreChaincodes (lacks : List Conflict) (lines : List ChaincodeLine) : Type 0 where
   pub ranking : List Line
   pub ranked : IsRanking lacks ranking

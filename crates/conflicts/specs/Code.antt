@@ -1,4 +1,4 @@
--- Injective codes of lines and tallies, which the prover asks of a type that contracts see.
+-- Injective codes of lines and tallies, which the prover requires of a type that contracts see.
 use Rattle.std.specs.Prelude.{List, ℕ, refl}
 use Rattle.std.specs.Coded.{Coded, coded×, coded_list, coded_ℕ, code_by}
 use Rattle.rules.specs.Code.{key_code}

@@ -1,5 +1,5 @@
--- The endorsements that a chaincode's policy asks for, and that a transaction lacks. In the place of a key stands the
--- principal that is missing, as policies spell it between quotes.
+-- The endorsements that a chaincode's policy requires, and that a transaction is missing. Instead of a key it has the
+-- principal that is missing, as policies write it between quotes.
 use Rattle.std.specs.Prelude.{ℕ, List, [], ◌∷◌, false, Option, Some, None}
 use Rattle.std.specs.List.{filter_map}
 use Rattle.policy.specs.Token.{named}
@@ -12,7 +12,7 @@ use Rattle.reasons.specs.declared.reason.Reason.TheVariants.{NotEndorsed}
 use Rattle.conflicts.specs.declared.conflict.Conflict.{Conflict}
 use Rattle.conflicts.specs.declared.kind.Kind.TheVariants.{OwnPolicy}
 
--- `ORG.ROLE`, or `-` where nobody is, which comes of no policy that a text spells
+-- `ORG.ROLE`, or `-` if there is none, which results from no policy that a text encodes
 abbrev pub principal_text : Option Principal → List ℕ
 principal_text (Some p) = named p.org p.role
 principal_text None = 45 ∷ []

@@ -21,6 +21,6 @@ together a b = record {
   in_block = a.in_block + b.in_block;
 }
 
--- what the lines have together whose keys pass a test
+-- the sum of the lines whose keys pass a test
 abbrev pub total_where : (StateKey → Bool) → List Line → ℕ
 total_where test lines = sum_by (λ l. if test l.0 then total_of l.1 else 0) lines

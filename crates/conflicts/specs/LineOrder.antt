@@ -1,4 +1,4 @@
--- That the orders of lines are total, which their trait asks for.
+-- That the orders of lines are total, which their trait requires.
 use Rattle.std.specs.Cmp.{IsTotalOrder, nat_cmp_total, then_total, on_total, back_total}
 use Rattle.std.specs.Cmp.Lexicographic.{nat_list_cmp_total}
 use Rattle.rules.proofs.Keys.{key_cmp_total}

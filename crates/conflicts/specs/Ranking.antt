@@ -18,7 +18,7 @@ abbrev pub line_cmp : Line → Line → Ordering
 line_cmp = then_cmp (on (λ l. total_of l.1) (flip_args nat_cmp)) (on (λ l. l.0) key_cmp)
 
 -- Each line has what its key made invalid, which is something; each key with a conflict has a line; and lines are in
--- order, so that none stands twice.
+-- order, so that none is listed twice.
 pub record IsRanking (conflicts : List Conflict) (lines : List Line) : Type 0 where
   pub counts : All (λ l. (l.1 ≡ counts_of l.0 conflicts) × (0 < total_of l.1)) lines
   pub all : list_all (λ c. is_among c.key (map (λ l. l.0) lines)) conflicts ≡ true

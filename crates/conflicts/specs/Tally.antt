@@ -25,7 +25,7 @@ pub record Tally : Type 0 where
   pub flags : List ℕ
   -- what each key has, by the keys' order; one without conflicts may have a line of none
   pub keys : List Line
-  -- and each principal that is missing, in the place of a key of the chaincode
+  -- and each principal that is missing, instead of a key of the chaincode
   pub lacks : List Line
 
 abbrev pub no_counts : KeyCounts
@@ -62,11 +62,11 @@ with_conflict kind in_block n = record {
   in_block = n.in_block + (if in_block then 1 else 0);
 }
 
--- a conflict whose key is lent
+-- a conflict whose key is borrowed
 abbrev pub found_conflict : Found → Conflict
 found_conflict f = record { key = (f.namespace, f.key); kind = f.kind; in_block = f.in_block }
 
--- a lack that is lent
+-- a missing endorsement that is borrowed
 abbrev pub found_lack : FoundLack → Conflict
 found_lack f = lack f.chaincode f.missing.now
 

@@ -21,7 +21,7 @@ use values::{KeyRef, NameRef};
 #[derive(Debug, Drop)]
 pub struct ChaincodeLine {
     pub transactions: u128,
-    /// The chaincode, and the principal in the place of a key.
+    /// The chaincode, and the principal instead of a key.
     pub most_missing: Line,
 }
 
@@ -43,7 +43,7 @@ impl ChaincodeLine {
         self.most_missing.key().namespace()
     }
 
-    /// The principal that was missing in most of the transactions, as policies spell it between quotes: `ORG.ROLE`.
+    /// The principal that was missing in most of the transactions, as policies write it between quotes: `ORG.ROLE`.
     pub fn principal(&self) -> KeyRef<'_>
         ensures { result ≡ self.now.most_missing.0.1 }
     {
@@ -122,7 +122,7 @@ fn has_chaincode(lines: &[Line], chaincode: &NameRef<'_>) -> bool
     lines.iter().any(|line| is_in(line, chaincode))
 }
 
-// With what the line has, if it is of this chaincode, where the sum fits.
+// With what the line has, if it is of this chaincode, and if the sum fits.
 fn with_line(count: u128, line: &Line, chaincode: &NameRef<'_>) -> Result<u128, AllocError>
     ensures { IfOk result (λ n. n ≡ count + (if is_in chaincode.now line.now.0 then total_of line.now.1 else 0)) }
 {

@@ -18,7 +18,7 @@ pub(crate) struct Conflict {
     pub in_block: bool,
 }
 
-// A conflict whose key is lent.
+// A conflict whose key is borrowed.
 #[derive(Drop)]
 struct Found<'a> {
     namespace: NameRef<'a>,

@@ -13,7 +13,7 @@ use std::cmp::Ordering;
 use std::marker::Model;
 use values::{KeyRef, NameRef};
 
-/// A namespace and a key in it, whose bytes may have several owners. A contract sees the pair of both.
+/// A namespace and a key in it, whose bytes may be shared. A contract sees the pair of both.
 #[derive(Debug, Drop)]
 pub struct ConflictKey {
     kept: KeptKey,
@@ -44,7 +44,7 @@ impl ConflictKey {
         })
     }
 
-    /// One more owner of the same bytes. Takes no memory, and is refused only to the 2^63rd owner.
+    /// Another reference to the same bytes. Takes no memory, and fails only for the 2^63rd reference.
     pub(crate) fn share(&self) -> Result<ConflictKey, AllocError>
         ensures { IfOk result (λ k. k ≡ self.now) }
     {
@@ -53,14 +53,14 @@ impl ConflictKey {
         })
     }
 
-    /// Its namespace, lent.
+    /// Its namespace, borrowed.
     pub fn namespace(&self) -> NameRef<'_>
         ensures { result ≡ self.now.0 }
     {
         self.kept.namespace()
     }
 
-    /// The key in it, lent.
+    /// The key in it, borrowed.
     pub fn key(&self) -> KeyRef<'_>
         ensures { result ≡ self.now.1 }
     {

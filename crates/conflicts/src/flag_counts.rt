@@ -28,7 +28,7 @@ fn count(counts: &mut [u64; NUMBERS], reason: &Reason, total: u64)
     counts[place] += 1;
 }
 
-/// Counts the flags of transactions, where so many were counted before at most.
+/// Counts the flags of transactions, if at most `total` were counted before.
 pub(crate) fn count_flags(counts: &mut [u64; NUMBERS], reasons: &[Reason], total: u64)
     requires within { AreWithin total counts.old }
     requires small { total + length reasons.now < 2 ^ 64 }

@@ -14,7 +14,7 @@ use reasons::Reason;
 use std::alloc::{AllocError, Global};
 use std::collections::BTreeMap;
 
-/// Gives a key a line, of no counts where it had none. An `Err` leaves what keys have.
+/// Gives a key a line, of no counts if it had none. An `Err` leaves each key's counts.
 fn give_line(
     lines: &mut BTreeMap<ConflictKey, KeyCounts>,
     key: &ConflictKey,
@@ -29,7 +29,7 @@ fn give_line(
     Ok(())
 }
 
-/// Gives each key of these conflicts a line. An `Err` leaves what keys have.
+/// Gives each key of these conflicts a line. An `Err` leaves each key's counts.
 pub(crate) fn give_lines(
     lines: &mut BTreeMap<ConflictKey, KeyCounts>,
     conflicts: &[Conflict],
@@ -57,7 +57,7 @@ fn count(lines: &mut BTreeMap<ConflictKey, KeyCounts>, conflict: &Conflict, tota
     }
 }
 
-/// Counts conflicts, whose keys have lines, where so many were counted before at most. Takes no memory.
+/// Counts conflicts, whose keys have lines, if at most `total` were counted before. Takes no memory.
 pub(crate) fn count_all(
     lines: &mut BTreeMap<ConflictKey, KeyCounts>,
     conflicts: &[Conflict],
@@ -76,8 +76,8 @@ pub(crate) fn count_all(
     }
 }
 
-/// Counts what made transactions with these reasons invalid, where so many were counted before. An `Err` leaves
-/// what keys have.
+/// Counts what made transactions with these reasons invalid, if at most `total` were counted before. An `Err` leaves
+/// each key's counts.
 pub(crate) fn count_keys(
     alloc: Global,
     lines: &mut BTreeMap<ConflictKey, KeyCounts>,

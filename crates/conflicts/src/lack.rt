@@ -1,4 +1,4 @@
-//! The endorsements that chaincodes' policies ask for, and that transactions lack.
+//! The endorsements that chaincodes' policies require, and that transactions are missing.
 ghost use Rattle.std.specs.Prelude.{◌≡◌, ◌++◌, ◌∷◌, [], OnOk, IfOk, IsTrue, option_map};
 ghost use Rattle.policy.specs.Token.{role_name, named};
 ghost use Rattle.values.specs.Key.{is_key};
@@ -46,7 +46,7 @@ fn principal_text(alloc: Global, missing: &Option<Principal>) -> Result<Vec<u8>,
     }
 }
 
-// A chaincode, and who is missing, both lent.
+// A chaincode, and who is missing, both borrowed.
 #[derive(Drop)]
 struct FoundLack<'a> {
     chaincode: NameRef<'a>,
@@ -89,7 +89,7 @@ fn found_in(reason: &Reason) -> Option<FoundLack<'_>>
     }
 }
 
-// Copies the chaincode's name, and spells the principal.
+// Copies the chaincode's name, and writes the principal as text.
 fn copied(alloc: Global, found: &FoundLack<'_>) -> Result<Conflict, AllocError>
     ensures { IfOk result (λ c. c ≡ found_lack found.now) }
 {
@@ -110,7 +110,7 @@ fn push_lack(alloc: Global, lacks: &mut Vec<Conflict>, reason: &Reason) -> Resul
     Ok(())
 }
 
-/// What transactions with these reasons lack, in order. Copies each name.
+/// The endorsements that transactions with these reasons are missing, in order. Copies each name.
 pub(crate) fn lacks_of(alloc: Global, reasons: &[Reason]) -> Result<Vec<Conflict>, AllocError>
     ensures { IfOk result (λ lacks. lacks.items ≡ lacks_of reasons.now) }
 {

@@ -53,7 +53,7 @@ impl Line {
         &self.counts
     }
 
-    /// The line once more. Takes no memory, and is refused only to the 2^63rd owner of its key.
+    /// Another reference to the line. Takes no memory, and fails only for the 2^63rd reference to its key.
     pub(crate) fn share(&self) -> Result<Line, AllocError>
         ensures { IfOk result (λ l. l ≡ self.now) }
     {

@@ -13,7 +13,7 @@ use crate::line::Line;
 use std::alloc::{AllocError, Global};
 use std::collections::BTreeMap;
 
-// Where the key has a conflict.
+// If the key has a conflict.
 fn push_line(lines: &mut Vec<Line>, key: &ConflictKey, counts: &KeyCounts) -> Result<(), AllocError>
     ensures { OnOk result (lines.new.items ≡ lines.old.items ++ line_to_list (key.now, counts.now)) }
 {

@@ -16,7 +16,7 @@ use reasons::Reason;
 use std::alloc::{AllocError, Global};
 use std::collections::BTreeMap;
 
-/// What transactions with these reasons lack, each with a line. Leaves what lines have.
+/// The endorsements that transactions with these reasons are missing, each with a line. Leaves what lines have.
 fn found_lacks(
     alloc: Global,
     lacks: &mut BTreeMap<ConflictKey, KeyCounts>,
@@ -31,8 +31,8 @@ fn found_lacks(
     Ok(found)
 }
 
-/// Counts what made transactions with these reasons invalid, where so many were counted before. An `Err` leaves what
-/// lines have.
+/// Counts what made transactions with these reasons invalid, if at most `total` were counted before. An `Err` leaves
+/// what lines have.
 pub(crate) fn count_tables(
     alloc: Global,
     keys: &mut BTreeMap<ConflictKey, KeyCounts>,

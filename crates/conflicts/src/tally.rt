@@ -22,7 +22,7 @@ use std::marker::Model;
 use values::Items;
 
 /// What conflicts cost over a chain: how many transactions have each flag, and how many were made invalid by each key,
-/// and for want of whose endorsement. Keeps a line for each key that is to blame, and for each chaincode with a
+/// and by whose missing endorsement. Keeps a line for each key that is to blame, and for each chaincode with a
 /// principal that is missing, and nothing else of a block.
 #[derive(Drop)]
 pub struct Tally {
@@ -48,7 +48,7 @@ impl Model for Tally {
     ghost invariant = { λ t. IsWithin t.total t.keys.entries × IsWithin t.total t.lacks.entries × AreWithin t.total t.flags };
 }
 
-// The sum, where it fits.
+// The sum, if it fits.
 fn increased(total: u64, by: usize) -> Result<u64, AllocError>
     ensures sum { IfOk result (λ n. n ≡ total + by) }
     ensures fits { OnOk result (total + by < 2 ^ 64) }
@@ -73,9 +73,9 @@ impl Tally {
         }
     }
 
-    /// Counts the transactions that have these reasons, as of one block. An `Err` counts none of them; it comes where
-    /// memory is refused, and beyond 2^64 - 1 transactions. A look-up for each key or principal that made one invalid,
-    /// logarithmic in those so far. Takes memory for the new ones, and for a copy of each until it returns.
+    /// Counts the transactions that have these reasons, as of one block. An `Err` counts none of them; it is returned
+    /// if an allocation failed, and beyond 2^64 - 1 transactions. A look-up for each key or principal that made one
+    /// invalid, logarithmic in those so far. Takes memory for the new ones, and for a copy of each until it returns.
     pub fn add(&mut self, reasons: &[Reason]) -> Result<(), AllocError>
         ensures ok { OnOk result ((before : List Reason) → Counts before self.old → Counts (before ++ reasons.now) self.new) }
         ensures err { OnErr result ((before : List Reason) → Counts before self.old → Counts before self.new) }

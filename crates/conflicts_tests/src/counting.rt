@@ -1,4 +1,4 @@
-//! What made the transactions of the chain of 32 blocks invalid, in the lines that a reading in Python has of them.
+//! What made the transactions of the chain of 32 blocks invalid, in the lines that a reader in Python prints for them.
 
 use crate::vectors::{COUNTS, LATER_COUNTS};
 use chain_vectors::first_blocks::first_blocks;

@@ -24,7 +24,7 @@ pub unknown : {X : Type 0} (o : Option X) → is_some o ≡ false → o ≡ None
 unknown None none = refl
 unknown (Some x) none = absurd cc
 
--- ---- the rows and the cells say the same
+-- ---- the rows and the cells agree
 
 pub endorsements_row : (cells : List Cells) (i : ℕ) → known (board_of cells).endorsements i ≡ (known_of cells).endorsed i
 endorsements_row cells i = get_or-map (λ (c : Cells). c.endorsed) cells i no_cells
@@ -90,7 +90,7 @@ reads_stay j i old is lt = inl (lt, by (known (board_of old).flags i) (ap is_som
     by None some = absurd cc
     by (Some v) some = refl
 
--- where the flag is unknown and the endorsement's cell is e
+-- if the flag is unknown and the endorsement's cell is e
 by_reads_step : (j : Job) (i : ℕ) (old : List Cells) (new : Board) (e : Option Bool) → i < length j.candidates → is_some (cells_at old i).flag ≡ false → (cells_at old i).endorsed ≡ e
     → ReadsStep j i None e (board_of old) new → MachineStep j (Reads i) (board_of old) new
 by_reads_step j i old new e lt none endorsed step =

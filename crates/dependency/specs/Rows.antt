@@ -13,7 +13,7 @@ board_of cells = record { endorsements = map (λ c. c.endorsed) cells; flags = m
 abbrev pub first_cells : Candidate → Cells
 first_cells c = record { endorsed = first_endorsement c; flag = first_flag c }
 
--- NOT_VALIDATED where the flag is unknown
+-- NOT_VALIDATED if the flag is unknown
 abbrev pub flag_number : Option Flag → ℕ
 flag_number None = 254
 flag_number (Some flag) = number_of flag

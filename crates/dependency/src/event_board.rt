@@ -6,11 +6,11 @@ use rules::Flag;
 use std::alloc::{AllocError, Global};
 use std::marker::Model;
 
-/// The number that stands for an unknown flag, as in `peer.TxValidationCode`. No block is kept with it.
+/// The number of an unknown flag, as in `peer.TxValidationCode`. No block is kept with it.
 pub const NOT_VALIDATED: u8 = 254;
 
-/// What some checks of a block found. A contract sees two rows of cells, for endorsements and for flags, each unknown or
-/// known.
+/// What some checks of a block found. A contract sees two rows of cells, for endorsements and for flags, each unknown
+/// or known.
 #[derive(Drop)]
 pub struct EventBoard {
     pub(crate) cells: PlainBoard,
@@ -39,8 +39,8 @@ fn number(flag: Option<Flag>) -> u8
 }
 
 impl EventBoard {
-    /// The flag of each candidate, as its number; `NOT_VALIDATED` where it is unknown. Memory for a byte of each; an `Err` is
-    /// want of it.
+    /// The flag of each candidate, as its number; `NOT_VALIDATED` if it is unknown. Memory for a byte of each; an `Err`
+    /// is out of memory.
     pub fn flags(&self, alloc: Global) -> Result<Vec<u8>, AllocError>
         ensures { IfOk result (λ numbers. numbers.items ≡ map flag_number self.now.flags) }
     {

@@ -30,11 +30,11 @@ fn first_board(alloc: Global, job: &Job<'_, '_>) -> Result<PlainBoard, AllocErro
 
 /// What these checks of a job's candidates find, in this order. The flagged candidates' cells are known at first.
 ///
-/// An endorsement check makes its cell known with a sure verdict alone, and does so where all that it depends on is known. So
-/// does a read check, once the endorsement's is known; where that is no, the flag is that of a refused one. A check that
-/// comes too early or twice, or whose number is out of range, changes nothing. Whatever the checks and their order, each
-/// known cell is the verdict of the candidates taken one by one. Costs what each check costs; memory for two cells of each
-/// candidate. An `Err` is want of memory alone.
+/// An endorsement check makes its cell known only with a decided verdict, and does so if all that it depends on is
+/// known. So does a read check, once the endorsement's is known; if that is no, the flag is that of a failed
+/// endorsement. A check that comes too early or twice, or whose number is out of range, changes nothing. For any checks
+/// in any order, each known cell is the verdict of the candidates taken one by one. Costs what each check costs; memory
+/// for two cells of each candidate. The only `Err` is out of memory.
 pub fn run_events(
     alloc: Global,
     job: &Job<'_, '_>,

@@ -1,4 +1,4 @@
-//! The verdicts of one block, found by whatever checks are asked for, in whatever order.
+//! The verdicts of one block, found by any checks, in any order.
 #![tactic(auto)]
 
 mod checking;

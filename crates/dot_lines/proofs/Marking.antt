@@ -1,4 +1,4 @@
--- Which places are named by so many of the reasons.
+-- Which places are named by the first n reasons.
 use Rattle.std.proofs.Common.{◌≡◌, ℕ, suc, ◌+◌, ◌<◌, Bool, true, false, cond, List, [], ◌++◌, take, length, get_or, Option, Some, None, refl, sym, ap, ◌∙◌, eqb-true, arith}
 use Rattle.std.specs.Prelude.{◌||◌, ◌==◌, set, is_some}
 use Rattle.std.specs.List.{list_any}

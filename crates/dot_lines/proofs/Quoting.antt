@@ -77,6 +77,6 @@ spelled_by b false h q s a =
     ap (λ l. 37 ∷ (l ++ (escaped_byte (upper_digit (b % 16)) ++ []))) (digit (b / 16) (omega (arith, h)))
     ∙ ap (λ l. 37 ∷ upper_digit (b / 16) ∷ (l ++ [])) (digit (b % 16) (omega arith))
 
--- any other byte is spelled as it is in a word
+-- any other byte is encoded as it is in a word
 pub other_byte : (b : ℕ) → b < 256 → (b == 34) ≡ false → (b == 92) ≡ false → (b == 38) ≡ false → word_of (b ∷ []) ≡ quoted_byte b
 other_byte b h q s a = append-nil (byte_spelling b) ∙ sym (spelled_by b (stands_for_itself b) h q s a)

@@ -50,14 +50,14 @@ version block tx = record { block = block; tx = tx }
 abbrev stale : Option Version → Option ℕ → Reason
 stale there writer = ReadConflict (record { namespace = codes "cc"; key = codes "a"; read = None; there = there; writer = writer })
 
--- who wrote it in the block goes before who wrote what is there
+-- the writer in the block takes precedence over the writer of what exists
 written_here : named_by (stale (Some (version 1 2)) (Some 4)) ≡ Some (Here 4)
 written_here = refl
 
 written_earlier : named_by (stale (Some (version 1 2)) None) ≡ Some (Earlier 1 2)
 written_earlier = refl
 
--- of a key that an earlier block deleted, nobody is known
+-- of a key that an earlier block deleted, no writer is known
 never_written : named_by (stale None None) ≡ None
 never_written = refl
 
@@ -66,7 +66,7 @@ touched = refl
 
 -- ---- graphs
 
--- 1 reads what 0 wrote, 2 spells nothing, and 3 has the id of a transaction of block 5
+-- 1 reads what 0 wrote, 2 encodes nothing, and 3 has the id of a transaction of block 5
 abbrev reasons : List Reason
 reasons = NoFault ∷ stale (Some (version 6 0)) (Some 0) ∷ NoTransaction ∷ UsedId (id_use.Earlier 5 7 Valid) ∷ []
 

@@ -18,7 +18,7 @@ escaped text = flat_map escaped_byte text
 abbrev pub quoted_byte : ℕ → List ℕ
 quoted_byte b = escaped (byte_spelling b)
 
--- the word that spells these bytes, between quotes
+-- the word that encodes these bytes, between quotes
 abbrev pub quoted_word : List ℕ → List ℕ
 quoted_word [] = codes "%"
 quoted_word (b ∷ more) = flat_map quoted_byte (b ∷ more)
@@ -31,12 +31,12 @@ AreEscaped = (bytes : List ℕ) → quoted_word bytes ≡ escaped (word_of bytes
 abbrev pub behind : List ℕ → Option (List ℕ × List ℕ) → Option (List ℕ × List ℕ)
 behind front read = option_map (λ x. (front ++ x.0, x.1)) read
 
--- What a string has, and what stands behind its closing quote, where its opening quote was read, or also a `\`.
+-- What a string has, and what follows its closing quote, after its opening quote was read, or also a `\`.
 abbrev pub read_string : Bool → List ℕ → Option (List ℕ × List ℕ)
 read_string was_backslash [] = None
 read_string true (b ∷ rest) = behind (b ∷ []) (read_string false rest)
 read_string false (b ∷ rest) = if b == 34 then Some ([], rest) else if b == 92 then read_string true rest else behind (b ∷ []) (read_string false rest)
 
--- Whatever stands behind, the string ends where the word does, and has the word.
+-- No matter what follows, the string ends where the word does, and has the word.
 abbrev pub StaysQuoted : Type 0
 StaysQuoted = (text rest : List ℕ) → read_string false (escaped text ++ 34 ∷ rest) ≡ Some (flat_map named_byte text, rest)

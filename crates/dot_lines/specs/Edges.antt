@@ -1,4 +1,4 @@
--- Who stands in a transaction's way, and about what, by its reason.
+-- Which transaction made another invalid, and about what, by its reason.
 use Rattle.std.specs.Prelude.{ℕ, ◌==◌, Bool, false, List, [], ◌++◌, codes, Option, Some, None}
 use Rattle.transaction.specs.declared.transaction.Version.{Version}
 use Rattle.reasons.specs.declared.endorsement_fault.EndorsementFault.{EndorsementFault}
@@ -15,7 +15,7 @@ abbrev pub use_of : IdUse → Named
 use_of (id_use.Earlier block place flag) = Earlier block place
 use_of (id_use.Here place flag) = Here place
 
--- the last writer of a key: of the block, or else of an earlier one, if the key is there
+-- the last writer of a key: of the block, or otherwise of an earlier one, if the key exists
 abbrev pub writer_of : Option ℕ → Option Version → Option Named
 writer_of (Some place) there = Some (Here place)
 writer_of None (Some version) = Some (Earlier version.block version.tx)

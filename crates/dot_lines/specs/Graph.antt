@@ -13,7 +13,7 @@ use Rattle.dot_lines.specs.declared.named.Named.{Named}
 use Rattle.dot_lines.specs.declared.named.Named.TheVariants.{Here, Earlier}
 use Rattle.dot_lines.specs.Edges.{named_by, is_here, label_of}
 
--- flags are told apart by shapes, and by colours
+-- flags differ in shape, and in colour
 abbrev pub shape_of : Flag → List ℕ
 shape_of Valid = codes "ellipse"
 shape_of EndorsementPolicyFailure = codes "house"
@@ -70,14 +70,14 @@ is_named reasons place = list_any (λ reason. is_here place (named_by reason)) r
 abbrev pub reason_at : List Reason → ℕ → Reason
 reason_at reasons place = get_or reasons place NoFault
 
--- a transaction is shown where all are, or where it has an edge
+-- a transaction is shown if all are, or if it has an edge
 abbrev pub is_shown : Bool → List Reason → ℕ → Bool
 is_shown all reasons place = all || (is_some (named_by (reason_at reasons place)) || is_named reasons place)
 
 abbrev pub lines_at : Bool → List Reason → ℕ → List ℕ
 lines_at all reasons place = if is_shown all reasons place then place_lines place (reason_at reasons place) else []
 
--- of so many places
+-- of the first n places
 abbrev pub first_lines : Bool → List Reason → ℕ → List ℕ
 first_lines all reasons zero = []
 first_lines all reasons (suc n) = first_lines all reasons n ++ lines_at all reasons n
@@ -93,7 +93,7 @@ graph_text number all reasons = opening number ++ (first_lines all reasons (leng
 
 -- ---- steps between this and the code
 
--- a mark where the block has this one
+-- a mark if the block has this one
 abbrev pub with_named : Option Named → List Bool → List Bool
 with_named (Some (Here place)) places = set places place true
 with_named (Some (Earlier block tx)) places = places

@@ -130,8 +130,8 @@ fn write_whole<W: Write>(
     Ok(())
 }
 
-/// Writes the block of this number as a graph: a node for each transaction that has these reasons, and an edge from it to
-/// the one that its reason names, labelled with the key. Without `all`, transactions that have no edge are left out.
+/// Writes the block of this number as a graph: a node for each transaction that has these reasons, and an edge from it
+/// to the one that its reason names, labelled with the key. Without `all`, transactions that have no edge are left out.
 /// Takes a byte for each transaction; linear in the text.
 pub fn write_graph<W: Write>(
     alloc: Global,

@@ -26,7 +26,7 @@ fn write_touched_key<W: Write>(out: &mut W, fault: &EndorsementFault) -> io::Res
     }
 }
 
-/// Writes the key that the reason is about, in its namespace, or `id`; nothing where it names nobody.
+/// Writes the key that the reason is about, in its namespace, or `id`; nothing if it names no transaction.
 pub(crate) fn write_label<W: Write>(out: &mut W, reason: &Reason) -> io::Result<()>
     ensures { OnOk result (Appends (W.contents out.old) (W.contents out.new) (spec.label_of reason.now)) }
 {

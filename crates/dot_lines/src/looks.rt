@@ -1,4 +1,4 @@
-//! What nodes look like: shapes tell flags apart without colours too.
+//! What nodes look like: shapes distinguish flags without colours too.
 ghost use Rattle.std.specs.Prelude.{◌≡◌, OnOk};
 ghost use Rattle.std.specs.Io.KnownBytes.{Appends};
 ghost use Rattle.dot_lines.specs.Graph as spec;

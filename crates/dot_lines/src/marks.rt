@@ -13,7 +13,7 @@ fn none_of(alloc: Global, count: usize) -> Result<Vec<bool>, AllocError>
     vec![in alloc; false; count]
 }
 
-// A place that the block hasn't is passed over.
+// A place that the block doesn't have is skipped.
 fn mark(places: &mut [bool], place: u32)
     ensures { places.new ≡ set places.old place true }
 {

@@ -1,4 +1,4 @@
-//! Who stands in a transaction's way.
+//! Which transaction made another invalid.
 ghost use Rattle.std.specs.Prelude.{◌≡◌, Some};
 ghost use Rattle.dot_lines.specs.Edges as spec;
 ghost use Rattle.dot_lines.specs.Graph.{node_name};
@@ -39,7 +39,7 @@ fn use_of(first: &IdUse) -> Named
     }
 }
 
-// The last writer of a key: of the block, or else of an earlier one, if the key is there.
+// The last writer of a key: of the block, or otherwise of an earlier one, if the key exists.
 fn writer_of(writer: Option<u32>, there: Option<Version>) -> Option<Named>
     ensures { result ≡ spec.writer_of writer there }
 {
@@ -62,7 +62,7 @@ fn touched_by(fault: &EndorsementFault) -> Option<Named>
     }
 }
 
-/// Whom the reason names, if anyone.
+/// The transaction that the reason names, if any.
 pub(crate) fn named_by(reason: &Reason) -> Option<Named>
     ensures { result ≡ spec.named_by reason.now }
 {

@@ -6,7 +6,7 @@ ghost use Rattle.dot_lines.specs.Dot as spec;
 use std::fmt;
 use text_lines::Word;
 
-/// Bytes that print as the word that spells them, as it is written between the quotes of DOT: `"` and `\` behind a `\`,
+/// Bytes that print as the word that encodes them, as it is written between the quotes of DOT: `"` and `\` after a `\`,
 /// and `&` as `&amp;`.
 #[derive(Clone, Copy)]
 pub struct QuotedWord<'a>(pub &'a [u8]);
