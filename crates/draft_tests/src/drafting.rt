@@ -11,7 +11,7 @@ use test_support::Failed;
 use updates::updates;
 use vectors::{drafts, keys};
 
-/// A script with the number of the header that it stands behind, and its first faulty line or else the bytes of its
+/// A script with the number of the header that it follows, and its first faulty line or otherwise the bytes of its
 /// block.
 #[derive(Clone, Copy)]
 pub struct DraftCase {

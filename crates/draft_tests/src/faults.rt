@@ -6,7 +6,7 @@ use key_book::KeyBook;
 use std::alloc::Global;
 use test_support::Failed;
 
-// How many of the scripts have this first faulty line in version 1, up to the first that hasn't.
+// How many of the scripts have this first faulty line in version 1, up to the first that doesn't.
 fn faulty_so(alloc: Global, scripts: &[(&str, u64)]) -> Result<usize, Failed> {
     let keys = book(alloc)?;
     for (count, (script, line)) in scripts.iter().enumerate() {
@@ -27,7 +27,7 @@ fn faulty_line_behind(
     faulty_line(alloc, keys, BlockVersion::V1, script.as_str())
 }
 
-// The first of the lines behind which another one is the first faulty line; none is such a line.
+// The first of the lines after which another one is the first faulty line; none is such a line.
 fn first_other<'a>(
     alloc: Global,
     front: &str,
@@ -50,7 +50,7 @@ fn fine_lines() -> &'static str {
     FINE_LINES
 }
 
-// Behind each of them a transaction is open.
+// After each of them a transaction is open.
 static FINE_LINES: &str = "
 \x20\x20\x20
 #
@@ -90,7 +90,8 @@ fn faulty_lines() -> &'static str {
     FAULTY_LINES
 }
 
-// By word: unknown ones, `tx`, `raw`, `ns`, `read`, `range`, `result`, `write`, `delete`, `policy`, `nopolicy`, `endorse`.
+// By word: unknown ones, `tx`, `raw`, `ns`, `read`, `range`, `result`, `write`, `delete`, `policy`, `nopolicy`,
+// `endorse`.
 static FAULTY_LINES: &str = "x
 TX Org1:client:c0 n cc
 ns\tcc
@@ -181,7 +182,7 @@ fn scripts() -> &'static [(&'static str, u64)] {
     &SCRIPTS
 }
 
-// Nothing is open for a line, or one line goes before another.
+// Nothing is open for a line, or one line takes precedence over another.
 static SCRIPTS: [(&str, u64); 19] = [
     ("raw\nns cc\n", 2),
     ("raw 00fF\nraw\n\r\n  # one\nendorse Org1:peer:p0", 5),
@@ -206,7 +207,7 @@ static SCRIPTS: [(&str, u64); 19] = [
     ),
     ("tx Org1:client:c0 n cc\nraw 00\nendorse Org1:peer:p0\n", 3),
     ("tx Org1:client:c0 n cc\nns cc\nraw\nns cc\n", 4),
-    // a carriage return stays where no line feed follows it
+    // a carriage return stays if no line feed follows it
     ("tx Org1:client:c0 n cc\r\nns cc\r", 2),
     ("# one\n\nraw 0\nraw 0\n", 3),
 ];

@@ -23,7 +23,7 @@ pub fn book(alloc: Global) -> Result<KeyBook, KeyBookFault> {
     KeyBook::read(alloc, KEYS)
 }
 
-/// The bytes of a script's block of this version behind a header, or its first faulty line.
+/// The bytes of a script's block of this version after a header, or its first faulty line.
 pub fn drafted(
     alloc: Global,
     keys: &KeyBook,
@@ -44,7 +44,7 @@ pub fn drafted(
     }
 }
 
-/// The first faulty line, none where the script makes block 0 in this version.
+/// The first faulty line, none if the script makes block 0 in this version.
 pub fn faulty_line(
     alloc: Global,
     keys: &KeyBook,

@@ -6,8 +6,8 @@ use key_book::KeyBook;
 use std::alloc::{AllocError, Global};
 use test_support::Failed;
 
-/// A text with a part between two others, how often the part may stand there, and the first faulty line where it stands
-/// there once more.
+/// A text with a part between two others, how often the part may be repeated, and the first faulty line if it is
+/// repeated once more.
 #[derive(Clone, Copy)]
 struct Limit {
     front: &'static str,
@@ -32,7 +32,7 @@ fn repeated(
     Ok(text)
 }
 
-// The first faulty line where the part stands there so many times.
+// The first faulty line if the part is repeated `count` times.
 fn line_of(
     alloc: Global,
     keys: &KeyBook,
@@ -234,7 +234,7 @@ fn limits_of_parts_and_lists(rt: HostRuntime) -> Result<(), Failed> {
     Ok(())
 }
 
-// The bytes of a value, what follows it, and the first faulty line. A transaction has 137 bytes beside this value, by
+// The bytes of a value, what follows it, and the first faulty line. A transaction has 137 bytes besides this value, by
 // Python, and at most 1,048,576 in all. That it is too long is known once it has ended.
 fn values() -> &'static [(u32, &'static str, Option<u64>)] {
     &VALUES

@@ -1,5 +1,5 @@
-//! Tests of draft scripts and the blocks that they make. Bytes come from a reader in Python, faulty lines were counted by
-//! hand.
+//! Tests of draft scripts and the blocks that they make. Bytes come from a reader in Python, faulty lines were counted
+//! by hand.
 #![tactic(auto)]
 
 #[cfg(test)]

@@ -8,7 +8,7 @@ use std::alloc::Global;
 use test_support::{Failed, check, is_alike};
 use transaction::Role;
 
-// A transaction that one endorses, bytes that spell nothing, and an update that one endorses twice.
+// A transaction with one endorsement, bytes that encode nothing, and an update that one endorses twice.
 const SCRIPT: &str = "tx Org1:client:c0 n0 cc
 ns cc
 write k v

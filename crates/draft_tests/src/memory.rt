@@ -1,4 +1,4 @@
-//! Drafting with memory that is refused.
+//! Drafting while allocations fail.
 
 use crate::fixture::{book, channel};
 use block::BlockVersion;
@@ -26,7 +26,7 @@ fn drafted(alloc: Global, channel: &Name, keys: &KeyBook) -> Result<Bytes, Draft
     draft(alloc, channel, keys, BlockVersion::V2, None, SCRIPT)
 }
 
-// Whether the same block is drafted as was before, or where memory ran out not at all and then when it is drafted again.
+// Whether the same block is drafted as before, or, if memory ran out, none, and the same when it is drafted again.
 fn outcome_of_draft(
     alloc: Global,
     channel: &Name,
@@ -45,7 +45,7 @@ fn outcome_of_draft(
     }
 }
 
-/// What comes of drafting the script.
+/// The outcome of drafting the script.
 pub fn outcome(alloc: Global) -> Result<Outcome, Failed> {
     let channel = channel(alloc)?;
     let keys = book(alloc)?;
@@ -53,8 +53,8 @@ pub fn outcome(alloc: Global) -> Result<Outcome, Failed> {
     outcome_of_draft(alloc, &channel, &keys, &wanted)
 }
 
-// To be tried with memory that is refused at any one allocation of the second draft, by `bench/refused_memory.py`: then it
-// answers want of memory, and the same draft comes out next. Where it is refused before or after, it ends by `?`.
+// Run by `bench/refused_memory.py`, which lets any one allocation of the second draft fail: then it returns out of
+// memory, and the next draft is the same. If one fails before or after, it ends by `?`.
 #[test]
 fn drafts_are_all_or_nothing(rt: HostRuntime) -> Result<(), Failed> {
     assert!(rt; outcome(rt.alloc())? == Outcome::Done);

@@ -136,7 +136,7 @@ fn are_read(alloc: Global, version: BlockVersion, text: &str) -> Result<bool, Fa
     Ok(are_both(alloc, &script)?)
 }
 
-// A script without updates says the same in both versions.
+// A script without updates means the same in both versions.
 #[test]
 fn parts_of_items(rt: HostRuntime) -> Result<(), Failed> {
     assert!(rt; are_read(rt.alloc(), BlockVersion::V1, TWO)?);

@@ -20,7 +20,7 @@ pub fn shown(alloc: Global, keys: Option<&KeyBook>, bytes: &[u8]) -> Result<Byte
     }
 }
 
-// The block that the text drafts, of this version and behind nothing.
+// The block that the text drafts, of this version and as the first one.
 fn drafted_text(
     alloc: Global,
     keys: &KeyBook,

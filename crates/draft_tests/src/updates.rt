@@ -10,7 +10,7 @@ use transaction::{
     Endorsement, Identity, Item, Role, SpelledItem, Update, decode_item, encode_identity,
 };
 
-// How many of the scripts have this first faulty line in this version, up to the first that hasn't.
+// How many of the scripts have this first faulty line in this version, up to the first that doesn't.
 fn faulty_so(
     alloc: Global,
     version: BlockVersion,
@@ -141,7 +141,7 @@ fn no_updates_in_version_1(rt: HostRuntime) -> Result<(), Failed> {
     Ok(())
 }
 
-// An update that one endorses, behind a transaction.
+// An update that one endorses, after a transaction.
 const SCRIPT: &str = "tx Org1:peer:p0 n0 cc
 update Org1:client:c0 n1 d.d OR('Org2.peer')
 endorse Org1:peer:p0

@@ -1,4 +1,4 @@
--- A block of short transactions behind a header has a spelling.
+-- A block of short transactions after a header has an encoding.
 use Rattle.std.proofs.Common.{ℕ, ◌+◌, ◌<◌, ◌≤◌, ◌^◌, List, length, Option, Some, None, refl, arith}
 use Rattle.std.specs.Prelude.{IfSome}
 use Rattle.std.specs.List.{AllByRecursion}

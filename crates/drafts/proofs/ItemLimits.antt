@@ -58,7 +58,7 @@ are_endorsements keys body draft d =
 
 -- ---- what a draft makes
 
--- what the signatures are called
+-- what the signatures are named
 pub same_signatures : (channel : List ℕ) (draft : Draft) (item : Item) (es others : List Endorsement) (s other : List ℕ) → item ≡ with_signatures channel draft es s → es ≡ others → s ≡ other
     → item ≡ with_signatures channel draft others other
 same_signatures channel draft item es others s other is same same_s =
@@ -114,7 +114,7 @@ pub endorsed_by : (keys : List Entry) (channel body : List ℕ) (draft : Draft) 
 endorsed_by keys channel body draft endorsers es are signed is =
     is ∙ ap (map (endorsement_by keys body)) are ∙ ap (λ (b : List ℕ). map (endorsement_by keys b) draft.endorsers) signed
 
--- the creator's signature stands behind what it signs
+-- the creator's signature follows what it signs
 whole_behind_signed : (channel : List ℕ) (draft : Draft) (es : List Endorsement) (s : List ℕ) (asked : Content)
     → item_whole_bytes (with_content channel draft es s asked) ≡ item_signed_bytes (with_content channel draft es [] asked) ++ counted 2 s
 whole_behind_signed channel draft es s (content.Tx namespaces) = refl

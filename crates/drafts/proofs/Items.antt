@@ -78,7 +78,7 @@ makes_next version keys channel items i txs new item tx below is all here longer
     take_more items i item below ∙ ap (λ (x : Item). take i items ++ x ∷ []) (sym is) in
     subst (λ (front : List Item). MakesAll version keys channel front new) (sym parts) (subst (λ (t : List (List ℕ)). MakesAll version keys channel (take i items ++ item ∷ []) t) (sym longer) one)
 
--- those that are left, once one more was taken
+-- those that are left after one more
 pub left_next : (version : BlockVersion) (keys : List Entry) (items : List Item) (i : ℕ) (item : Item) → i < length items → AllByRecursion (IsItem version keys) (drop i items) → AllByRecursion (IsItem version keys) (drop (i + 1) items)
 left_next version keys items i item below all =
     let parts : AllByRecursion (IsItem version keys) (get_or items i item ∷ drop (i + 1) items) = subst (AllByRecursion (IsItem version keys)) (drop_more items i item below) all in
@@ -114,7 +114,7 @@ makes_in version keys channel (Drafted draft) tx h made =
     let signature = signed_by keys draft.creator (item_signed_bytes (endorsed keys channel draft)) in
     spelled_in version channel draft endorsements signature draft.content tx h.kind made
 
--- what is made of a script is spelled in its block's version
+-- what a script makes is encoded in its block's version
 pub all_made_in : (version : BlockVersion) (keys : List Entry) (channel : List ℕ) (items : List Item) (txs : List (List ℕ)) → AllByRecursion (IsItem version keys) items
     → MakesAll V2 keys channel items txs → MakesAll version keys channel items txs
 all_made_in version keys channel [] [] all made = tt

@@ -44,7 +44,7 @@ written =
       policy_writes = record { key = codes "k1"; policy = Some (codes "AND('Org1.peer','Org2.peer')") } ∷ [];
     }
 
--- what the script of a write, a policy write and an endorser says of line 1
+-- what the script of a write, a policy write and an endorser states about line 1
 abbrev draft : Draft
 draft = record { line = 1; creator = client; nonce = codes "n0"; chaincode = codes "cc"; content = content.Tx (written ∷ []); endorsers = peer ∷ [] }
 
@@ -85,7 +85,7 @@ the_transaction = refl
 
 -- ---- an update
 
--- what the script of an update and an endorser says of line 1
+-- what the script of an update and an endorser states about line 1
 abbrev update_draft : Draft
 update_draft = record { line = 1; creator = client; nonce = codes "n0"; chaincode = codes "cc"; content = content.Update (codes "OR('Org2.peer')"); endorsers = peer ∷ [] }
 
@@ -139,7 +139,7 @@ longest made is = ap (nat_lt 1048576) is
 one_byte_more : (made : Item) → length (item_whole_bytes made) ≡ 1048577 → is_too_long made ≡ true
 one_byte_more made is = ap (nat_lt 1048576) is
 
--- the line of one that is too long, before a faulty line behind it
+-- the line of one that is too long, before a faulty line after it
 too_long_first : (d : Draft) → is_too_long (drafted_item keys (codes "ch") d) ≡ true → script_txs keys (codes "ch") (record { items = Raw [] ∷ Drafted d ∷ []; fault = Some 9 }) ≡ Err (Line d.line)
 too_long_first d long =
     let tx = item_whole_bytes (drafted_item keys (codes "ch") d) in

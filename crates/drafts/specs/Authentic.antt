@@ -1,5 +1,5 @@
--- What can be asked of a transaction or an update by itself: that it is one of the channel, has the id of its nonce and
--- creator, and is signed as the key book accepts.
+-- What can be required of a transaction or an update by itself: that it is one of the channel, has the id of its nonce
+-- and creator, and is signed as the key book accepts.
 use Rattle.std.specs.Prelude.{◌≡◌, ℕ, List, ◌++◌, IsTrue}
 use Rattle.std.specs.List.{AllByRecursion}
 use Rattle.transaction.specs.Grammar.{identity_bytes, body_bytes, signed_bytes}
@@ -20,7 +20,7 @@ use Rattle.drafts.specs.DraftItem.{drafted_item}
 pub record IsAuthentic (keys : List Entry) (channel : List ℕ) (tx : Tx) : Type 0 where
   pub is_for : tx.channel ≡ channel
   pub id : tx.id ≡ tx_id_of tx.nonce (identity_bytes tx.creator)
-  -- over all that stands before it
+  -- over all that precedes it
   pub creator : IsTrue (accepts keys tx.creator (signed_bytes tx) tx.signature)
   -- over the body and the endorser's own bytes
   pub endorsers : AllByRecursion (λ e. IsTrue (accepts keys e.endorser (body_bytes tx ++ identity_bytes e.endorser) e.signature)) tx.endorsements
@@ -37,7 +37,7 @@ abbrev pub IsAuthenticMade : List Entry → List ℕ → made.Item → Type 0
 IsAuthenticMade keys channel (item.Tx tx) = IsAuthentic keys channel tx
 IsAuthenticMade keys channel (item.Update u) = IsAuthenticUpdate keys channel u
 
--- nothing is asked of a raw one
+-- nothing is required of a raw one
 abbrev pub IsAuthenticItem : List Entry → List ℕ → Item → Type 0
 IsAuthenticItem keys channel (Raw bytes) = Unit {0}
 IsAuthenticItem keys channel (Drafted draft) = IsAuthenticMade keys channel (drafted_item keys channel draft)

@@ -1,4 +1,4 @@
--- The block that a script makes behind a header, or its first faulty line.
+-- The block that a script makes after a header, or its first faulty line.
 use Rattle.std.specs.Prelude.{ℕ, ◌+◌, if◌then◌else◌, List, [], ◌∷◌, Option, Some, None, Result, Ok, Err}
 use Rattle.transaction.specs.declared.block_version.BlockVersion.{BlockVersion}
 use Rattle.block.specs.Grammar.{bytes_of}
@@ -48,7 +48,7 @@ or_line (Some n) txs = Err (Line n)
 abbrev pub script_txs : List Entry → List ℕ → Script → Result (List (List ℕ)) DraftFault
 script_txs keys channel script = items_bytes keys channel script.items >>= or_line script.fault
 
--- behind this header, or the first of all
+-- after this header, or the first of all
 abbrev pub number_after : Option Header → ℕ
 number_after None = 0
 number_after (Some previous) = previous.number + 1
@@ -60,11 +60,11 @@ previous_after (Some previous) = Hash (header_hash_of previous)
 abbrev pub header_after : Option Header → List (List ℕ) → Header
 header_after previous txs = record { number = number_after previous; previous = previous_after previous; data_hash = data_hash_of txs }
 
--- the block of this version and these transactions behind a header
+-- the block of this version and these transactions after a header
 abbrev pub block_after : BlockVersion → Option Header → List (List ℕ) → Block
 block_after version previous txs = record { version = version; header = header_after previous txs; txs = txs }
 
--- what stands in the places of a block of this version that a text's script makes, or its first faulty line
+-- what is in the places of a block of this version that a text's script makes, or its first faulty line
 abbrev pub txs_of : BlockVersion → List Entry → List ℕ → List ℕ → Result (List (List ℕ)) DraftFault
 txs_of version keys channel text = script_txs keys channel (script_of version keys text)
 

@@ -1,4 +1,4 @@
--- The transaction or update that a draft makes on a channel, where the keys of those who sign are in a book.
+-- The transaction or update that a draft makes on a channel, if the keys of those who sign are in a book.
 use Rattle.std.specs.Prelude.{ℕ, nat_lt, Bool, List, [], ◌++◌, length, map, unwrap_or}
 use Rattle.transaction.specs.Grammar.{identity_bytes, signed_bytes, whole_bytes}
 use Rattle.transaction.specs.UpdateGrammar.{update_signed_bytes, update_whole_bytes}

@@ -1,4 +1,5 @@
--- What a drafted block is: it has the header that belongs behind another, and the transactions and updates of its script in order.
+-- What a drafted block is: it has the header that belongs after another, and the transactions and updates of its script
+-- in order.
 use Rattle.std.specs.Prelude.{◌≡◌, ℕ, List, [], ◌∷◌, Option, None}
 use Rattle.transaction.specs.Items.{SpellsItem}
 use Rattle.transaction.specs.declared.block_version.BlockVersion.{BlockVersion}
@@ -11,7 +12,8 @@ use Rattle.scripts.specs.Script.{script_of}
 use Rattle.drafts.specs.DraftItem.{drafted_item}
 use Rattle.drafts.specs.DraftBlock.{block_after}
 
--- a raw transaction's bytes are those that were said, and the bytes of a drafted transaction or update spell it in this version
+-- a raw transaction's bytes are those in the script, and the bytes of a drafted transaction or update encode it in this
+-- version
 abbrev pub Makes : BlockVersion → List Entry → List ℕ → Item → List ℕ → Type 0
 Makes version keys channel (Raw bytes) tx = tx ≡ bytes
 Makes version keys channel (Drafted draft) tx = SpellsItem version tx (drafted_item keys channel draft)

@@ -1,4 +1,4 @@
--- What encoding answers. No public contract cites this.
+-- What encoding returns. No public contract cites this.
 use Rattle.std.specs.Prelude.{◌≡◌, ◌<◌, ◌≤◌, ℕ, List, length, Result, Ok, Err}
 use Rattle.transaction.specs.Grammar.{IsBody, IsSigned, IsWhole}
 use Rattle.transaction.specs.UpdateGrammar.{IsUpdateBody, IsSignedUpdate, IsWholeUpdate}
@@ -14,7 +14,7 @@ Encodes (Ok bytes) wanted = (bytes ≡ wanted) × (length wanted ≤ max_tx_byte
 Encodes (Err TooLarge) wanted = max_tx_bytes < length wanted
 Encodes (Err Memory) wanted = Unit {0}
 
--- ---- what can be encoded, where it isn't too long
+-- ---- what can be encoded, if it isn't too long
 
 abbrev pub IsBodyItem : Item → Type 0
 IsBodyItem (item.Tx tx) = IsBody tx

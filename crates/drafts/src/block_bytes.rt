@@ -1,4 +1,4 @@
-//! The bytes of a block of transactions and updates behind a header.
+//! The bytes of a block of transactions and updates after a header.
 ghost use Rattle.std.specs.Prelude.{◌≡◌, ◌+◌, ◌<◌, ◌≤◌, ◌^◌, length, IfOk, IfSome};
 ghost use Rattle.std.specs.List.{AllByRecursion};
 ghost use Rattle.block.specs.Grammar.{IsTx, Spells, bytes_of};

@@ -75,11 +75,12 @@ fn items_bytes(
 
 /// What a script for a block of this version puts in its places on a channel, in order. A drafted transaction or update
 /// gets its id, and the signatures of its endorsers and its creator by the book's keys; a raw one is taken as it is.
-/// [`scripts::read`] says how a script is read, and [`draft`] makes the block.
+/// [`scripts::read`] describes how a script is read, and [`draft`] makes the block.
 ///
-/// The fault is `Line` with the first faulty line, unless memory runs out before. A transaction that is too long, whole
-/// or in a part, is a fault of its `tx` line, and known once it has ended: a faulty line further on comes after it, one
-/// within it before it; an update likewise. A block of version 1 has no updates: their lines are faulty there.
+/// The fault is `Line` with the first faulty line, unless memory runs out before. A transaction that is too long,
+/// completely or in a part, is a fault of its `tx` line, and known once it has ended: a faulty line further on comes
+/// after it, one within it before it; an update likewise. A block of version 1 has no updates: their lines are faulty
+/// there.
 ///
 /// Linear in the text and the block, and for each endorser in the body that it signs, with two look-ups in the book for
 /// each signer; the memory is linear in the text and the block.
@@ -92,7 +93,7 @@ pub fn draft_txs(
 ) -> Result<Items<Bytes>, DraftFault>
     // Exactly these, or the first faulty line.
     ensures txs { GivesUnless Memory result (spec.txs_of version keys.now channel.now text.now) }
-    // One for each transaction and update that the script says, which its bytes spell.
+    // One for each transaction and update of the script, which its bytes encode.
     ensures made { IfOk result (λ txs. AreMade version keys.now channel.now text.now txs) }
     // As many as a block may have, each as long as it may be.
     ensures count { IfOk result (λ txs. length txs ≤ max_txs) }
@@ -106,10 +107,10 @@ pub fn draft_txs(
     }
 }
 
-/// The block of this version that a script drafts on a channel, in bytes: behind the header of the block before, or
-/// block 0 where there is none. [`draft_txs`] says what stands in it, and what the fault is.
+/// The block of this version that a script drafts on a channel, in bytes: after the header of the block before, or
+/// block 0 if there is none. [`draft_txs`] describes its contents, and the fault.
 ///
-/// As dear as that, and linear in the block.
+/// Costs as much as that, and is linear in the block.
 pub fn draft(
     alloc: Global,
     channel: &Name,
@@ -121,7 +122,7 @@ pub fn draft(
     requires { IfSome previous (λ h. h.number + 1 < 2 ^ 64) }
     // Exactly these bytes, or the first faulty line.
     ensures drafted { GivesUnless Memory result (spec.drafted keys.now channel.now version previous text.now) }
-    // They spell the block that has the script's transactions and updates and stands behind the header.
+    // They encode the block that has the script's transactions and updates and follows the header.
     ensures block { IfOk result (λ bytes. IsDrafted keys.now channel.now version previous text.now bytes) }
 {
     let txs = draft_txs(alloc, channel, keys, version, text)?;

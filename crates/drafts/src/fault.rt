@@ -7,8 +7,8 @@ use thiserror::Error;
 /// Why a script makes no block.
 #[derive(Clone, Copy, Debug, PartialEq, Eq, Error)]
 pub enum DraftFault {
-    /// The number, from 1, of the first faulty line: one that can't stand there, or the line with which
-    /// a transaction or an update began that is too long and ended before each such line.
+    /// The number, from 1, of the first faulty line: one that isn't allowed there, or the line with which a transaction
+    /// or an update began that is too long and ended before each such line.
     #[error("line {0}")]
     Line(u64),
     #[error("out of memory")]

@@ -12,7 +12,7 @@ use transaction::{
 };
 use values::{Bytes, Items};
 
-// The signature over a message, no bytes where the identity isn't in the book.
+// The signature over a message, no bytes if the identity isn't in the book.
 pub(crate) fn sign(
     alloc: Global,
     keys: &KeyBook,
@@ -75,7 +75,7 @@ impl<'a> Signed<'a> {
     }
 }
 
-// Signs the body followed by the endorser's bytes, which stand behind it meanwhile.
+// Signs the body followed by the endorser's bytes, which are appended to it meanwhile.
 fn endorse<'a>(
     alloc: Global,
     keys: &KeyBook,

@@ -1,5 +1,5 @@
-//! A program of one's own over the committer: hands blocks in while two threads ask, asks what they left, and says why
-//! the last block's transactions have their flags. `docs/library.md` walks through it.
+//! A program of one's own over the committer: submits blocks while two threads query, queries what they left, and
+//! reports why the last block's transactions have their flags. `docs/library.md` walks through it.
 #![tactic(auto)]
 
 ghost use Rattle.std.specs.Prelude.{◌≡◌, ◌==◌, length, All};
@@ -45,7 +45,7 @@ fn read_blocks<R: std::rt::Files>(rt: &R, alloc: Global) -> anyhow::Result<Vec<B
     Ok(blocks)
 }
 
-/// What a thread does that only asks: each answer is of one height, none below the one before.
+/// What a thread does that only queries: each answer is of one height, none below the one before.
 fn ask(mut handle: QueryHandle) -> Result<u64, QueryFault> {
     let mut height = 0;
     for _ in 0..1_000 {
@@ -54,7 +54,8 @@ fn ask(mut handle: QueryHandle) -> Result<u64, QueryFault> {
     Ok(height)
 }
 
-/// Hands the blocks in, and has the handle learn each receipt that it doesn't know, so that it never answers from before.
+/// Submits the blocks, and has the handle learn each receipt that it doesn't know, so that it never answers from
+/// before.
 fn commit_each<R: Threads + Wait + Sync, W: Write>(
     rt: &R,
     committer: &mut Committer,
@@ -81,7 +82,7 @@ fn commit_each<R: Threads + Wait + Sync, W: Write>(
     Ok(())
 }
 
-/// Hands the blocks in while each of the other handles is asked by a thread of its own.
+/// Submits the blocks while each of the other handles is queried by a thread of its own.
 fn commit_while_asked<R: Threads + Wait + Sync, W: Write>(
     rt: &R,
     committer: &mut Committer,
@@ -106,7 +107,7 @@ fn commit_while_asked<R: Threads + Wait + Sync, W: Write>(
     )
 }
 
-/// The last handle stays with this thread, and tells what a car is like in the end.
+/// The last handle stays with this thread, and reports what a car is like in the end.
 fn serve<R: Threads + Wait + Sync, W: Write>(
     rt: &R,
     alloc: Global,
@@ -129,7 +130,7 @@ fn serve<R: Threads + Wait + Sync, W: Write>(
     Ok(())
 }
 
-/// Commits all blocks while others ask.
+/// Commits all blocks while others query.
 fn commit_all<R: Threads + Wait + Sync, W: Write>(
     rt: &R,
     alloc: Global,
@@ -143,7 +144,7 @@ fn commit_all<R: Threads + Wait + Sync, W: Write>(
     ended
 }
 
-/// Why each transaction of the last block has its flag, behind the blocks before it.
+/// Why each transaction of the last block has its flag, after the blocks before it.
 fn explain_behind<W: Write>(
     alloc: Global,
     ledger: &mut Ledger,
@@ -164,7 +165,7 @@ fn explain_behind<W: Write>(
     Ok(())
 }
 
-/// The same committed once more by a ledger, which tells reasons.
+/// The same committed again by a ledger, which returns reasons.
 fn explain_last<W: Write>(alloc: Global, blocks: &[Bytes], out: &mut W) -> anyhow::Result<()> {
     let mut ledger = Ledger::open(alloc, Channel::read(alloc, CHANNEL)?);
     explain_behind(alloc, &mut ledger, blocks, out)

@@ -58,7 +58,7 @@ passes_too p ks ls same some = let one = one_passing p ks some in passed_by p on
 any_same : (p : StateKey → Bool) (ks ls : List StateKey) → SameKeys ks ls → list_any p ks ≡ list_any p ls
 any_same p ks ls same = same_test (list_any p ks) (list_any p ls) (passes_too p ks ls same) (passes_too p ls ks (λ k. sym (same k)))
 
--- all pass where none fails
+-- all pass if none fails
 none_fails : (p : StateKey → Bool) (ks : List StateKey) → list_all p ks ≡ not (list_any (λ k. not (p k)) ks)
 none_fails p [] = refl
 none_fails p (k ∷ ks) = ap (λ (b : Bool). p k && b) (none_fails p ks) ∙ by (p k)
@@ -96,7 +96,7 @@ module _ (j : Job) (i place : ℕ) (k : StateKey) (is : slice_get (written_by (c
       let its : is_among k (operated_by (candidate_at j i)) ≡ true = sym (keys_stay k (operated_by (candidate_at j i))) ∙ among_at (written_by (candidate_at j i)) place k is in
       (of.0, passed_by (λ x. is_among x (operated_by (candidate_at j i))) k (touched_by (candidate_at j h)) its of.1)
 
-  -- where its policy is met, the key may be written if none of them passed
+  -- if its policy is met, the key may be written if none of them passed
   pub sure_write : (signers : List Identity) (known : ℕ → Option Bool) (touched : Bool) → meets signers (governing j.definitions k.0 (policy_in j.state k)) ≡ true
       → Sure (λ called _. list_any called ws) known i touched → Sure (λ called n. may_write j.definitions j.state (touched_under j called n) signers k) known i (not touched)
   sure_write signers known touched met sure called agrees =
@@ -121,7 +121,7 @@ one_tested test old new i written n w b stays within is left here called agrees 
 -- ---- the whole rule
 
 module _ (j : Job) (i : ℕ) (o : OpenTx) where
-  -- whether each key may be written, and what the named chaincode's policy says, where these keys were touched
+  -- whether each key may be written, and whether the named chaincode's policy holds, if these keys were touched
   abbrev all_may : List StateKey → List StateKey → Bool
   all_may t ks = list_all (may_write j.definitions j.state t o.signers) ks
 
@@ -147,7 +147,7 @@ module _ (j : Job) (i : ℕ) (o : OpenTx) where
       endorsed_by_keys (touched_under j called i) keys opened ∙ ap (λ (b : Bool). all && b) passes ∙ and_true all ∙ sure called agrees
   decided_by_keys known (decision.Blocked h) W keys opened passes waits = waits
 
--- where all earlier ones are known, none is waited for
+-- if all earlier ones are known, none is waited for
 pub none_waited_for : (i : ℕ) (old new : Known) (d : Decision Bool) (P : Bool → Type 0) (Q : ℕ → Type 0) → Grows old new → MatchDecision d P (λ h. ((h < i) × Q h) × (new.endorsed h ≡ None))
     → ((h : ℕ) → h < i → IsSome (old.endorsed h)) → MatchDecision d (λ _. Unit {0}) (λ _. ⊥)
 none_waited_for i old new (decision.Sure v) P Q grows decided known = tt

@@ -16,7 +16,7 @@ use crate::writes::{has_writes, may_write_all};
 use candidates::Candidate;
 use key_chains::{Board, Decision, Job, OpenTx};
 
-/// Whether the policy of the named chaincode is satisfied, where no written key has its namespace.
+/// Whether the policy of the named chaincode is satisfied, if no written key has its namespace.
 fn chaincode_passes(job: &Job<'_, '_>, open_tx: &OpenTx<'_>) -> bool
     ensures { result ≡ (list_any (λ k. bytes_eq open_tx.now.tx.chaincode k.0) (map (λ w. w.key) open_tx.now.written.items) || meets open_tx.now.signers (get job.now.definitions open_tx.now.tx.chaincode)) }
 {
@@ -39,18 +39,19 @@ fn open_passes<B: Board>(
         (λ v. Sure (endorsement_under job.now) (B.known board.new).endorsed i v)
         (λ h. EndorsementDepends job.now i h × ((B.known board.new).endorsed h ≡ None)) }
 {
-    // what asks no other verdict goes first
+    // what needs no other verdict goes first
     if !chaincode_passes(job, open_tx) {
         return Decision::Sure(false);
     }
     may_write_all(job, i, &open_tx.signers, open_tx.written.as_slice(), board)
 }
 
-/// Whether candidate i passes the endorsement rule; a flagged one doesn't, and of an update the admin policy is asked.
+/// Whether candidate i passes the endorsement rule; a flagged one doesn't, and an update needs to satisfy the admin
+/// policy.
 ///
-/// `Sure` only with the answer that holds whatever the unknown endorsements before i will be. `Blocked(h)`: h is before
-/// i, writes the policy of a key that i writes, and whether h passes is unknown; the answer may be the same either way.
-/// Where all before i are known at the call, it is `Sure`.
+/// `Sure` only with the answer that holds no matter what the unknown endorsements before i will be. `Blocked(h)`: h is
+/// before i, writes the policy of a key that i writes, and whether h passes is unknown; the answer may be the same
+/// either way. If all before i are known at the call, it is `Sure`.
 ///
 /// For each key that i writes, the cost is that of evaluating the policy that governs it, and of a look at the earlier
 /// candidates that write its policy, down to the newest that passed.

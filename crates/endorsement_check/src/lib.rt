@@ -1,6 +1,6 @@
 //! The endorsement check of one candidate, from what is known of the earlier ones' endorsements.
 //!
-//! No call takes memory, and none waits: where an endorsement that it needs is unknown, it says whose.
+//! No call takes memory, and none waits: if an endorsement that it needs is unknown, it returns whose.
 #![tactic(auto)]
 
 mod deciding;

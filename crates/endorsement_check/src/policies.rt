@@ -1,4 +1,4 @@
-//! What policies ask, which no other verdict changes.
+//! What policies require, which no other verdict changes.
 ghost use Rattle.std.specs.Prelude.{◌≡◌};
 ghost use Rattle.std.specs.Option.{option_and_then, option_copied};
 ghost use Rattle.std.specs.FinMap.{get};
@@ -40,7 +40,7 @@ pub fn own_policy<'a>(job: &Job<'a, '_>, key: &StateKey<'_>) -> Option<&'a Polic
     policy_of(job.row(key))
 }
 
-/// The policy that governs a key whose row before the block this is: the row's own, else the key's namespace's.
+/// The policy that governs a key whose row before the block this is: the row's own, otherwise the key's namespace's.
 pub(crate) fn governing_over<'a>(
     job: &Job<'a, '_>,
     key: &StateKey<'_>,
@@ -55,7 +55,7 @@ pub(crate) fn governing_over<'a>(
     }
 }
 
-/// The policy that governs a key: its own before the block, else its namespace's.
+/// The policy that governs a key: its own before the block, otherwise its namespace's.
 pub fn governing<'a>(job: &Job<'a, '_>, key: &StateKey<'_>) -> Option<&'a Policy>
     ensures { option_copied result ≡ rule.governing job.now.definitions key.now.0 (policy_in job.now.state key.now) }
 {

@@ -33,7 +33,7 @@ fn may_write<B: Board>(
         (λ v. Sure (λ called n. rule.may_write job.now.definitions job.now.state (touched_under job.now called n) signers.now key.now) (B.known board.new).endorsed i v)
         (λ h. EndorsementDepends job.now i h × ((B.known board.new).endorsed h ≡ None)) }
 {
-    // what asks no other verdict goes first
+    // what needs no other verdict goes first
     let row = job.row_of(job.key_number_of(i, place));
     if !meets(signers, governing_over(job, key, row)) {
         return Decision::Sure(false);

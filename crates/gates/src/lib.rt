@@ -1,4 +1,5 @@
-//! What workers pass before each piece of work on a block, so that tests can hold them back. Gates change no verdict.
+//! What workers pass before each step of their work on a block, so that tests can hold them back. Gates change no
+//! verdict.
 #![tactic(auto)]
 
 mod gate;

@@ -3,10 +3,10 @@ use std::alloc::{AllocError, Global};
 use std::sync::atomic::{AtomicBool, Ordering};
 use std::thread;
 
-/// How often a worker looks whether the next transaction was entered. It lets other threads run between two looks.
+/// How often a worker checks whether the next transaction was entered. It lets other threads run between two checks.
 const TURNS: u32 = 1_000;
 
-/// A gate that lets the checks of a block through in reverse, as far as workers are there to go ahead: each check waits
+/// A gate that lets the checks of a block through in reverse, as far as there are workers to go ahead: each check waits
 /// until the same check of the next transaction was entered, or for 1,000 turns.
 #[derive(Drop)]
 pub struct Reverse {
@@ -22,7 +22,7 @@ fn none_entered(alloc: Global, n: u32) -> Result<Vec<AtomicBool>, AllocError> {
     Ok(entered)
 }
 
-/// Enters a transaction, and waits for the next one. There is nothing to wait for behind the last.
+/// Enters a transaction, and waits for the next one. There is nothing to wait for after the last.
 fn enter(entered: &[AtomicBool], index: usize) {
     if let Some(own) = entered.get(index) {
         own.store(true, Ordering::SeqCst);
@@ -39,7 +39,7 @@ fn enter(entered: &[AtomicBool], index: usize) {
 }
 
 impl Reverse {
-    /// For a block of n transactions. Takes two bytes for each; an `Err` is want of memory.
+    /// For a block of n transactions. Takes two bytes for each; an `Err` is out of memory.
     pub fn new(alloc: Global, n: u32) -> Result<Reverse, AllocError> {
         Ok(Reverse {
             endorse: none_entered(alloc, n)?,

@@ -16,7 +16,7 @@ both_fail a b c d h k = grind (arith, nat_tests)
 both_pass : (a b c d : ℕ) → a ≤ b → c ≤ d → nat_le a b ≡ nat_le c d
 both_pass a b c d h k = grind (arith, nat_tests)
 
--- a number of m bits reaches 2 ^ j where it has more than j bits
+-- a number of m bits reaches 2 ^ j if it has more than j bits
 passes : (j n m : ℕ) → n < 2 ^ m → 2 ^ m ≤ 2 * n + 1 → nat_le (2 ^ j) n ≡ nat_le (suc j) m
 passes j n m below reached = elim (cases_lt m (suc j)) [
   | inl few ↦
@@ -27,7 +27,7 @@ passes j n m below reached = elim (cases_lt m (suc j)) [
       both_pass (2 ^ j) n (suc j) m (omega (arith, pow-suc 2 j)) many
 ]
 
--- so many whole bytes are in m bits
+-- the number of whole bytes in m bits
 whole_bytes : (m : ℕ) → m ≤ 64 → count_by (λ k. nat_le (8 * k) m) (1 ∷ 2 ∷ 3 ∷ 4 ∷ 5 ∷ 6 ∷ 7 ∷ 8 ∷ []) ≡ m / 8
 whole_bytes m h = grind (arith, nat_tests)
 
@@ -45,6 +45,6 @@ integer_octets-leading_zeros n h =
     let count : integer_octets n ≡ length.0 / 8 + 1 = integer_octets-bits n length.0 (omega (arith, length.1)) length.2 length.3 in
     count ∙ ap (λ b. b / 8 + 1) (sym bits)
 
--- the octets of so many bits and a sign bit
+-- the octets of `bits` bits and a sign bit
 pub bits_and_sign : (bits : ℕ) → div_ceil (bits + 1) 8 ≡ bits / 8 + 1
 bits_and_sign bits = grind (arith, nat_tests)

@@ -1,4 +1,4 @@
--- The law of an INTEGER's contents octets.
+-- What is proved of an INTEGER's contents octets.
 use Rattle.std.proofs.Common.{◌≡◌, ◌≢◌, ℕ, zero, suc, ◌+◌, ◌*◌, ◌/◌, ◌%◌, ◌^◌, ◌<◌, ◌≤◌, [], length, slice_index, refl, sym, ap, subst, ◌∙◌, arith, ◌⊎◌, inl, inr}
 use Rattle.std.specs.Int.{byte_at}
 use Rattle.std.proofs.Math.Nat.{div-one, pow-suc}
@@ -56,7 +56,7 @@ minimal_of (suc i) n needs long = elim (cases_lt n (256 ^ suc i)) [
       inl (λ is. omega (arith, first_octet (suc i) n needs.fits))
 ]
 
--- a number's lowest octets are its contents octets, where it needs so many
+-- a number's lowest octets are its contents octets, if it needs that many
 contents_of : (j n : ℕ) → Needs j n → AreContentsOf n (big_bytes (suc j) n)
 contents_of j n needs = record {
   some = omega (arith, length-bytes_high_first (suc j) n);

@@ -1,4 +1,4 @@
--- A number has the contents octets of one INTEGER alone.
+-- A number has the contents octets of only one INTEGER.
 use Rattle.std.proofs.Common.{◌≡◌, ℕ, zero, suc, ◌*◌, ◌^◌, ◌<◌, ◌≤◌, List, [], ◌∷◌, length, refl, sym, ap, ◌∙◌, arith, inl, inr}
 use Rattle.std.specs.Int.{byte_at}
 use Rattle.std.proofs.Math.Nat.{mul-le-mul_right, one-le-pow, pow-le-pow_right, pow-suc}
@@ -40,7 +40,7 @@ needed_of_contents x (y ∷ ys) n i contents count =
           omega (arith, contents.value)
     ]
 
--- what the law says of octets bounds their number
+-- what X.690 requires of octets bounds their number
 needs_of_contents : (x : ℕ) (rest : List ℕ) (n : ℕ) → AreOctets (x ∷ rest) → AreContentsOf n (x ∷ rest) → Needs (length rest) n
 needs_of_contents x rest n are contents = record {
   fits =
@@ -50,7 +50,7 @@ needs_of_contents x rest n are contents = record {
   needed = λ i. needed_of_contents x rest n i contents;
 }
 
--- a number has one list of so many octets
+-- a number has one list of octets of each length
 same_octets : (xs ys : List ℕ) → length xs ≡ length ys → AreOctets xs → AreOctets ys → big_number (length xs) xs ≡ big_number (length xs) ys → xs ≡ ys
 same_octets [] [] count xs_are ys_are same = refl
 same_octets [] (y ∷ ys) count xs_are ys_are same = absurd (omega arith)

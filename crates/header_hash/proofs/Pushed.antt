@@ -1,8 +1,8 @@
--- A buffer's first bytes after an element was written behind them.
+-- A buffer's first bytes after an element was written after them.
 use Rattle.std.proofs.Common.{◌≡◌, ℕ, ◌+◌, List, ◌++◌, length, take, ap, ◌∙◌, append_assoc, length-append, arith}
 use Rattle.std.proofs.lemmas.List.{take_at}
 
--- the bytes in front and the element, whatever follows them
+-- the bytes in front and the element, no matter what follows them
 pub pushed : (front element rest after written : List ℕ) (n k : ℕ) → length front ≡ n → length element ≡ k → written ≡ element ++ rest
     → take (n + k) (front ++ (written ++ after)) ≡ front ++ element
 pushed front element rest after written n k front_len element_len is =

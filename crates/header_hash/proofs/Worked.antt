@@ -29,7 +29,7 @@ hashes previous data_hash = (0x04 ∷ 0x20 ∷ previous) ++ (0x04 ∷ 0x20 ∷ d
 length-hashes : (p d : List ℕ) → length p ≡ 32 → length d ≡ 32 → length (hashes p d) ≡ 68
 length-hashes p d hp hd = omega (arith, length-append p (0x04 ∷ 0x20 ∷ d))
 
--- hashes of 32 bytes behind any element
+-- hashes of 32 bytes after any element
 behind : (first p d : List ℕ) → length p ≡ 32 → length d ≡ 32
     → sequence (first ++ octet_string p ++ octet_string d) ≡ 0x30 ∷ (length first + 68) ∷ (first ++ hashes p d)
 behind first p d hp hd =

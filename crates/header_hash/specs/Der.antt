@@ -15,7 +15,7 @@ element tag contents = tag ∷ length contents ∷ contents
 abbrev pub integer_octets : ℕ → ℕ
 integer_octets n = 1 + count_by (λ k. nat_le (2 ^ (8 * k - 1)) n) (1 ∷ 2 ∷ 3 ∷ 4 ∷ 5 ∷ 6 ∷ 7 ∷ 8 ∷ [])
 
--- the number in so many octets, the highest first (8.3.3)
+-- the number in that many octets, the highest first (8.3.3)
 abbrev pub integer : ℕ → List ℕ
 integer n = element 0x02 (big_bytes (integer_octets n) n)
 

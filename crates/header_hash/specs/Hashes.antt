@@ -1,6 +1,6 @@
 -- Header hash, data hash and transaction id: SHA-256 (FIPS 180-4) of a header's DER bytes, of a block's transactions
--- joined in order, and of a nonce followed by its creator's identity bytes, the last as lower case hexadecimal text. And the
--- commit hash of a block: SHA-256 of the one before it, followed by what the block changes.
+-- joined in order, and of a nonce followed by its creator's identity bytes, the last as lower case hexadecimal text.
+-- And the commit hash of a block: SHA-256 of the one before it, followed by what the block changes.
 use Rattle.std.specs.Prelude.{ℕ, List, ◌++◌}
 use Rattle.std.specs.List.{flat_map}
 use Rattle.sha2.specs.Sha256.{sha256}

@@ -18,7 +18,7 @@ pub record AreContentsOf (n : ℕ) (octets : List ℕ) : Type 0 where
 abbrev pub AreOctets : List ℕ → Type 0
 AreOctets octets = (i : ℕ) → slice_index octets i < 256
 
--- A number of 64 bits is spelled with tag 2, the length in the short form and its contents octets, and no other octets
+-- A number of 64 bits is encoded as tag 2, the length in the short form and its contents octets, and no other octets
 -- are its contents.
 abbrev pub IntegersAreMinimal : Type 0
 IntegersAreMinimal =

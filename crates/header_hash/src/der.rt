@@ -6,7 +6,7 @@ use block::{Header, Previous};
 use byteorder::{BigEndian, ByteOrder};
 use std::marker::Model;
 
-// Identifier octets: universal tags, of which SEQUENCE alone is constructed (X.690, 8.1.2).
+// Identifier octets: universal tags, of which only SEQUENCE is constructed (X.690, 8.1.2).
 const INTEGER: u8 = 0x02;
 
 const OCTET_STRING: u8 = 0x04;
@@ -105,9 +105,9 @@ fn previous_octets(previous: &Previous) -> &[u8]
     }
 }
 
-/// The DER bytes (X.690) of a header: SEQUENCE of INTEGER number, OCTET STRING previous and OCTET
-/// STRING data hash, where INTEGER has no octet more than it needs. From 41 bytes, for block 0, to
-/// 81. Takes no memory, and its time is bounded.
+/// The DER bytes (X.690) of a header: SEQUENCE of INTEGER number, OCTET STRING previous and OCTET STRING data hash,
+/// where INTEGER has no octet more than it needs. From 41 bytes, for block 0, to 81. Takes no memory, and its time is
+/// bounded.
 pub fn header_der(header: &Header) -> Der
     ensures der { result ≡ der_of header.now }
     ensures at_most { length result ≤ 81 }
@@ -121,8 +121,8 @@ pub fn header_der(header: &Header) -> Der
     sequence
 }
 
-/// The law of the DER bytes of a number, in X.690's words: the contents octets are the number with
-/// sign bit 0, no first octet could be left out, and no other octets are so. Does nothing.
+/// Proved of the DER bytes of a number, in X.690's words (the function does nothing at run time): the contents octets
+/// are the number with sign bit 0, no first octet could be left out, and no other octets are so.
 pub fn integers_are_minimal()
     ensures { IntegersAreMinimal }
 {}

@@ -25,7 +25,7 @@ pub fn tx_id(nonce: &[u8], creator: &[u8]) -> TxId
     hasher.update(nonce);
     hasher.update(creator);
     let mut id = [0; ID_BYTES];
-    // Two digits a byte fill it, so there is no other answer.
+    // Two digits a byte fill it, so this can't fail.
     encode_to_slice(hasher.finalize(), &mut id).unwrap();
     id
 }

@@ -1,4 +1,4 @@
-//! What is told of transactions that no lines say.
+//! What comments report of transactions that no lines state.
 
 use crate::fixture::{book, drafted};
 use crate::shown::{shown, shows};
@@ -16,7 +16,7 @@ write k v
 endorse Org1:peer:p0
 ";
 
-/// A byte that is another one, told by its place from the front or from the end, and the comments for it.
+/// A byte that is another one, found by its place from the front or from the end, and the comments for it.
 #[derive(Clone, Copy)]
 struct Changed {
     is_from_end: bool,
@@ -77,7 +77,7 @@ static CHANGES: [Changed; 6] = [
             "# raw, for the creator Org1:client:c0 has another signature than by the key book",
         ],
     },
-    // in the length of the channel's name: then it is no transaction, and nothing more is told
+    // in the length of the channel's name: then it is no transaction, and nothing more is reported
     Changed {
         is_from_end: false,
         place: 0,
@@ -85,7 +85,7 @@ static CHANGES: [Changed; 6] = [
     },
 ];
 
-// The block of these transactions alone.
+// The block of only these transactions.
 fn block_of(alloc: Global, tx: &[u8]) -> Result<Bytes, Failed> {
     let mut txs = Items::new(alloc);
     txs.push(Slice::new(tx))?;
@@ -113,7 +113,7 @@ fn change(bytes: &mut [u8], changed: &Changed) {
     }
 }
 
-// Whether these are all of its comments that say why a line is raw.
+// Whether these are all of its comments that state why a line is raw.
 fn has_reasons(text: &Bytes, wanted: &[&str]) -> bool {
     let Ok(text) = text_of(text.as_slice()) else {
         return false;
@@ -147,7 +147,7 @@ fn is_told_of_change(
     is_told(alloc, keys, bytes.as_slice(), changed.comments)
 }
 
-// The place of the first change that isn't told so.
+// The place of the first change that isn't reported so.
 fn unlike_in(alloc: Global, keys: &KeyBook, block: &[u8]) -> Result<Option<usize>, Failed> {
     let block = decode_block(alloc, block)?;
     let Some(tx) = block.txs.as_slice().first() else {
