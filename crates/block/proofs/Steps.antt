@@ -13,7 +13,7 @@ pub bind_err : {A B : Type 0} (r : Result A BlockFault) (f : A → Result B Bloc
 bind_err (Ok x) f d e = inr (x, refl, e)
 bind_err (Err c) f d e = inl (let same : c ≡ d = cc in rw same refl)
 
--- a test that refuses, and one that takes
+-- a test that rejects, and one that accepts
 pub refused_ok : {A : Type 0} (b : Bool) (d : BlockFault) (r : Result A BlockFault) (y : A) → cond b (Err d) r ≡ Ok y → (b ≡ false) × (r ≡ Ok y)
 refused_ok true d r y e = absurd cc
 refused_ok false d r y e = (refl, e)

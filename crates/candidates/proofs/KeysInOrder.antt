@@ -29,7 +29,7 @@ pub only_keys : (ks sorted : List StateKey) → IsStrictlySortedBy key_cmp sorte
 unfolding keys_in_order
 only_keys ks sorted up same = only_order key_cmp_total key_cmp-IsAntisymmetric ks sorted up (λ k. among k ks ∙ sym (same k) ∙ sym (among k sorted))
 
--- ---- what a sort makes of them
+-- ---- the keys after a sort
 
 alike : (k x y : StateKey) → is_same_key x y ≡ true → is_same_key k x ≡ is_same_key k y
 alike k x y e = ap (is_same_key k) (same_key_is x y e)

@@ -41,7 +41,7 @@ impl<'a> Candidate<'a> {
         }
     }
 
-    /// Its flag if its checks return this. A flagged candidate keeps its flag whatever they return, and if the
+    /// Its flag if its checks return this. A flagged candidate keeps its flag no matter what they return, and if the
     /// endorsement rule fails the reads don't count.
     pub fn flag(&self, is_endorsed: bool, reads: ReadVerdict) -> Flag
         ensures { result ≡ flag_by (seen self.now) is_endorsed reads }

@@ -1,4 +1,4 @@
--- A refused line is a refused text.
+-- A rejected line is a rejected text.
 use Rattle.std.proofs.Common.{Result, Ok, Err, inl, inr}
 use Rattle.channel.specs.declared.fault.ChannelFault.{ChannelFault}
 use Rattle.channel.specs.Fault.{Fault, Refuses}

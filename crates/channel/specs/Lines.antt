@@ -3,7 +3,7 @@ use Rattle.channel.specs.declared.channel_text.Saying as declared
 use Rattle.channel.specs.declared.channel_text.Saying.TheVariants.{NamesChannel, Defines, SetsAdmin, NothingKnown}
 use Rattle.channel.specs.Text.{Says, names_channel, defines, sets_admin, nothing_known}
 
--- without where it lies in memory
+-- without its place in memory
 abbrev pub seen : declared.Saying → Says
 seen (NamesChannel name) = names_channel name
 seen (Defines chaincode policy) = defines chaincode policy.now

@@ -76,7 +76,6 @@ fn check_some<'j, R: Threads + Wait + Sync, G: Gate + Sync>(
 /// worker that can't be started, or gets no deque, is skipped; what no worker has found is found here, in order. Takes
 /// two words for each candidate, a desk of tasks, a deque for each worker, and what threads take. Costs what the checks
 /// cost, each tried again once for each time that it was blocked.
-/// tried again once for each time that it was blocked.
 pub fn check_all<R: Threads + Wait + Sync, G: Gate + Sync>(
     rt: &R,
     alloc: Global,

@@ -22,7 +22,7 @@ pub(crate) fn policy_beside(
     }
 }
 
-/// The row if the value isn't written: with the policy that is, if one is. What it has gets a second reference. Takes
+/// The row if the value isn't written: with the policy that is, if one is. Its contents are shared, not copied. Takes
 /// no memory.
 pub(crate) fn row_beside(
     version: Version,

@@ -1,4 +1,4 @@
--- A chain that ends in version 1 is one of the first version, no matter what was refused in it.
+-- A chain that ends in version 1 is one of the first version, no matter what was rejected in it.
 use Rattle.std.proofs.Common.{◌≡◌, ℕ, ◌-◌, cond, Bool, true, false, List, [], ◌∷◌, ◌++◌, length, take, drop, get_or, Option, Result, Ok, Err, refl, sym, ap, subst, ◌∙◌, arith}
 use Rattle.std.specs.Prelude.{option_map, unwrap_or, slice_get}
 use Rattle.std.proofs.lemmas.Bool.{false≢true}

@@ -1,4 +1,4 @@
--- What the first version returns for byte strings that today's ledger accepted or refused.
+-- What the first version returns for byte strings that today's ledger accepted or rejected.
 use Rattle.std.specs.Prelude.{ℕ, List, [], ◌∷◌, take, Bool, if◌then◌else◌, Result, Err}
 use Rattle.std.specs.Str.{bytes_eq}
 use Rattle.transaction.specs.declared.block_version.BlockVersion.TheVariants.{V2}
@@ -15,7 +15,7 @@ use Rattle.first_version.specs.Seen.{seen_answer}
 abbrev pub is_second : List ℕ → Bool
 is_second bytes = bytes_eq (take 4 bytes) (magic_of V2)
 
--- Bytes that begin with the magic of version 2 are refused for it; to others the answer is the same.
+-- Bytes that begin with the magic of version 2 are rejected for it; to others the answer is the same.
 abbrev pub answer_then : List ℕ → Result now.Accepted Refused → Result Accepted Refused
 answer_then bytes answer = if is_second bytes then Err (Malformed BadMagic) else seen_answer answer
 

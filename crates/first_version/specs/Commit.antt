@@ -15,7 +15,7 @@ use Rattle.rules.specs.History.{with_entries}
 use Rattle.rules.specs.FirstUses.{with_uses}
 use Rattle.first_version.specs.World.{World, height_of}
 
--- the transactions of a block, none where the bytes encode none
+-- the transactions of a block, none if the bytes encode none
 abbrev pub txs_of : Block → List (Option Tx)
 txs_of b = map tx_of b.txs
 

@@ -32,7 +32,7 @@ IsUnlinked w b OldVersion = ⊥
 IsUnlinked w b (Malformed fault) = ⊥
 IsUnlinked w b Memory = ⊥
 
--- Why bytes are refused: they encode no block, or one that isn't linked.
+-- Why bytes are rejected: they encode no block, or one that isn't linked.
 abbrev pub IsRefused : World → List ℕ → Refused → Type 0
 IsRefused w bytes (Malformed fault) = HasFault bytes fault
 IsRefused w bytes (WrongNumber want got) = (b : Block) × Spells bytes b × IsUnlinked w b (WrongNumber want got)

@@ -19,8 +19,8 @@ accepted_of channel accepts w b = record {
   flags = flags (job_of channel accepts w (txs_of b));
 }
 
--- Bytes that encode a linked block are accepted, other bytes are refused for the first reason that holds. Either answer
--- may be replaced by out of memory. A refusal changes nothing.
+-- Bytes that encode a linked block are accepted, other bytes are rejected for the first reason that holds. Either
+-- answer may be replaced by out of memory. A rejection changes nothing.
 abbrev pub Step : Configuration → Accepts → World → List ℕ → Result Accepted Refused → World → Type 0
 Step channel accepts old bytes (Ok accepted) new =
     (b : Block) × Spells bytes b × IsLinked old b × (accepted ≡ accepted_of channel accepts old b) × (new ≡ world_after channel accepts old bytes b)

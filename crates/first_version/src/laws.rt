@@ -33,7 +33,7 @@ pub fn first_version_steps_as_before()
 /// Proved (the function does nothing at run time): a chain from the empty world of a channel that ends in version 1
 /// leaves the channel's definitions unchanged. It is a chain of the first version over the same byte strings, and the
 /// worlds after it are the same. The answers are, too, except to byte strings that begin with the magic of version 2:
-/// each of them was refused, and the first version refuses it for its magic.
+/// each of them was rejected, and the first version rejects it for its magic.
 pub fn chains_that_end_in_version_1()
     ensures definitions { (channel : channel.Configuration) (new : world.World) (submissions : List chain.Submission) (answers : List (Result now.Accepted Refused))
         → chain.Chain channel (world.empty_world channel.definitions) submissions answers new → IsFirst new → new.definitions ≡ channel.definitions }

@@ -1,4 +1,4 @@
--- The places of a bucket, one behind the other.
+-- The places of a bucket, one after the other.
 use Rattle.std.proofs.Common.{◌≡◌, ℕ, suc, ◌-◌, ◌<◌, ◌≤◌, cond, List, length, take, get_or, sym, ap, subst, ◌∙◌, arith}
 use Rattle.std.specs.Prelude.{◌==◌}
 use Rattle.std.proofs.Math.ListN.{get_or-map}
@@ -56,7 +56,7 @@ module _ (hash : ℕ) (links : List Link) where
   abbrev pub LeadsTo : ℕ → ℕ → ℕ → Type 0
   LeadsTo n place older = IsChain n (bucket_of n hash) hashes older × (before older ≡ before place)
 
-  -- a place of another hash is passed over
+  -- a place of another hash is skipped
   passed : (n p : ℕ) → AreLinked n links → p < length links → IsChain n (bucket_of n hash) hashes (suc p) → ¬ ((link_at links p).hash ≡ hash) → LeadsTo n (suc p) (link_at links p).older
   passed n p linked lt chain differs =
       let older : (link_at links p).older ≡ last_in n (bucket_of n hash) (take p hashes) = linked p lt ∙ ap (λ b. last_in n b (take p hashes)) (same_bucket n p lt chain) in
@@ -84,7 +84,7 @@ module _ (n : ℕ) (links lent : List Link) (linked : AreLinked n links) (same :
   pub lent_back : LeadBack lent
   lent_back = subst LeadBack (sym same) (linked_back n links linked)
 
-  -- what a walk from this place answers
+  -- what a walk from this place returns
   abbrev pub AnswersFrom : ℕ → ℕ → ℕ → Type 0
   AnswersFrom hash from result = (m : ℕ) → AreLinked m lent → IsChain m (bucket_of m hash) (hashes_of lent) from → result ≡ last_with hash (take from (hashes_of lent))
 

@@ -125,7 +125,7 @@ leads all k p older lt is same entries e =
       below = omega (arith, o, bound);
     }
 
--- an entry of another key is passed over
+-- an entry of another key is skipped
 pub passed_over : (all : List NewEntry) (k : StateKey) (place older : ℕ) → IsChain k all place → 0 < place → IsOlder all (place - 1) older → is_same_key k (entry_of all (place - 1)).key ≡ false
     → Leads k all place older []
 passed_over all k place older chain some is differs =

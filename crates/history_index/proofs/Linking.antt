@@ -49,7 +49,7 @@ module _ (n : ℕ) (links : List Link) (i older : ℕ) where
           (subst (IsLinked n (take i (hashes_of links))) (sym (get_or-set_same links i changed no_link within)) own)
       by (inr differs) = subst (IsLinked n (take j (hashes_of links))) (sym (get_or-set_other links i j changed no_link differs)) (linked j (omega arith))
 
--- one behind the others
+-- one after the others
 pub linked_push : (n : ℕ) (links : List Link) (l : Link) → AreLinked n links → IsLinked n (hashes_of links) l → AreLinked n (links ++ l ∷ [])
 linked_push n links l linked own i lt = by (leb_tells (length links) i)
   where

@@ -36,7 +36,7 @@ module _ {A : Type 0} (test : A → Bool) (xs : List A) where
       by [] l = absurd (omega arith)
       by (y ∷ ys) l = y
 
-  -- it isn't behind n
+  -- it isn't after n
   pub before-bound : (n : ℕ) → n ≤ length xs → before n ≤ n
   before-bound zero h = omega arith
   before-bound (suc n) h =
@@ -54,7 +54,7 @@ module _ {A : Type 0} (test : A → Bool) (xs : List A) where
       by true e rest = ap before e
       by false e rest = ap before e ∙ rest ∙ sym e
 
-  -- what passes another test, which nothing passes that fails this one, is all there before it
+  -- the items that pass another test, which implies this one, are all before it
   pub before-filter : (other : A → Bool) → ((x : A) → other x ≡ true → test x ≡ true)
       → (n : ℕ) → n ≤ length xs → filter other (take (before n) xs) ≡ filter other (take n xs)
   before-filter other only zero h = refl
@@ -79,7 +79,7 @@ module _ {A : Type 0} (test : A → Bool) (xs : List A) where
       by : (d : A) → n < length xs → filter other (take (before n) xs) ≡ filter other (take n xs) → filter other (take (before (suc n)) xs) ≡ filter other (take (suc n) xs)
       by d lt rest = at d lt (test (get_or xs n d)) refl (before-step n d lt) rest
 
-  -- what passes only where this test does has its last one before n before that one
+  -- another test that implies this one has the same last place before n as before that place
   pub before-narrow : (other : A → Bool) → ((x : A) → other x ≡ true → test x ≡ true)
       → (n : ℕ) → n ≤ length xs → last_place other (take (before n) xs) ≡ last_place other (take n xs)
   before-narrow other only zero h = refl

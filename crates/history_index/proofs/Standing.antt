@@ -1,4 +1,4 @@
--- Where entries stand, when a list more comes.
+-- Where entries are, when one list more comes.
 use Rattle.std.proofs.Common.{◌≡◌, ◌⊎◌, inl, inr, ℕ, ◌+◌, ◌-◌, ◌<◌, ◌≤◌, true, false, List, [], ◌∷◌, ◌++◌, length, replicate, get_or, sym, ap, subst, ◌∙◌, arith}
 use Rattle.std.specs.FinMap.{empty}
 use Rattle.std.proofs.Math.ListN.{get_or-append}
@@ -40,7 +40,7 @@ module _ (lists : List Listed) (l : Listed) where
     count : length numbers ≡ length list_of + length l.entries
     count = length-append list_of (replicate (length l.entries) (length lists)) ∙ ap (λ n. length list_of + n) (length-replicate (length l.entries) (length lists))
 
-    -- an earlier one stands where it stood
+    -- an earlier one is where it was
     earlier : (i : ℕ) → i < length list_of → IsWell i (get_or list_of i 0)
     earlier i lt =
         let n = get_or list_of i 0 in
@@ -55,7 +55,7 @@ module _ (lists : List Listed) (l : Listed) where
           }),
         )
 
-    -- one of the list stands in it
+    -- one of the list is in it
     later : (i : ℕ) → length list_of ≤ i → i < length numbers → IsWell i (length lists)
     later i le lt =
         let from : l.first ≤ i = omega arith in (

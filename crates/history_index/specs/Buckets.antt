@@ -17,7 +17,7 @@ hashes_of links = map (λ l. l.hash) links
 abbrev pub no_link : Link
 no_link = record { hash = 0; older = 0 }
 
--- behind these hashes it has the last place of its bucket
+-- after these hashes it has the last place of its bucket
 abbrev pub IsLinked : ℕ → List ℕ → Link → Type 0
 IsLinked n before l = l.older ≡ last_in n (bucket_of n l.hash) before
 

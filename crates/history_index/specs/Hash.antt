@@ -1,4 +1,4 @@
--- A step between the history and the code: the hash of a key. Which function it is matters to no contract.
+-- A step between the history and the code: the hash of a key. No contract depends on which function it is.
 use Rattle.std.specs.Prelude.{ℕ, ◌%◌}
 use Rattle.std.specs.Hash.FoldHasher.{initial, write, finish}
 use Rattle.rules.specs.State.{StateKey}

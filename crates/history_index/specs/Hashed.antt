@@ -1,4 +1,4 @@
--- Hashes of what stands at the places of a list, with room for more.
+-- Hashes of the items at the places of a list, with room for more.
 use Rattle.std.specs.Prelude.{ℕ, List, refl}
 use Rattle.std.specs.Coded.{Coded, code_by, coded×, coded_ℕ, coded_list}
 

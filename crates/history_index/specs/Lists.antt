@@ -1,4 +1,5 @@
--- A step between the history and the code: entries that stand in shared lists, one list behind the other, and their places, counted from 1.
+-- A step between the history and the code: entries in shared lists, one list after the other, and their places, counted
+-- from 1.
 use Rattle.std.specs.Prelude.{◌≡◌, ℕ, ◌+◌, ◌-◌, ◌<◌, ◌≤◌, List, [], length, map, take, get_or, None}
 use Rattle.std.specs.FinMap.{empty}
 use Rattle.std.specs.List.{flat_map}
@@ -11,7 +12,7 @@ use Rattle.rules.specs.History.{History, with_entries, entries_at}
 use Rattle.history_index.specs.declared.lists.Listed.{Listed}
 use Rattle.history_index.specs.Hash.{key_hash}
 
--- ---- where they stand
+-- ---- where they are
 
 abbrev pub all_entries : List Listed → List NewEntry
 all_entries lists = flat_map (λ l. l.entries) lists
@@ -22,13 +23,13 @@ no_entry = record { key = ([], []); entry = record { version = record { block = 
 abbrev pub no_list : Listed
 no_list = record { first = 0; entries = [] }
 
--- entry i of all stands in this list
+-- entry i of all is in this list
 pub record IsIn (all : List NewEntry) (i : ℕ) (l : Listed) : Type 0 where
   pub from : l.first ≤ i
   pub within : i - l.first < length l.entries
   pub same : get_or l.entries (i - l.first) no_entry ≡ get_or all i no_entry
 
--- each entry stands in the list whose number is kept for it
+-- each entry is in the list whose number is kept for it
 pub record AreIn (lists : List Listed) (list_of : List ℕ) : Type 0 where
   pub count : length list_of ≡ length (all_entries lists)
   pub numbers : (i : ℕ) → i < length list_of → get_or list_of i 0 < length lists

@@ -4,7 +4,7 @@ use rules::KeptEntry;
 use std::marker::Model;
 use values::{KeyRef, NameRef};
 
-/// The entries of a key, lent newest first. A contract sees the list of those that are left.
+/// The entries of a key, borrowed, newest first. A contract sees the list of those that are left.
 #[derive(Drop)]
 pub struct Entries<'a> {
     pub(crate) lists: &'a [Listed],

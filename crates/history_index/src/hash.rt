@@ -4,10 +4,10 @@ ghost use Rattle.history_index.specs.Hash.{key_hash};
 use std::hash::{FoldHasher, Hasher};
 use values::{KeyRef, NameRef};
 
-// so many hashes there are
+// how many hashes there are
 const HASHES: u64 = 1 << 32;
 
-/// By which entries are found.
+/// The hash by which entries are found.
 pub(crate) fn key_hash(namespace: &NameRef<'_>, key: &KeyRef<'_>) -> u32
     ensures { result ≡ key_hash (namespace.now, key.now) }
 {

@@ -8,14 +8,15 @@ use std::marker::Model;
 // places are counted by 32 bits
 const MAX_PLACES: usize = u32::MAX as usize;
 
-/// The hashes of what stands at the places of a list, from the first on. A contract sees the hashes, and the room for more.
+/// The hashes of the items at the places of a list, from the first on. A contract sees the hashes, and the room for
+/// more.
 #[derive(Drop)]
 pub(crate) struct HashIndex {
     // of all places, in their order
     links: Vec<Link>,
     // for each bucket the last place that is in it; a power of two of them, or none
     buckets: Vec<u32>,
-    // how many places more are sure to fit
+    // how many more places are sure to fit
     room: usize,
 }
 
@@ -62,9 +63,9 @@ impl HashIndex {
         self.room
     }
 
-    /// Makes room for so many places; refused where there would be 2^32 in all. An `Err` changes nothing. Linear in the places where
-    /// there would be more of them than buckets, which at least double then, so that all calls together are linear in the room that
-    /// they ask for.
+    /// Makes room for this many places; fails if there would be 2^32 in all. An `Err` changes nothing. Linear in the
+    /// places if there would be more of them than buckets, which at least double then, so that all calls together are
+    /// linear in the room that they request.
     pub(crate) fn reserve(&mut self, additional: usize) -> Result<(), AllocError>
         ensures ok { OnOk result (additional ≤ self.new.room) }
         ensures room { self.old.room ≤ self.new.room }
@@ -87,7 +88,7 @@ impl HashIndex {
         Ok(())
     }
 
-    /// Adds a place behind the others. Constant time, no memory.
+    /// Adds a place after the others. Constant time, no memory.
     pub(crate) fn push(&mut self, hash: u32)
         requires { 0 < self.old.room }
         ensures hashes { self.new.hashes ≡ self.old.hashes ++ hash ∷ [] }
@@ -99,7 +100,7 @@ impl HashIndex {
         self.room -= 1;
     }
 
-    /// The last place with this hash, counted from 1, or 0 where there is none. Constant time in the mean.
+    /// The last place with this hash, counted from 1, or 0 if there is none. Constant time on average.
     pub(crate) fn last(&self, hash: u32) -> usize
         ensures { result ≡ last_with hash self.now.hashes }
     {
@@ -110,7 +111,7 @@ impl HashIndex {
         last_from(self.links.as_slice(), place as usize, hash)
     }
 
-    /// The last place with the same hash before this one, or 0 where there is none. Constant time in the mean.
+    /// The last place with the same hash before this one, or 0 if there is none. Constant time on average.
     pub(crate) fn before(&self, place: usize) -> usize
         requires some { 0 < place }
         requires bound { place ≤ length self.now.hashes }

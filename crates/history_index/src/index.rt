@@ -21,7 +21,7 @@ pub struct HistoryIndex {
     list_of: Vec<u32>,
     // of all entries, in this order, by the hashes of their keys
     index: HashIndex,
-    // how many entries more are sure to fit, in one list
+    // how many more entries are sure to fit, in one list
     room: usize,
 }
 
@@ -76,8 +76,9 @@ impl HistoryIndex {
         self.room
     }
 
-    /// Makes room for a list of so many entries; refused where there would be 2^32 in all. An `Err` changes nothing. Linear in the
-    /// entries where the index grows, which it does seldom enough that all calls together are linear in the room that they ask for.
+    /// Makes room for a list of this many entries; fails if there would be 2^32 in all. An `Err` changes nothing.
+    /// Linear in the entries if the index grows, which it does seldom enough that all calls together are linear in the
+    /// room that they request.
     pub fn reserve(&mut self, additional: usize) -> Result<(), AllocError>
         ensures ok { OnOk result (additional ≤ self.new.room) }
         ensures room { self.old.room ≤ self.new.room }
@@ -91,7 +92,8 @@ impl HistoryIndex {
         Ok(())
     }
 
-    /// Adds entries one after the other, each the newest of its key. What room is left may be given up. Linear in them, no memory.
+    /// Adds entries one after the other, each the newest of its key. The room that is left may be given up. Linear in
+    /// them, no memory.
     pub fn add(&mut self, entries: Shared<Items<KeptEntry>>)
         requires { length entries ≤ self.old.room }
         ensures history { self.new.history ≡ with_entries self.old.history (entries_in entries) }
@@ -111,7 +113,8 @@ impl HistoryIndex {
         self.room = 0;
     }
 
-    /// The entries of a key, the newest first. Constant time in the mean, and so is each step: a key of the same hash is passed over.
+    /// The entries of a key, the newest first. Constant time on average, and so is each step: a key of the same hash is
+    /// skipped.
     pub fn entries<'a>(&'a self, namespace: &NameRef<'a>, key: &KeyRef<'a>) -> Entries<'a>
         ensures { result ≡ entries_at self.now.history (namespace.now, key.now) }
     {

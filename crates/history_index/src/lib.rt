@@ -1,4 +1,4 @@
-//! The value writes and deletes of each key, lent newest first.
+//! The value writes and deletes of each key, borrowed, newest first.
 #![tactic(auto)]
 
 mod entries;

@@ -2,14 +2,15 @@ ghost use Rattle.std.specs.Prelude.{◌≡◌, ◌<◌, ◌≤◌, ◌+◌, ◌^
 ghost use Rattle.history_index.specs.Places.{last_with};
 ghost use Rattle.history_index.specs.Buckets.{bucket_of, last_in, hashes_of, AreLinked, IsChain, KeepsLast, LeadBack};
 
-/// The hash of what stands at a place, and the last place before it that is in the same bucket. Places count from 1, 0 is none.
+/// The hash of the item at a place, and the last place before it that is in the same bucket. Places count from 1, 0 is
+/// none.
 #[derive(Clone, Copy)]
 pub(crate) struct Link {
     pub hash: u32,
     pub older: u32,
 }
 
-/// The bucket of a hash, of so many.
+/// The bucket of a hash, of this many buckets.
 pub(crate) fn bucket_of(buckets: usize, hash: u32) -> usize
     requires { 0 < buckets }
     ensures bucket { result ≡ bucket_of buckets hash }
@@ -18,7 +19,7 @@ pub(crate) fn bucket_of(buckets: usize, hash: u32) -> usize
     hash as usize & (buckets - 1)
 }
 
-/// Puts the next place into the bucket of its hash, and gives back the one that was the last there.
+/// Puts the next place into the bucket of its hash, and returns the one that was the last there.
 pub(crate) fn replace_last(buckets: &mut [u32], hash: u32, place: u32) -> u32
     requires { 0 < length buckets.old }
     ensures linked { (hashes : List ℕ) → KeepsLast buckets.old hashes → place ≡ length hashes + 1 → result ≡ last_in (length buckets.old) (bucket_of (length buckets.old) hash) hashes }

@@ -6,7 +6,7 @@ use crate::hash_index::HashIndex;
 use rules::KeptEntry;
 use values::{Items, KeyRef, NameRef, Shared};
 
-/// Entries that follow one another, as all indexes share them that have them.
+/// Entries that follow one another, shared by all indexes that have them.
 pub(crate) type SharedList = Shared<Items<KeptEntry>>;
 
 /// A list of entries, and how many there are in the lists before it.

@@ -1,4 +1,4 @@
--- What workers take in may go to another thread. As of the rules, it goes part by part.
+-- The results of workers may go to another thread. As in the rules, the proof goes field by field.
 use denote.Ref.{NamedLft}
 use denote.Param.Send.{IsSend, IsSync, struct_send, recorded_send}
 use denote.Struct.Declared.{shape}

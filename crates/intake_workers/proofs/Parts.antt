@@ -1,4 +1,4 @@
--- What was taken in of a block's parts is what is taken in of the block.
+-- The results for a block's parts, joined, are those for the block.
 use native.Mathlib.Omega.{arith}
 use native.Mathlib.Nat.{div-one}
 use Rattle.std.proofs.Common.{◌≡◌, ◌++◌, ◌<◌, ◌≤◌, ◌+◌, ◌-◌, ◌/◌, ◌∷◌, ◌∙◌, ℕ, List, [], length, map, take, drop, zero, suc, refl, ap, sym, subst, slice_index_or, append-nil, append_assoc, Option}
@@ -16,7 +16,7 @@ use Rattle.intake_workers.specs.declared.part.Part.{Part}
 use Rattle.intake_workers.specs.declared.taken_part.TakenPart.{TakenPart}
 use Rattle.intake_workers.specs.Parts.{part_of, all_of_parts, IsTakenPart}
 
--- The part with a number is the one with the number before it, of what is left behind the first part.
+-- The part with a number is the one with the number before it, of what is left after the first part.
 pub behind_first : {A : Type 0} (left number counter len : ℕ) (rest part : List A) → counter < number → len ≡ length rest / left → part_of left (number - counter) rest ≡ part
     → part_of (left - 1) (number - (counter + 1)) (take (length rest - len) (drop len rest)) ≡ part
 behind_first left number counter len rest part lt is so_far =
@@ -27,7 +27,7 @@ behind_first left number counter len rest part lt is so_far =
 pub no_longer : {A : Type 0} (len most : ℕ) (rest : List A) → length rest ≤ most → length (take (length rest - len) (drop len rest)) ≤ most
 no_longer len most rest le = omega (arith, le, length-drop len rest, length-take (length rest - len) (drop len rest))
 
--- What is made of pieces is as many, and fits what the pieces fit.
+-- The results for pieces are as many, and fit what the pieces fit.
 pub as_many : {P X : Type 0} (gives : P → X → Type 0) (pieces : List P) (all : List X) → AreMade gives pieces all → length all ≡ length pieces
 as_many gives [] [] made = refl
 as_many gives [] (one ∷ all) made = absurd made
@@ -45,20 +45,20 @@ made_fit gives fits says so (piece ∷ pieces) (one ∷ all) made each (suc plac
     made_fit gives (λ at. fits (suc at)) (λ at. says (suc at)) (λ at. so (suc at)) pieces all made.1
     (λ at next within same. each (suc at) next (omega (arith, within)) same) place slot (omega (arith, inside)) is
 
--- What was taken in of each of so many parts fits its place.
+-- The results for each of `count` parts fit its place.
 pub taken_fit : (channel : Configuration) (accepts : Accepts) (b : Block) (count : ℕ) (parts : List Part) (all : List TakenPart)
     → AreMade (λ (part : Part) (taken : TakenPart). IsTakenPart channel accepts b part.count part.number taken) parts all → Fits (λ number (part : Part). (part.count ≡ count) × (part.number ≡ number)) parts → Fits (IsTakenPart channel accepts b count) all
 taken_fit channel accepts b count parts all made each =
     made_fit (λ (part : Part) (taken : TakenPart). IsTakenPart channel accepts b part.count part.number taken) (λ number (part : Part). (part.count ≡ count) × (part.number ≡ number)) (IsTakenPart channel accepts b count)
     (λ place part taken is of. subst (λ x. x) (λ i. IsTakenPart channel accepts b (is.0 i) (is.1 i) taken) of) parts all made each
 
--- One list more is put behind the others.
+-- One list more is put after the others.
 pub one_list_more : (before after : List Taken) (part : TakenPart) (parts : List TakenPart) (all : List Taken) → after ≡ before ++ part.items.items → before ++ all_of_parts (part ∷ parts) ≡ all → after ++ all_of_parts parts ≡ all
 one_list_more before after part parts all is so_far =
     ap (λ l. l ++ all_of_parts parts) is ∙ (append_assoc before part.items.items (all_of_parts parts) ∙ so_far)
 
 module _ (channel : Configuration) (accepts : Accepts) (b : Block) where
-  -- what is taken in of transactions
+  -- the results for transactions
   abbrev of : List (List ℕ) → List (Option (List ℕ) × Candidate)
   of txs = map (taken_of channel accepts) (map (item_of b.version) txs)
 
@@ -67,7 +67,7 @@ module _ (channel : Configuration) (accepts : Accepts) (b : Block) where
       ap (map (taken_of channel accepts)) (map-append (item_of b.version) xs ys)
       ∙ map-append (taken_of channel accepts) (map (item_of b.version) xs) (map (item_of b.version) ys)
 
-  -- Where these are all parts of transactions, they come to them.
+  -- If these are all parts of transactions, they come to them.
   come_to : (count : ℕ) (txs : List (List ℕ)) (parts : List TakenPart) → length parts ≡ count → 0 < length parts
       → ((at : ℕ) (part : TakenPart) → at < length parts → part ≡ slice_index_or parts at part → map shown part.items.items ≡ of (part_of count at txs))
       → map shown (all_of_parts parts) ≡ of txs

@@ -1,4 +1,4 @@
-//! The transactions of a block are taken in by workers, in parts: what comes out is what one thread takes in.
+//! The transactions of a block are pre-checked by workers, in parts: the result is that of one thread.
 #![tactic(auto)]
 
 mod part;

@@ -3,7 +3,7 @@ ghost use Rattle.pieces.specs.Pieces.{Fits};
 
 use std::alloc::{AllocError, Global};
 
-/// One of so many parts of a block, by its number from 0. Parts are as long as one another, but for one transaction.
+/// One of `count` parts of a block, by its number from 0. The lengths of parts differ by at most one transaction.
 #[derive(Clone, Copy)]
 pub struct Part {
     pub count: usize,
@@ -20,7 +20,7 @@ impl Part {
         Part { count, number }
     }
 
-    /// All of so many, in their order.
+    /// All of this many parts, in their order.
     pub(crate) fn all(alloc: Global, count: usize) -> Result<Vec<Part>, AllocError>
         ensures len { IfOk result (λ parts. length parts.items ≡ count) }
         ensures parts { IfOk result (λ parts. Fits (λ number part. (part.count ≡ count) × (part.number ≡ number)) parts.items) }

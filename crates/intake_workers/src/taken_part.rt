@@ -1,4 +1,4 @@
-//! A block is taken in in parts, which several threads may take in at once, and joined.
+//! A block is pre-checked in parts, which several threads may do at once, and joined.
 ghost use Rattle.std.specs.Prelude.{◌≡◌, ◌<◌, ◌≤◌, ◌/◌, length, map, IfOk, IfSome};
 ghost use Rattle.header_hash.specs.Hashes.{data_hash_of};
 ghost use Rattle.intake.specs.Place.{taken_of, shown};
@@ -15,14 +15,14 @@ use policy_eval::Verify;
 use std::alloc::{AllocError, Global};
 use values::{Hash, Slice};
 
-/// What was taken in of a part; with the first one comes the block's data hash.
+/// The results for a part; those of the first one have the block's data hash.
 #[derive(Drop)]
 pub struct TakenPart<'a> {
     pub hash: Option<Hash>,
     pub items: Vec<Taken<'a>>,
 }
 
-/// How many of so many transactions the first of so many parts has.
+/// How many transactions the first of these parts has.
 fn len_of_first(txs: usize, parts: usize) -> usize
     requires { 0 < parts }
     ensures len { result ≡ txs / parts }
@@ -57,8 +57,8 @@ fn hash_with(block: &DecodedBlock<'_>, part: Part) -> Option<Hash>
     }
 }
 
-/// Takes in a part of a block, and with the first one hashes the whole block. Linear in the bytes that it hashes and in the part's
-/// signatures. An `Err` is want of memory alone.
+/// Pre-checks a part of a block, and with the first one hashes the whole block. Linear in the bytes that it hashes and
+/// in the part's signatures. The only `Err` is out of memory.
 pub fn take_in_part<'a, V: Verify, G: Gate>(
     alloc: Global,
     rules: &IntakeRules<'_, V, G>,
@@ -86,7 +86,7 @@ fn hash_in(block: &DecodedBlock<'_>, parts: &[TakenPart<'_>]) -> Hash
     hash_of(block)
 }
 
-/// What was taken in of parts, one behind the other, of so many items in all.
+/// The items of parts, one after the other, this many in all.
 fn items_of_parts<'a>(
     alloc: Global,
     items: usize,
@@ -102,7 +102,8 @@ fn items_of_parts<'a>(
     Ok(all)
 }
 
-/// Joins what was taken in of all parts of a block, in their order. One pass over its items. An `Err` is want of memory alone.
+/// Joins the results for all parts of a block, in their order. One pass over its items. The only `Err` is out of
+/// memory.
 pub fn join_parts<'a, V: Verify, G: Gate>(
     alloc: Global,
     rules: &IntakeRules<'_, V, G>,
@@ -114,7 +115,7 @@ pub fn join_parts<'a, V: Verify, G: Gate>(
     ensures block { IfOk result (λ t. t.block ≡ block.entry) }
     ensures items { IfOk result (λ t. map shown t.items.items ≡ map (taken_of rules.now.channel.now (V.accepts rules.now.verifier.now)) (items_of block.entry)) }
 {
-    // the rules by which the parts were taken in, for the clauses
+    // the rules by which the parts were pre-checked, for the contract
     let _rules = rules;
     let hash = hash_in(&block, parts.as_slice());
     let items = items_of_parts(alloc, block.txs().len(), parts)?;

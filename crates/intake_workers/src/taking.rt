@@ -1,4 +1,4 @@
-//! What a block is taken in by, and all of it, by one thread or by a crew.
+//! Pre-checking all of a block, by one thread or by a crew, and what that needs.
 ghost use Rattle.std.specs.Prelude.{◌≡◌, ◌≤◌, ◌<◌, length, map, IfOk};
 ghost use Rattle.header_hash.specs.Hashes.{data_hash_of};
 ghost use Rattle.transaction.specs.Items.{item_of};
@@ -22,7 +22,7 @@ use std::thread::Threads;
 use transaction::BlockVersion;
 use values::{Hash, Slice};
 
-/// By what transactions are taken in: whose rules hold, who verifies signatures, and the gate that each transaction passes first.
+/// What pre-checking needs: whose rules hold, who verifies signatures, and the gate that each transaction passes first.
 #[derive(Clone, Copy)]
 pub struct IntakeRules<'s, V, G> {
     pub channel: &'s Configuration,
@@ -30,7 +30,7 @@ pub struct IntakeRules<'s, V, G> {
     pub gate: &'s G,
 }
 
-// Other threads run behind so many transactions, and a part has no more where a crew takes the block in.
+// Other threads may run after this many transactions, and a part has no more if a crew pre-checks the block.
 const MOST_TXS: usize = 32;
 
 // So that few large transactions are spread over workers too.
@@ -39,7 +39,7 @@ const MOST_BYTES: usize = 1 << 20;
 // A thread of its own costs as much as a few transactions.
 const WORTH_A_THREAD: usize = 16;
 
-/// Takes in transactions of a block of this version, whose first one is at this place. Yields now and then if other
+/// Pre-checks transactions of a block of this version, whose first one is at this place. Yields now and then if other
 /// threads are at work too.
 pub(crate) fn take_txs<'a, V: Verify, G: Gate>(
     alloc: Global,
@@ -65,7 +65,8 @@ pub(crate) fn take_txs<'a, V: Verify, G: Gate>(
             bytes.as_slice(),
         )?)?;
         index = index.wrapping_add(1);
-        // threads at work may be more than processors, and who commits isn't to wait for one until the block is taken in
+        // there may be more threads at work than processors, and the commit thread must not wait for one until the
+        // block is pre-checked
         if !is_alone && index % MOST_TXS == 0 {
             thread::yield_now();
         }
@@ -73,7 +74,7 @@ pub(crate) fn take_txs<'a, V: Verify, G: Gate>(
     Ok(all)
 }
 
-/// A block, hashed, and what was taken in of its items, in order.
+/// A hashed block, and its pre-checked items, in order.
 #[derive(Drop)]
 pub struct TakenIn<'a> {
     pub block: HashedBlock<'a>,
@@ -87,7 +88,7 @@ pub(crate) fn hash_of(block: &DecodedBlock<'_>) -> Hash
     data_hash(block.txs())
 }
 
-/// Takes in all items of a block, and hashes it, by the calling thread alone.
+/// Pre-checks all items of a block, and hashes it, on the calling thread only.
 fn take_in_alone<'a, V: Verify, G: Gate>(
     alloc: Global,
     rules: &IntakeRules<'_, V, G>,
@@ -104,7 +105,7 @@ fn take_in_alone<'a, V: Verify, G: Gate>(
     })
 }
 
-/// That a part of a block becomes what is taken in of it.
+/// The work on a part of a block: pre-checking it.
 #[derive(Clone, Copy)]
 struct OfBlock<'w, 'a, 's, V, G> {
     rules: &'w IntakeRules<'s, V, G>,
@@ -119,7 +120,7 @@ impl<'w, 'a, 's, V: Verify, G: Gate> Work<Part, TakenPart<'a>> for OfBlock<'w, '
     }
 }
 
-/// In how many parts a crew takes these transactions in: parts of up to 32, or of about 1 MiB.
+/// In how many parts a crew pre-checks these transactions: parts of up to 32, or of about 1 MiB.
 fn parts_for(txs: &[Slice<'_>]) -> usize
     ensures { 0 < result }
 {
@@ -134,7 +135,7 @@ fn parts_for(txs: &[Slice<'_>]) -> usize
         .max(1)
 }
 
-/// What a crew takes in of so many parts of a block.
+/// What a crew returns for a block in `count` parts.
 fn taken_by<'a, R: Threads + Sync, V: Verify + Sync, G: Gate + Sync>(
     crew: &Crew<'_, R>,
     rules: &IntakeRules<'_, V, G>,
@@ -153,9 +154,10 @@ fn taken_by<'a, R: Threads + Sync, V: Verify + Sync, G: Gate + Sync>(
     in_pieces(&useful, parts.as_slice(), &OfBlock { rules, block })
 }
 
-/// Takes in all items of a block, and hashes it, by a crew: each takes parts in, of which none has more than 32 transactions, or
-/// about 1 MiB of few large ones. A thread that can't be started is done without. No more are started than there are parts, and
-/// none for fewer than 16 transactions. Linear in the block's bytes and its signatures. An `Err` is want of memory alone.
+/// Pre-checks all items of a block, and hashes it, by a crew: each thread takes parts, of which none has more than 32
+/// transactions, or about 1 MiB of few large ones. A thread that can't be started is skipped. No more are started than
+/// there are parts, and none for fewer than 16 transactions. Linear in the block's bytes and its signatures. The only
+/// `Err` is out of memory.
 pub fn take_in<'a, R: Threads + Sync, V: Verify + Sync, G: Gate + Sync>(
     crew: &Crew<'_, R>,
     rules: &IntakeRules<'_, V, G>,
