@@ -193,7 +193,7 @@ pub fn decode_block(alloc: Global, bytes: &[u8]) -> Result<Block<'_>, BlockFault
     // The fault that is returned is that of the bytes, and the fault of the bytes is returned.
     ensures fault { IfErr result (λ f. (f ≡ Memory) ⊎ HasFault bytes.now f) }
     ensures faulty { (f : BlockFault) → HasFault bytes.now f → GivesUnless Memory result (Err f) }
-    // A block that breaks off is rejected: within the magic as no block, after it as cut, wherever that is.
+    // A block that breaks off is rejected: within the magic as no block, after it as cut, at any place.
     ensures cut_magic { (rest : List ℕ) (b : Block) → Spells (bytes.now ++ rest) b → length bytes.now < 4 → GivesUnless Memory result (Err BadMagic) }
     ensures cut { (rest : List ℕ) (b : Block) → Spells (bytes.now ++ rest) b → 0 < length rest → 4 ≤ length bytes.now → GivesUnless Memory result (Err Truncated) }
 {

@@ -1,4 +1,4 @@
-//! The rules on the state, if it is given of each earlier transaction whether it counts.
+//! The rules on the state, given whether each earlier transaction counts.
 
 use crate::cases::{
     BLOCK, DEFINITIONS, JobCase, KEYS, KeyPlace, KeyUse, LETTERS, NAMESPACES, NewValue, Query,

@@ -1,4 +1,4 @@
--- Lists whose elements all pass a test.
+-- Lists whose elements all have a property.
 use Rattle.std.proofs.Common.{Bool, true, false, cond, List, [], ◌∷◌, ◌++◌, map, Some}
 use Rattle.std.specs.Prelude.{IfSome, find}
 use Rattle.std.specs.List.{AllByRecursion}

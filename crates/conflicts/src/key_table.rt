@@ -14,7 +14,7 @@ use reasons::Reason;
 use std::alloc::{AllocError, Global};
 use std::collections::BTreeMap;
 
-/// Gives a key a line, of no counts if it had none. An `Err` leaves each key's counts.
+/// Gives a key a line, of no counts if it had none. An `Err` leaves each key's counts unchanged.
 fn give_line(
     lines: &mut BTreeMap<ConflictKey, KeyCounts>,
     key: &ConflictKey,
@@ -29,7 +29,7 @@ fn give_line(
     Ok(())
 }
 
-/// Gives each key of these conflicts a line. An `Err` leaves each key's counts.
+/// Gives each key of these conflicts a line. An `Err` leaves each key's counts unchanged.
 pub(crate) fn give_lines(
     lines: &mut BTreeMap<ConflictKey, KeyCounts>,
     conflicts: &[Conflict],
@@ -77,7 +77,7 @@ pub(crate) fn count_all(
 }
 
 /// Counts what made transactions with these reasons invalid, if at most `total` were counted before. An `Err` leaves
-/// each key's counts.
+/// each key's counts unchanged.
 pub(crate) fn count_keys(
     alloc: Global,
     lines: &mut BTreeMap<ConflictKey, KeyCounts>,

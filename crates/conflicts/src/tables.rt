@@ -16,7 +16,8 @@ use reasons::Reason;
 use std::alloc::{AllocError, Global};
 use std::collections::BTreeMap;
 
-/// The endorsements that transactions with these reasons are missing, each with a line. Leaves what lines have.
+/// The endorsements that transactions with these reasons are missing, each with a line. Leaves each line's counts
+/// unchanged.
 fn found_lacks(
     alloc: Global,
     lacks: &mut BTreeMap<ConflictKey, KeyCounts>,
@@ -32,7 +33,7 @@ fn found_lacks(
 }
 
 /// Counts what made transactions with these reasons invalid, if at most `total` were counted before. An `Err` leaves
-/// what lines have.
+/// all counts unchanged.
 pub(crate) fn count_tables(
     alloc: Global,
     keys: &mut BTreeMap<ConflictKey, KeyCounts>,

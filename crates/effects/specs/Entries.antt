@@ -21,6 +21,6 @@ entry_written v id w = entry_at v id w.key w.value
 abbrev pub entries_written : Version → List ℕ → List WrittenKey → List (StateKey × HistoryEntry)
 entries_written v id ws = flat_map (entry_written v id) ws
 
--- They make the same history of any other as the entries of the candidates before i.
+-- Added to any history, they give what the entries of the candidates before i give.
 abbrev pub MakeHistory : Job → List NewEntry → ℕ → Type 0
 MakeHistory j es i = (h : History) → with_entries h (entries_in es) ≡ with_entries h (entries_to j i)

@@ -7,7 +7,7 @@ use std::alloc::{AllocError, Global};
 use transaction::Tx;
 use values::{Bytes, Part, Shared};
 
-// how many bytes the length of the channel's name takes, after which the id follows
+// how many bytes the length of the channel's name takes; the id follows the name
 const NAME_COUNT: usize = 1;
 
 // of a key that was written nowhere yet

@@ -1,4 +1,4 @@
--- A buffer's first bytes after an element was written after them.
+-- A buffer's first bytes, with an element written after them.
 use Rattle.std.proofs.Common.{◌≡◌, ℕ, ◌+◌, List, ◌++◌, length, take, ap, ◌∙◌, append_assoc, length-append, arith}
 use Rattle.std.proofs.lemmas.List.{take_at}
 

@@ -63,9 +63,9 @@ impl HashIndex {
         self.room
     }
 
-    /// Makes room for this many places; fails if there would be 2^32 in all. An `Err` changes nothing. Linear in the
-    /// places if there would be more of them than buckets, which at least double then, so that all calls together are
-    /// linear in the room that they request.
+    /// Makes room for this many places; fails if there would be 2^32 or more in all. An `Err` changes nothing. Linear
+    /// in the places if there would be more of them than buckets, which at least double then, so that all calls
+    /// together are linear in the room that they request.
     pub(crate) fn reserve(&mut self, additional: usize) -> Result<(), AllocError>
         ensures ok { OnOk result (additional ≤ self.new.room) }
         ensures room { self.old.room ≤ self.new.room }

@@ -76,9 +76,9 @@ impl HistoryIndex {
         self.room
     }
 
-    /// Makes room for a list of this many entries; fails if there would be 2^32 in all. An `Err` changes nothing.
-    /// Linear in the entries if the index grows, which it does seldom enough that all calls together are linear in the
-    /// room that they request.
+    /// Makes room for a list of this many entries; fails if there would be 2^32 or more in all. An `Err` changes
+    /// nothing. Linear in the entries if the index grows, which it does seldom enough that all calls together are
+    /// linear in the room that they request.
     pub fn reserve(&mut self, additional: usize) -> Result<(), AllocError>
         ensures ok { OnOk result (additional ≤ self.new.room) }
         ensures room { self.old.room ≤ self.new.room }

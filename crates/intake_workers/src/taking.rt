@@ -120,7 +120,7 @@ impl<'w, 'a, 's, V: Verify, G: Gate> Work<Part, TakenPart<'a>> for OfBlock<'w, '
     }
 }
 
-/// In how many parts a crew pre-checks these transactions: parts of up to 32, or of about 1 MiB.
+/// In how many parts a crew pre-checks these transactions: parts of up to 32, or of about 1 MiB on average.
 fn parts_for(txs: &[Slice<'_>]) -> usize
     ensures { 0 < result }
 {
@@ -154,10 +154,10 @@ fn taken_by<'a, R: Threads + Sync, V: Verify + Sync, G: Gate + Sync>(
     in_pieces(&useful, parts.as_slice(), &OfBlock { rules, block })
 }
 
-/// Pre-checks all items of a block, and hashes it, by a crew: each thread takes parts, of which none has more than 32
-/// transactions, or about 1 MiB of few large ones. A thread that can't be started is skipped. No more are started than
-/// there are parts, and none for fewer than 16 transactions. Linear in the block's bytes and its signatures. The only
-/// `Err` is out of memory.
+/// Pre-checks all items of a block, and hashes it, by a crew: each thread takes parts, of at most 32 transactions, or
+/// of about 1 MiB on average if there are few large ones. A thread that can't be started is skipped. No more are
+/// started than there are parts, and none for fewer than 16 transactions. Linear in the block's bytes and its
+/// signatures. The only `Err` is out of memory.
 pub fn take_in<'a, R: Threads + Sync, V: Verify + Sync, G: Gate + Sync>(
     crew: &Crew<'_, R>,
     rules: &IntakeRules<'_, V, G>,
