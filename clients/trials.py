@@ -169,8 +169,9 @@ class Trials:
         ]
 
     def of_go(self):
-        program = self.work / "run_go"
+        program, explain = self.work / "run_go", self.work / "explain_go"
         build = ["go", "build", "-tags", "nopkgconfig", "-o", program, "./cmd/run"]
+        build_explain = ["go", "build", "-tags", "nopkgconfig", "-o", explain, "./cmd/explain"]
         test = ["go", "test", "-tags", "nopkgconfig", "./..."]
         env = {
             "CGO_CFLAGS": f"-I{TOP / 'include'}", "CGO_LDFLAGS": " ".join(map(str, self.archives)), "GOFLAGS": "-mod=mod",
@@ -178,6 +179,7 @@ class Trials:
         }
         return [
             Trial("Go", "go", [build], [program, *self.blocks], env, CLIENTS / "go", **self.run),
+            Trial("Go, which explains", "go", [build_explain], [explain, *self.explained], env, CLIENTS / "go", **self.explain),
             Trial("Go, its tests", "go", [test], ["true"], env, CLIENTS / "go"),
             Trial("Go, which checks", "go", [build], [program, "-verify", *self.blocks], env, CLIENTS / "go", **self.run),
         ]

@@ -1,94 +1,91 @@
-// Package fabcommit is the ledger of a committing peer, by include/fabcommit.h.
-//
-// It is linked by pkg-config, or, with the build tag nopkgconfig, by CGO_CFLAGS and CGO_LDFLAGS alone.
 package fabcommit
 
-// #cgo !nopkgconfig pkg-config: fabcommit
 // #include "fabcommit.h"
 // #include <stdlib.h>
 import "C"
 
 import (
-	"fmt"
 	"runtime"
 	"sync"
 	"unsafe"
 )
 
-// Refused tells why a call was refused: a code, and what was told of the block.
-type Refused struct {
-	Code        uint32
-	Number, Got uint64
-}
-
-func (r Refused) Error() string { return fmt.Sprintf("code %d", r.Code) }
-
-// Receipt tells of an accepted block, and how many flags it has.
+// Receipt tells of an accepted block.
 type Receipt struct {
-	Number                 uint64
+	Number uint64
+	// Flags is how many flags it has: one for each transaction.
 	Flags                  int
 	HeaderHash, CommitHash [32]byte
 }
 
-// Request is a signature, with who is said to have signed what.
-type Request struct {
-	Org, Label, Message, Signature []byte
-	Role                           uint8
+// Ledger is a channel's ledger. Several goroutines may use it: calls wait for each other. It is freed by Close, or once
+// nothing refers to it.
+type Ledger struct {
+	mutex sync.Mutex
+	// C allocates the handle, so that no pointer of C's is in Go's memory.
+	handle *C.fabcommit_handle
 }
 
-// Verify tells whether a signature is good. It may be asked by several goroutines at once.
-type Verify func(Request) bool
-
-// Ledger is a channel's ledger, for one call at a time: each goroutine has one of its own, by Share. C allocates the
-// handle, so that no pointer of C's stands in Go's memory.
-type Ledger struct{ handle *C.fabcommit_handle }
-
-// ErrShared refuses a block while another Ledger shares the ledger.
-var ErrShared = Refused{Code: C.FABCOMMIT_SHARED}
-
-func at(bytes []byte) *C.uint8_t {
-	if len(bytes) == 0 {
-		return (*C.uint8_t)(unsafe.Pointer(&none[0]))
-	}
-	return (*C.uint8_t)(unsafe.Pointer(&bytes[0]))
-}
-
-// no pointer is null, also of an empty buffer
-var none [1]byte
-
-// opened gives the ledger of the handle that a call opens.
-func opened(call func(*C.fabcommit_handle) C.uint32_t) (*Ledger, error) {
-	handle := (*C.fabcommit_handle)(C.calloc(1, handleRoom))
-	if code := call(handle); code != C.FABCOMMIT_OK {
-		C.free(unsafe.Pointer(handle))
-		return nil, Refused{Code: uint32(code)}
-	}
-	return &Ledger{handle}, nil
-}
-
-// handleRoom keeps handles on different cache lines, since each call writes its handle.
+// Each call writes its handle, so handles are on different cache lines.
 const handleRoom = 128
 
-// Open gives the ledger of height 0 of a channel's text, with a text of keys if the library checks signatures.
+// opened returns the ledger of the handle that a call opens.
+func opened(call func(*C.fabcommit_handle) C.uint32_t) (*Ledger, error) {
+	handle := (*C.fabcommit_handle)(C.calloc(1, handleRoom))
+	if handle == nil {
+		return nil, ErrMemory
+	}
+	if err := refusal(call(handle)); err != nil {
+		C.free(unsafe.Pointer(handle))
+		return nil, err
+	}
+	ledger := &Ledger{handle: handle}
+	runtime.SetFinalizer(ledger, (*Ledger).Close)
+	return ledger, nil
+}
+
+// Open returns the ledger of height 0 of a channel's text, with a text of keys if the library is to check signatures.
 func Open(channel, keys []byte) (*Ledger, error) {
+	if library := LibraryVersions().Interface; library != ownInterface {
+		return nil, Refused{Code: ErrInterface.Code, Number: ownInterface, Got: uint64(library)}
+	}
 	return opened(func(handle *C.fabcommit_handle) C.uint32_t {
 		return C.fabcommit_open(handle, at(channel), C.size_t(len(channel)), at(keys), C.size_t(len(keys)))
 	})
 }
 
-// Share gives one more Ledger of the same ledger and keys, for another goroutine: both may be queried at the same time.
-// While more than one is open, a block is refused with ErrShared: close all but one, submit, and share again.
+// with calls a function with the handle, unless the ledger is closed.
+func (l *Ledger) with(call func(*C.fabcommit_handle) C.uint32_t) C.uint32_t {
+	l.mutex.Lock()
+	defer l.mutex.Unlock()
+	if l.handle == nil {
+		return C.FABCOMMIT_CLOSED
+	}
+	return call(l.handle)
+}
+
+// Share returns one more Ledger of the same ledger and keys, so that both are queried at the same time. While there are
+// two or more, a block is refused with ErrShared: close all but one, submit, and share again.
 func (l *Ledger) Share() (*Ledger, error) {
-	return opened(func(handle *C.fabcommit_handle) C.uint32_t { return C.fabcommit_share(l.handle, handle) })
+	return opened(func(other *C.fabcommit_handle) C.uint32_t {
+		return l.with(func(handle *C.fabcommit_handle) C.uint32_t { return C.fabcommit_share(handle, other) })
+	})
 }
 
-// Close frees what the ledger holds, unless others share it. It isn't used after that.
+// Close frees what the ledger holds, but what others share stays theirs. Later calls return ErrClosed; a second Close
+// does nothing.
 func (l *Ledger) Close() {
-	C.fabcommit_close(l.handle)
-	C.free(unsafe.Pointer(l.handle))
+	l.mutex.Lock()
+	defer l.mutex.Unlock()
+	if l.handle != nil {
+		C.fabcommit_close(l.handle)
+		C.free(unsafe.Pointer(l.handle))
+		l.handle = nil
+		runtime.SetFinalizer(l, nil)
+	}
 }
 
-func told(code C.uint32_t, r *C.fabcommit_receipt) (Receipt, error) {
+func receiptOf(code C.uint32_t, r *C.fabcommit_receipt) (Receipt, error) {
 	if code != C.FABCOMMIT_OK {
 		return Receipt{}, Refused{uint32(code), uint64(r.number), uint64(r.got)}
 	}
@@ -99,85 +96,62 @@ func told(code C.uint32_t, r *C.fabcommit_receipt) (Receipt, error) {
 	return receipt, nil
 }
 
-// Submit hands in a block, whose signatures are checked by the keys.
+// Submit hands in the next block, whose signatures are checked by the keys.
 func (l *Ledger) Submit(block []byte) (Receipt, error) {
 	var r C.fabcommit_receipt
-	return told(C.fabcommit_submit(l.handle, at(block), C.size_t(len(block)), &r), &r)
+	code := l.with(func(handle *C.fabcommit_handle) C.uint32_t {
+		return C.fabcommit_submit(handle, at(block), C.size_t(len(block)), &r)
+	})
+	return receiptOf(code, &r)
 }
 
-// SubmitBy hands in a block, whose signatures are checked by a verifier, side by side.
+// SubmitBy hands in the next block, whose signatures are checked by a verifier, in goroutines.
 func (l *Ledger) SubmitBy(block []byte, verify Verify) (Receipt, error) {
 	listing, err := List(block)
 	if err != nil {
-		return l.Submit(block) // which says why it is no block
+		// the ledger says more of what is no block
+		return l.Submit(block)
 	}
 	listing.Answer(verify)
 	return l.SubmitListing(listing)
 }
 
-// SubmitListing hands in a block whose signatures were checked.
+// SubmitListing hands in the next block, whose signatures were checked.
 func (l *Ledger) SubmitListing(listing *Listing) (Receipt, error) {
 	var r C.fabcommit_receipt
-	var first C.fabcommit_verdict
-	block, pool, v := listing.block, listing.pool, &first
-	if len(listing.verdicts) > 0 {
-		v = &listing.verdicts[0]
-	}
-	count := C.size_t(len(listing.verdicts))
-	code := C.fabcommit_submit_by(l.handle, at(block), C.size_t(len(block)), at(pool), C.size_t(len(pool)), v, count, &r)
-	return told(code, &r)
+	block, pool, verdicts := listing.block, listing.pool, listing.verdicts
+	code := l.with(func(handle *C.fabcommit_handle) C.uint32_t {
+		return C.fabcommit_submit_by(
+			handle, at(block), C.size_t(len(block)), at(pool), C.size_t(len(pool)), first(verdicts), C.size_t(len(verdicts)), &r,
+		)
+	})
+	return receiptOf(code, &r)
 }
 
-// Listing has the signatures that a block may ask about. It needs no ledger, so blocks may be listed and checked before
-// their turn.
-type Listing struct {
-	block, pool []byte
-	verdicts    []C.fabcommit_verdict
+// Height returns the number of the next block.
+func (l *Ledger) Height() (uint64, error) {
+	var height C.uint64_t
+	code := l.with(func(handle *C.fabcommit_handle) C.uint32_t { return C.fabcommit_height(handle, &height) })
+	return uint64(height), refusal(code)
 }
 
-// List gives those of a block, none of which is accepted at first.
-func List(block []byte) (*Listing, error) {
-	var sizes C.fabcommit_sizes
-	var first C.fabcommit_verdict
-	code := C.fabcommit_list(at(block), C.size_t(len(block)), at(nil), 0, &first, 0, &sizes)
-	if code == C.FABCOMMIT_OK {
-		return &Listing{block: block}, nil
-	}
-	if code != C.FABCOMMIT_SMALL {
-		return nil, Refused{Code: uint32(code)}
-	}
-	pool, verdicts := make([]byte, sizes.pool), make([]C.fabcommit_verdict, sizes.verdicts)
-	code = C.fabcommit_list(at(block), C.size_t(len(block)), at(pool), sizes.pool, &verdicts[0], sizes.verdicts, &sizes)
-	if code != C.FABCOMMIT_OK {
-		return nil, Refused{Code: uint32(code)}
-	}
-	return &Listing{block, pool, verdicts}, nil
+// Block returns the receipt of an accepted block. If there is none of this number, the error is ErrNone.
+func (l *Ledger) Block(number uint64) (Receipt, error) {
+	var r C.fabcommit_receipt
+	code := l.with(func(handle *C.fabcommit_handle) C.uint32_t {
+		return C.fabcommit_block(handle, C.uint64_t(number), &r)
+	})
+	return receiptOf(code, &r)
 }
 
-// Answer has a verifier answer each request, in goroutines.
-func (l *Listing) Answer(verify Verify) {
-	part := func(p C.fabcommit_piece) []byte { return l.pool[p.at : p.at+p.len] }
-	workers := runtime.GOMAXPROCS(0)
-	var done sync.WaitGroup
-	for w := 0; w < workers; w++ {
-		done.Add(1)
-		go func(w int) {
-			defer done.Done()
-			for i := w; i < len(l.verdicts); i += workers {
-				v := &l.verdicts[i]
-				v.accepted = C.bool(verify(Request{part(v.org), part(v.label), part(v.message), part(v.signature), uint8(v.role)}))
-			}
-		}(w)
+// Flags returns the flags of an accepted block, one for each transaction, or ErrNone.
+func (l *Ledger) Flags(number uint64) ([]Flag, error) {
+	octets, err := l.octets(func(handle *C.fabcommit_handle, flags *C.uint8_t, room C.size_t, length *C.size_t) C.uint32_t {
+		return C.fabcommit_flags(handle, C.uint64_t(number), flags, room, length)
+	})
+	flags := make([]Flag, len(octets))
+	for i, octet := range octets {
+		flags[i] = Flag(octet)
 	}
-	done.Wait()
-}
-
-// Flags gives those of an accepted block.
-func (l *Ledger) Flags(r Receipt) ([]byte, error) {
-	flags, length := make([]byte, r.Flags), C.size_t(0)
-	code := C.fabcommit_flags(l.handle, C.uint64_t(r.Number), at(flags), C.size_t(len(flags)), &length)
-	if code != C.FABCOMMIT_OK {
-		return nil, Refused{Code: uint32(code)}
-	}
-	return flags, nil
+	return flags, err
 }

@@ -89,7 +89,7 @@ func (m member) sign(message []byte) []byte {
 }
 
 func (n *network) verify(r fabcommit.Request) bool {
-	certificate, there := n.certificates[string(identity(string(r.Org), r.Role, string(r.Label)))]
+	certificate, there := n.certificates[string(identity(string(r.Org), byte(r.Role), string(r.Label)))]
 	digest := sha256.Sum256(r.Message)
 	return there && ecdsa.VerifyASN1(certificate.PublicKey.(*ecdsa.PublicKey), digest[:], r.Signature)
 }
@@ -138,7 +138,7 @@ func timeMade(size int) {
 		receipt := must(ledger.SubmitListing(listing))
 		whole := time.Since(began)
 		valid := 0
-		for _, flag := range must(ledger.Flags(receipt)) {
+		for _, flag := range must(ledger.Flags(receipt.Number)) {
 			if flag == 0 {
 				valid++
 			}

@@ -7,6 +7,7 @@ import (
 	"crypto/hmac"
 	"crypto/sha256"
 	"encoding/hex"
+	"errors"
 	"fabcommit"
 	"flag"
 	"fmt"
@@ -14,8 +15,6 @@ import (
 	"os"
 	"strings"
 )
-
-var roles = []string{"admin", "client", "peer", "orderer"}
 
 // wordBytes gives what a word spells: %XX is a byte, % alone no bytes.
 func wordBytes(word string) string {
@@ -37,7 +36,7 @@ func verifier(text []byte) fabcommit.Verify {
 		}
 	}
 	return func(r fabcommit.Request) bool {
-		key, there := keys[string(r.Org)+":"+roles[r.Role]+":"+string(r.Label)]
+		key, there := keys[string(r.Org)+":"+r.Role.String()+":"+string(r.Label)]
 		code := hmac.New(sha256.New, key)
 		code.Write(r.Message)
 		return there && hmac.Equal(code.Sum(nil), r.Signature)
@@ -54,13 +53,13 @@ func read(path string) []byte {
 }
 
 func refusal(place int, r fabcommit.Refused) string {
-	switch r.Code {
-	case 1:
+	switch {
+	case errors.Is(r, fabcommit.ErrMalformed):
 		return fmt.Sprintf("refused %d C1 B%d", place, r.Got)
-	case 5:
-		return fmt.Sprintf("refused %d C8", place)
-	case 2:
+	case errors.Is(r, fabcommit.ErrWrongNumber):
 		return fmt.Sprintf("refused %d C2 want %d got %d", place, r.Number, r.Got)
+	case errors.Is(r, fabcommit.ErrOldVersion):
+		return fmt.Sprintf("refused %d C8", place)
 	}
 	return fmt.Sprintf("refused %d C%d", place, r.Code)
 }
@@ -93,15 +92,16 @@ func main() {
 		} else {
 			receipt, err = ledger.Submit(block)
 		}
-		if refused, is := err.(fabcommit.Refused); is {
+		var refused fabcommit.Refused
+		if errors.As(err, &refused) {
 			fmt.Println(refusal(i+1, refused))
 			status = 1
 			continue
 		}
-		flags, _ := ledger.Flags(receipt)
+		flags := must(ledger.Flags(receipt.Number))
 		fmt.Printf("accepted %d %x", receipt.Number, receipt.HeaderHash)
 		for _, f := range flags {
-			fmt.Printf(" %d", f)
+			fmt.Printf(" %d", uint8(f))
 		}
 		fmt.Println()
 	}
