@@ -2,9 +2,9 @@ ghost use Rattle.std.specs.Prelude.{◌≡◌, ⊤, ℕ, List, Err, IfOk, OnOk};
 ghost use Rattle.command_files.specs.declared.files.FileFault.TheVariants.{Inaccessible};
 
 use std::alloc::Global;
-use std::fs::File;
+use std::fs::{File, OpenFile};
+use std::io;
 use std::io::{Read, Write};
-use std::{fs, io};
 use values::Bytes;
 
 /// Why a file wasn't read or written: the system refused it, or memory ran out.
@@ -61,10 +61,12 @@ impl<'a, R> DiskFiles<'a, R> {
     }
 }
 
-// A list for what the file of this path holds, with room for its length where the system tells that and memory is there.
-fn list_for<R: std::rt::Files>(rt: &R, alloc: Global, path: &str) -> Vec<u8> {
+// A list for what the file holds, with room for its length if the system has that and memory is there.
+fn list_for<F: OpenFile>(file: &F, alloc: Global) -> Vec<u8> {
     // One more, so that the read which finds the end needs no room.
-    let len = fs::metadata(rt, path).map_or(0, |found| found.len().saturating_add(1));
+    let len = file
+        .metadata()
+        .map_or(0, |found| found.len().saturating_add(1));
     let room = usize::try_from(len).unwrap_or(0);
     Vec::with_capacity(alloc, room).unwrap_or(Vec::new(alloc))
 }
@@ -72,7 +74,7 @@ fn list_for<R: std::rt::Files>(rt: &R, alloc: Global, path: &str) -> Vec<u8> {
 impl<R: std::rt::Files> Files for DiskFiles<'_, R> {
     fn read(&self, alloc: Global, path: &str) -> Result<Bytes, FileFault> {
         let mut file = File::open(self.rt, path)?;
-        let mut bytes = list_for(self.rt, alloc, path);
+        let mut bytes = list_for(&file, alloc);
         file.read_to_end(&mut bytes)?;
         Ok(Bytes::from_vec(bytes))
     }

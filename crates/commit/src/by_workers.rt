@@ -4,6 +4,7 @@ ghost use Rattle.key_chains.specs.Job.{keys_in, reads_in};
 ghost use Rattle.state_db.specs.LookedUp.{AreRows};
 ghost use Rattle.block.specs.Limits.{max_txs};
 ghost use Rattle.rules.specs.declared.answer.Refused.TheVariants.{Memory};
+ghost use Rattle.rules.specs.Fold as fold;
 ghost use Rattle.rules.specs.Names.{HasNamesOf};
 ghost use Rattle.next_block.specs.NextDelta.{IsDeltaOfJob};
 ghost use Rattle.commit.specs.Prepared.{IsNextDeltaOr, IsNextOfHashed, IsPrepared, IsTakenIn};
@@ -12,13 +13,14 @@ use crate::block_bytes::BlockBytes;
 use crate::context::Context;
 use crate::prepared::{Prepared, prepare};
 use check_workers::check_all;
-use gates::Gate;
+use gates::{Gate, Phase};
 use key_chains::{BlockRows, Job, KeyWriters, read_rows};
 use linking::{HashedBlock, LinkedBlock};
 use next_block::{NextBlock, PendingDelta, flag_duplicates, job_over, pending_delta_of};
 use policy_eval::Verify;
 use row_workers::rows_by;
-use rules::Refused;
+use rules::{Flag, Refused};
+use serial_checks::flags;
 use state_db::{FoundRows, StateDb};
 use std::alloc::AllocError;
 use std::sync::Wait;
@@ -91,6 +93,28 @@ fn rows_before<'s, R: Threads + Sync, V, G>(
     Ok(BlockRows { written, read })
 }
 
+/// The flags of a job's candidates; and how many verdicts no worker had found. One worker checks them in order, without
+/// tasks, and passes the gate once.
+fn flags_of<R: Threads + Wait + Sync, V, G: Gate + Sync>(
+    context: &Context<'_, R, V, G>,
+    job: &Job<'_, '_>,
+) -> Result<(Vec<Flag>, u32), AllocError>
+    ensures { IfOk result (λ r. r.0.items ≡ fold.flags job.now) }
+{
+    if context.workers.count == 1 {
+        context.gate.at(Phase::Endorse, 0);
+        return Ok((flags(context.alloc, job)?, 0));
+    }
+    let checked = check_all(
+        context.rt,
+        context.alloc,
+        job,
+        context.workers.count,
+        context.gate,
+    )?;
+    Ok((checked.flags, checked.gathered))
+}
+
 /// The delta of the next block, but for its commit hash, of its job and ids; and how many verdicts no worker had found.
 fn checked_delta<R: Threads + Wait + Sync, V, G: Gate + Sync>(
     context: &Context<'_, R, V, G>,
@@ -102,15 +126,9 @@ fn checked_delta<R: Threads + Wait + Sync, V, G: Gate + Sync>(
     requires few { length ids.now ≤ max_txs }
     ensures { MatchResult result (λ r. IsDeltaOfJob job.now ids.now next.entry.last next.entry.bytes next.entry.block.now r.0) (λ refused. refused ≡ Memory) }
 {
-    let checked = check_all(
-        context.rt,
-        context.alloc,
-        job,
-        context.workers.count,
-        context.gate,
-    )?;
-    let pending = pending_delta_of(context.alloc, next, job, ids, checked.flags)?;
-    Ok((pending, checked.gathered))
+    let (flags, gathered) = flags_of(context, job)?;
+    let pending = pending_delta_of(context.alloc, next, job, ids, flags)?;
+    Ok((pending, gathered))
 }
 
 /// What the block that was taken in would change, but for its commit hash, or why it would be refused; and how many
