@@ -49,8 +49,11 @@ fields_sync ℓ κ = recorded_sync _ _ ((inside.the_type ℓ κ).to) ((inside.th
           (
             (search crossing depth 20 fits 10000),
             (
-              (search (crossing, policy_send, policy_sync) depth 40 fits 100000),
-              tt,
+              (search crossing depth 20 fits 10000),
+              (
+                (search (crossing, policy_send, policy_sync) depth 40 fits 100000),
+                tt,
+              ),
             ),
           ),
         ),
