@@ -8,7 +8,7 @@ use Rattle.key_chains.proofs.chains.Chains.TheSendSync as chains
 use Rattle.key_chains.specs.contracts.key_writers.KeyWriters as key_writers
 use Rattle.linking.specs.contracts.linked.HashedBlock as hashed
 use Rattle.next_block.specs.contracts.tentative.TentativeJob as tentative
-use Rattle.commit.specs.contracts.prepared.Prepared as prepared
+use Rattle.next_block.specs.contracts.prepared.Prepared as prepared
 
 pub ruleset crossing = (intake.crossing, chains.the_send)
 

@@ -6,7 +6,7 @@ use Rattle.channel.specs.Configuration.{Configuration}
 use Rattle.policy_eval.specs.Accepts.{Accepts}
 use Rattle.rules.specs.declared.answer.Refused.{Refused}
 use Rattle.rules.specs.World.{World}
-use Rattle.commit.specs.declared.prepared.Prepared.{Prepared}
+use Rattle.next_block.specs.declared.prepared.Prepared.{Prepared}
 use Rattle.commit.specs.Prepared.{MayBeTakenIn, MayWait}
 
 pub waits : (channel : Configuration) (accepts : Accepts) (bytes : List ℕ) (made : Result (Result Prepared Refused) AllocError) (next : Option (Result Prepared Refused)) (w : World)

@@ -1,29 +1,20 @@
 -- What was taken in of a block before its world is known. No public contract cites this.
-use Rattle.std.specs.Prelude.{◌≡◌, ℕ, List, Option, Result, IfSome, MatchResult}
+use Rattle.std.specs.Prelude.{ℕ, List, Option, Result, IfSome, MatchResult}
 use Rattle.block.specs.declared.block.Block.{Block}
 use Rattle.block.specs.Grammar.{Spells}
 use Rattle.channel.specs.Configuration.{Configuration}
-use Rattle.intake.specs.declared.taking.Taken.{Taken}
 use Rattle.intake_workers.specs.declared.taken_part.TakenPart.{TakenPart}
 use Rattle.intake_workers.specs.Parts.{IsTakenPart}
-use Rattle.next_block.specs.Tentative.{AreTentativeIn}
+use Rattle.next_block.specs.declared.prepared.Prepared.{Prepared}
 use Rattle.next_block.specs.NextDelta.{IsNextDelta}
-use Rattle.next_block.specs.Taken.{IsTaken}
+use Rattle.next_block.specs.Prepared.{IsPrepared}
 use Rattle.policy_eval.specs.Accepts.{Accepts}
 use Rattle.rules.specs.declared.answer.Refused.{Refused}
 use Rattle.rules.specs.declared.delta.Delta.{Delta}
-use Rattle.rules.specs.Linked.{IsLinked, IsRefused, IsUnlinked}
+use Rattle.rules.specs.Linked.{IsRefused}
 use Rattle.rules.specs.World.{World}
-use Rattle.commit.specs.declared.prepared.Prepared.{Prepared}
 
--- what was tentative of what was taken in of the block that these bytes spell
-pub record IsPrepared (channel : Configuration) (accepts : Accepts) (bytes : List ℕ) (p : Prepared) : Type 0 where
-  pub taken : List Taken
-  pub is_taken : IsTaken channel accepts bytes p.block taken
-  pub tentative : AreTentativeIn taken p.tentative
-  pub kept : p.bytes ≡ bytes
-
--- this, or why the bytes are refused by this world
+-- what was taken in of the block that these bytes spell, or why the bytes are refused by this world
 abbrev pub IsTakenIn : Configuration → Accepts → World → List ℕ → Result Prepared Refused → Type 0
 IsTakenIn channel accepts w bytes r = MatchResult r (IsPrepared channel accepts bytes) (IsRefused w bytes)
 
@@ -42,7 +33,3 @@ MayWait channel accepts w bytes next = IfSome next (IsTakenIn channel accepts w 
 -- the delta of the next block, with a number of which nothing is said; or why the bytes are refused
 abbrev pub IsNextDeltaOr : Configuration → Accepts → World → List ℕ → Result (Delta × ℕ) Refused → Type 0
 IsNextDeltaOr channel accepts w bytes r = MatchResult r (λ d. IsNextDelta channel accepts w bytes d.0) (IsRefused w bytes)
-
--- the block that was hashed, which is the next one of the world; or why it isn't
-abbrev pub IsNextOfHashed : World → Block → Result Block Refused → Type 0
-IsNextOfHashed w hashed r = MatchResult r (λ next. (next ≡ hashed) × IsLinked w next) (IsUnlinked w hashed)

@@ -2,9 +2,9 @@
 
 use crate::block_bytes::BlockBytes;
 use crate::context::Context;
-use crate::prepared::Prepared;
 use intake_workers::TakenPart;
 use lookahead::{Ahead, Makeable};
+use next_block::Prepared;
 use rules::Refused;
 use std::marker::{Brand, PhantomData};
 
@@ -13,7 +13,7 @@ pub(crate) trait Intake {
     ghost use Rattle.std.specs.Prelude.{ℕ, Result};
     ghost use Rattle.intake_workers.specs.declared.taken_part.TakenPart.{TakenPart};
     ghost use Rattle.rules.specs.declared.answer.Refused.{Refused};
-    ghost use Rattle.commit.specs.declared.prepared.Prepared.{Prepared};
+    ghost use Rattle.next_block.specs.declared.prepared.Prepared.{Prepared};
 
     ghost may_be: { ℕ → Result Prepared Refused → Type 0 };
 

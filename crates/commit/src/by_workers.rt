@@ -7,16 +7,18 @@ ghost use Rattle.rules.specs.declared.answer.Refused.TheVariants.{Memory};
 ghost use Rattle.rules.specs.Fold as fold;
 ghost use Rattle.rules.specs.Names.{HasNamesOf};
 ghost use Rattle.next_block.specs.NextDelta.{IsDeltaOfJob};
-ghost use Rattle.commit.specs.Prepared.{IsNextDeltaOr, IsNextOfHashed, IsPrepared, IsTakenIn};
+ghost use Rattle.next_block.specs.Prepared.{IsPrepared};
+ghost use Rattle.commit.specs.Prepared.{IsNextDeltaOr, IsTakenIn};
 
 use crate::block_bytes::BlockBytes;
 use crate::context::Context;
-use crate::prepared::{Prepared, prepare};
+use crate::prepared::prepare;
 use check_workers::check_all;
 use gates::{Gate, Phase};
 use key_chains::{BlockRows, Job, KeyWriters, read_rows};
-use linking::{HashedBlock, LinkedBlock};
-use next_block::{NextBlock, PendingDelta, flag_duplicates, job_over, pending_delta_of};
+use next_block::{
+    NextBlock, PendingDelta, Prepared, flag_duplicates, job_over, next_of_hashed, pending_delta_of,
+};
 use policy_eval::Verify;
 use row_workers::rows_by;
 use rules::{Flag, Refused};
@@ -39,13 +41,6 @@ pub(crate) fn take_in_next<'b, R: Threads + Sync, V: Verify + Sync, G: Gate + Sy
     let decoded = bytes.decode(context.alloc)?;
     let placed = decoded.at_place(world.height(), world.header_hash())?;
     Ok(prepare(context, placed.into_decoded(), bytes)?)
-}
-
-/// The block, where it is the next one of the world.
-fn linked<'b>(world: &World, hashed: HashedBlock<'b>) -> Result<LinkedBlock<'b>, Refused>
-    ensures { IsNextOfHashed world.now hashed.entry result }
-{
-    hashed.linked(world.height(), world.header_hash(), world.version())
 }
 
 /// The rows of the keys that a block writes. Several threads look them up where that is worth it.
@@ -154,7 +149,7 @@ pub(crate) fn next_delta<'b, R: Threads + Wait + Sync, V: Verify, G: Gate + Sync
         bytes: kept,
         tentative,
     } = prepared;
-    let block = linked(world, block)?;
+    let block = next_of_hashed(world, block)?;
     let (key_writers, ids) = flag_duplicates(context.alloc, world, tentative)?;
     let rows = rows_before(context, world.state(), &key_writers)?;
     let job = job_over(context.channel, world, key_writers, rows);

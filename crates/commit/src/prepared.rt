@@ -3,28 +3,20 @@ ghost use Rattle.std.specs.Prelude.{◌≡◌, ◌<◌, IfOk};
 ghost use Rattle.block.specs.Grammar.{Spells};
 ghost use Rattle.next_block.specs.Tentative.{AreTentativeIn};
 ghost use Rattle.lookahead.specs.Parts.{AreParts};
-ghost use Rattle.commit.specs.Prepared.{IsPrepared, MayBeTakenIn, MayBeTakenInPart};
+ghost use Rattle.next_block.specs.Prepared.{IsPrepared};
+ghost use Rattle.commit.specs.Prepared.{MayBeTakenIn, MayBeTakenInPart};
 
 use crate::block_bytes::BlockBytes;
 use crate::context::Context;
 use gates::Gate;
 use intake_workers::{Crew, Part, TakenIn, TakenPart, join_parts, take_in, take_in_part};
-use linking::{DecodedBlock, HashedBlock};
+use linking::DecodedBlock;
 use lookahead::PartedWork;
-use next_block::{TentativeJob, tentative_job_of};
+use next_block::Prepared;
 use policy_eval::Verify;
 use rules::Refused;
 use std::alloc::{AllocError, Global};
 use std::thread::Threads;
-use values::{Bytes, Shared};
-
-/// A block, hashed, with its bytes, to be kept, and what its job is made of where none of its ids was used before.
-#[derive(Drop)]
-pub(crate) struct Prepared<'b> {
-    pub(crate) block: HashedBlock<'b>,
-    pub(crate) bytes: Shared<Bytes>,
-    pub(crate) tentative: TentativeJob<'b>,
-}
 
 // What was taken in of a block of these bytes, prepared.
 fn prepared_of<'b>(
@@ -35,13 +27,7 @@ fn prepared_of<'b>(
     ensures { IfOk result (λ p. (p.block ≡ taken_in.entry.block) × (p.bytes ≡ bytes.now) × AreTentativeIn taken_in.entry.items.items p.tentative) }
 {
     let TakenIn { block, items } = taken_in;
-    let bytes = bytes.kept(alloc)?;
-    let tentative = tentative_job_of(alloc, items)?;
-    Ok(Prepared {
-        block,
-        bytes,
-        tentative,
-    })
+    next_block::prepared_of(alloc, block, bytes.kept(alloc)?, items)
 }
 
 /// Takes the block of these bytes in by all workers. An `Err` is want of memory.

@@ -4,3 +4,4 @@ pub mod NextDelta
 pub mod Submissions
 pub mod Taken
 pub mod PendingDelta
+pub mod Prepared
