@@ -5,9 +5,11 @@
 mod block_job;
 mod hmac;
 mod plain_block;
+mod prepared_block;
 mod publishing;
 
 pub use block_job::job_of;
 pub use hmac::message_code;
 pub use plain_block::flags_of;
+pub use prepared_block::answer_to_prepared;
 pub use publishing::{is_linked, publish_linked};

@@ -1,4 +1,4 @@
-ghost use Rattle.std.specs.Prelude.{◌≡◌, IfOk, IfErr, OnOk, OnErr, MatchResult};
+ghost use Rattle.std.specs.Prelude.{◌≡◌, ℕ, List, IfOk, IfErr, OnOk, OnErr, MatchResult};
 ghost use Rattle.rules.specs.declared.answer.Refused.TheVariants.{Memory};
 ghost use Rattle.rules.specs.World.{empty_world};
 ghost use Rattle.rules.specs.Delta.{applied};
@@ -9,12 +9,16 @@ ghost use Rattle.rules.specs.Chain.{Chain};
 ghost use Rattle.first_version.specs.AsBefore.{StepsAsBefore};
 ghost use Rattle.next_block.specs.NextDelta.{IsNextDelta, answer_to};
 ghost use Rattle.ledger.specs.NextReasons.{AreNextReasons};
+ghost use Rattle.ledger.specs.Prepared.{IsPreparedIn};
+ghost use Rattle.policy_eval.specs.Accepts.{Accepts};
+ghost use Rattle.next_block.specs.Prepared.{IsPrepared};
 ghost use Rattle.next_block.specs.Submissions.{submissions};
 
 use crate::explaining::next_reasons;
-use crate::serial::next_delta;
+use crate::serial::{next_delta, prepared_delta};
 use channel::{Channel, Configuration};
 use first_version::first_version_steps_as_before;
+use next_block::Prepared;
 use policy_eval::Verify;
 use reasons::Reason;
 use rules::{Accepted, CommittedBlock, Delta, Refused};
@@ -114,6 +118,22 @@ impl Ledger {
     {
         first_version_steps_as_before();
         let delta = next_delta(self.alloc, &self.channel, &self.world, bytes, verifier)?;
+        self.apply(delta)
+    }
+
+    /// Takes a block that was prepared for this channel: accepts it, or refuses it and changes nothing, as `submit_one`
+    /// does with its bytes and its verifier.
+    ///
+    /// What is left to do is what needs the ledger: its ids are looked up and the rows of the keys that it writes and
+    /// reads, its endorsements and reads are checked, and what it changes is hashed and added. Costs and memory are those
+    /// of `submit_one` for these steps.
+    pub fn submit_prepared(&mut self, prepared: Prepared<'_>) -> Result<Accepted, Refused>
+        requires { ∥ IsPreparedIn self.old.channel prepared ∥₁ }
+        ensures step { (accepts : Accepts) (bytes : List ℕ) → IsPrepared self.old.channel accepts bytes prepared.entry
+            → Step self.old.channel accepts self.old.world bytes result self.new.world }
+        ensures channel { self.new.channel ≡ self.old.channel }
+    {
+        let delta = prepared_delta(self.alloc, &self.channel, &self.world, prepared)?;
         self.apply(delta)
     }
 

@@ -3,6 +3,8 @@
 
 mod explaining;
 mod ledger;
+mod prepared;
 mod serial;
 
 pub use ledger::Ledger;
+pub use prepared::prepare;

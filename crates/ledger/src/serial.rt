@@ -1,18 +1,23 @@
 //! The delta of the next block, by one thread.
-ghost use Rattle.std.specs.Prelude.{◌≡◌, ◌≤◌, length, MatchResult};
+ghost use Rattle.std.specs.Prelude.{◌≡◌, ◌≤◌, ℕ, List, length, MatchResult};
 ghost use Rattle.block.specs.Grammar.{Spells, bytes_of};
 ghost use Rattle.block.specs.Limits.{max_txs};
 ghost use Rattle.rules.specs.declared.answer.Refused.TheVariants.{Memory};
 ghost use Rattle.rules.specs.Names.{HasNamesOf};
 ghost use Rattle.rules.specs.Linked.{IsLinked, IsRefused};
 ghost use Rattle.next_block.specs.NextDelta.{IsDeltaOfJob, IsNextDelta};
+ghost use Rattle.next_block.specs.Prepared.{IsPrepared};
 ghost use Rattle.next_block.specs.Taken.{IsNextTakenIn};
+ghost use Rattle.ledger.specs.Prepared.{IsPreparedIn};
+ghost use Rattle.policy_eval.specs.Accepts.{Accepts};
 
 use channel::Configuration;
 use intake::{Taken, take_in};
-use key_chains::Job;
+use key_chains::{BlockRows, Job};
 use linking::{DecodedBlock, LinkedBlock};
-use next_block::{NextBlock, job_of, pending_delta_of};
+use next_block::{
+    NextBlock, Prepared, flag_duplicates, job_of, job_over, next_of_hashed, pending_delta_of,
+};
 use policy_eval::Verify;
 use rules::Refused;
 use serial_checks::flags;
@@ -45,6 +50,22 @@ pub(crate) fn take_in_next<'b, V: Verify>(
     Ok((block, taken))
 }
 
+/// The delta of the next block, of its job and ids.
+fn delta_of_job(
+    alloc: Global,
+    next: NextBlock<'_, '_>,
+    job: &Job<'_, '_>,
+    ids: &[Option<TxId>],
+) -> Result<ReadyDelta, Refused>
+    requires ids { length ids.now ≡ length job.now.candidates }
+    requires few { length ids.now ≤ max_txs }
+    ensures { MatchResult result (IsDeltaOfJob job.now ids.now next.entry.last next.entry.bytes next.entry.block.now) (λ refused. refused ≡ Memory) }
+{
+    let flags = flags(alloc, job)?;
+    let pending = pending_delta_of(alloc, next, job, ids, flags)?;
+    Ok(pending.ready(alloc)?)
+}
+
 /// The delta of a block that is the next one behind a block of this commit hash, of its job and ids.
 fn delta_in_order(
     alloc: Global,
@@ -58,10 +79,7 @@ fn delta_in_order(
     ensures { MatchResult result (IsDeltaOfJob job.now ids.now last (bytes_of block.now) block.now) (λ refused. refused ≡ Memory) }
 {
     let bytes = block.kept_bytes(alloc)?;
-    let flags = flags(alloc, job)?;
-    let next = NextBlock { block, bytes, last };
-    let pending = pending_delta_of(alloc, next, job, ids, flags)?;
-    Ok(pending.ready(alloc)?)
+    delta_of_job(alloc, NextBlock { block, bytes, last }, job, ids)
 }
 
 /// What the block of these bytes would change, or why it would be refused.
@@ -78,4 +96,33 @@ pub(crate) fn next_delta<V: Verify>(
     let (block, taken) = take_in_next(alloc, channel, world, bytes, verifier)?;
     let (job, ids) = job_of(alloc, channel, world, taken)?;
     delta_in_order(alloc, &block, world.commit_hash(), &job, ids.as_slice())
+}
+
+/// What a block that was prepared would change, or why it would be refused.
+pub(crate) fn prepared_delta(
+    alloc: Global,
+    channel: &Configuration,
+    world: &World,
+    prepared: Prepared<'_>,
+) -> Result<ReadyDelta, Refused>
+    requires made { ∥ IsPreparedIn channel.now prepared ∥₁ }
+    requires names { HasNamesOf channel.now world.now }
+    ensures { (accepts : Accepts) (bytes : List ℕ) → IsPrepared channel.now accepts bytes prepared.entry
+        → MatchResult result (IsNextDelta channel.now accepts world.now bytes) (IsRefused world.now bytes) }
+{
+    let Prepared {
+        block,
+        bytes,
+        tentative,
+    } = prepared;
+    let block = next_of_hashed(world, block)?;
+    let (key_writers, ids) = flag_duplicates(alloc, world, tentative)?;
+    let rows = BlockRows::find(alloc, world.state(), &key_writers)?;
+    let job = job_over(channel, world, key_writers, rows);
+    let next = NextBlock {
+        block: &block,
+        bytes,
+        last: world.commit_hash(),
+    };
+    delta_of_job(alloc, next, &job, ids.as_slice())
 }

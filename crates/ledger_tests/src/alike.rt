@@ -100,7 +100,12 @@ fn has_same_policy(alloc: Global, one: &Row, other: &Row) -> Result<bool, AllocE
     }
 }
 
-fn is_same_row(alloc: Global, one: Option<&Row>, other: Option<&Row>) -> Result<bool, AllocError> {
+/// Whether two rows are the same, or none is there.
+pub fn is_same_row(
+    alloc: Global,
+    one: Option<&Row>,
+    other: Option<&Row>,
+) -> Result<bool, AllocError> {
     match (one, other) {
         (None, None) => Ok(true),
         (Some(one), Some(other)) => {
@@ -113,11 +118,13 @@ fn is_same_row(alloc: Global, one: Option<&Row>, other: Option<&Row>) -> Result<
     }
 }
 
-fn is_same_entry(one: &HistoryEntry, other: &HistoryEntry) -> bool {
+/// Whether two entries of histories are the same.
+pub fn is_same_entry(one: &HistoryEntry, other: &HistoryEntry) -> bool {
     one.version == other.version && one.id == other.id && is_same_value(&one.value, &other.value)
 }
 
-fn is_same_block(one: Option<&CommittedBlock>, other: Option<&CommittedBlock>) -> bool {
+/// Whether two blocks that worlds hold are the same, or none is there.
+pub fn is_same_block(one: Option<&CommittedBlock>, other: Option<&CommittedBlock>) -> bool {
     match (one, other) {
         (Some(one), Some(other)) => {
             one.bytes.get().is_same(other.bytes.get())

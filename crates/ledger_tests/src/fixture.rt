@@ -198,6 +198,11 @@ impl Peer {
         self.ledger.view()
     }
 
+    /// Hands in the bytes of the next block.
+    pub fn submit<V: Verify>(&mut self, bytes: &[u8], verifier: &V) -> Result<Accepted, Refused> {
+        submitted(&mut self.ledger, bytes, verifier)
+    }
+
     /// Why the bytes aren't taken, if they aren't.
     pub fn refusal_of<V: Verify>(&mut self, bytes: &[u8], verifier: &V) -> Option<Refused> {
         submitted(&mut self.ledger, bytes, verifier).err()

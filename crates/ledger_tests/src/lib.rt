@@ -35,6 +35,10 @@ mod memory;
 #[cfg(test)]
 mod plain_peer;
 #[cfg(test)]
+mod prepared_chains;
+#[cfg(test)]
+mod prepared_refusals;
+#[cfg(test)]
 mod random_chains;
 #[cfg(test)]
 mod random_scripts;

@@ -35,7 +35,8 @@ fn version_at_random(random: &mut Random, world: &World) -> BlockVersion {
     }
 }
 
-fn block_at_random(
+/// The next block of a world, at random.
+pub fn block_at_random(
     alloc: Global,
     random: &mut Random,
     keys: &KeyBook,
