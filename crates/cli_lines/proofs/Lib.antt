@@ -1,2 +1,3 @@
 mod Worked
+mod WorkedKnown
 pub mod Written

@@ -1,3 +1,4 @@
 pub mod BlockLines
 pub mod ConflictLines
+pub mod KnownLine
 pub mod RowLines

@@ -6,6 +6,7 @@
 mod block_lines;
 mod conflict_lines;
 mod flag_name;
+mod known_line;
 mod line_fault;
 mod members;
 mod reason_lines;
@@ -16,6 +17,7 @@ mod signers;
 pub use block_lines::{write_accepted, write_block, write_commit, write_hash, write_refused};
 pub use conflict_lines::write_report;
 pub use flag_name::name_of;
+pub use known_line::write_known;
 pub use line_fault::LineFault;
 pub use reason_lines::{ReasonLine, write_earlier, write_reason};
 pub use refusal::Refusal;
