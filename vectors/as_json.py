@@ -89,7 +89,8 @@ def rows(world, blocks):
     yield "explain --json --ids --tx 0 b0 b1", 0, objects(block, f'{valid[:-1]},"id":"{ids[1][0]}"}}'), ""
     earlier = '{"kind":"earlier","block":0,"tx":0,"flag":0,"name":"VALID"}'
     yield f"explain --json --id {ids[0][0]} b0 b1", 0, objects(block, earlier), ""
-    yield "explain --json b0 b0", 1, objects(again), ""
+    known = f'{{"kind":"known","number":0,"as":"same","accepted":"{headers[0].hex()}","own":"{headers[0].hex()}"}}'
+    yield "explain --json b0 b0", 1, objects(again, known), ""
     counts = (
         '{"kind":"flag","flag":0,"name":"VALID","count":1}',
         '{"kind":"flag","flag":10,"name":"ENDORSEMENT_POLICY_FAILURE","count":1}',

@@ -9,6 +9,7 @@ from committer import World
 from encoding import Refused, header_hash, identity, read_block, tx_id
 from explained import KEYS, rust_bytes
 from explaining import explained, explained_at, explained_of
+from knowing import known
 from objects import objects_of
 from rust import rust_file, rust_lines, rust_text, rust_tuples
 from scripts import accepts, drafted, keys_of, word_bytes
@@ -264,7 +265,7 @@ class EachWord:
         try:
             deepcopy(world).submit(octets)
         except Refused as fault:
-            return 1, answers.refused(len(names), fault), ""
+            return 1, answers.refused(len(names), fault) + known(world, octets), ""
         if place is not None:
             lines = explained_at(world, octets, place, ids)
         elif id is not None:

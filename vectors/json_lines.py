@@ -153,6 +153,10 @@ def numbered(members):
     return f"{members.pop('number')} {members.pop('hash')}"
 
 
+def known(members):
+    return ["known", str(members.pop("number")), members.pop("as"), members.pop("accepted"), "is", members.pop("own")]
+
+
 def row(members):
     told = members.pop("policy")
     return ["row", spelled(members.pop("key")), placed(members), spelled(members.pop("value")), "-" if told is None else told]
@@ -173,6 +177,7 @@ KINDS = {
     "commit": lambda members: ["commit", numbered(members)],
     "block": lambda members: ["block", numbered(members)],
     "refused": refused,
+    "known": known,
     "reader": lambda members: [f"reader {members.pop('reader')} height {members.pop('height')}"],
     "height": lambda members: [f"height {members.pop('height')}"],
     "row": row,

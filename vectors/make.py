@@ -16,6 +16,7 @@ import drafted
 import each_word
 import explained
 import headers
+import known
 import sample
 import script_cases
 import signatures
@@ -29,6 +30,7 @@ EACH_WORD = CRATES / "command_line_tests/src/explained/each_word"
 EXPLAINED = CRATES / "command_line_tests/src/explained"
 EXPLAINED_MEMORY = CRATES / "ledger_tests/src/explained_memory"
 JSON = CRATES / "command_line_tests/src/json"
+KNOWN = CRATES / "command_line_tests/src/known"
 HEADERS = CRATES / "bytes_tests/src/header_hashes"
 SAMPLE = CRATES / "fabcommit"
 SCRIPTS = CRATES / "draft_tests/src/drafting"
@@ -48,6 +50,7 @@ def files():
         (EXPLAINED_MEMORY, explained.ledger_files()),
         (HEADERS, headers.files()),
         (JSON, as_json.files()),
+        (KNOWN, known.files(keys.encode())),
         (SAMPLE, sample.files(SAMPLE / "data")),
         (SCRIPTS, script_cases.files()),
         (SIGNATURES, signatures.files(keys)),

@@ -8,8 +8,9 @@ chains of up to five blocks. Each is drafted by PROGRAM (`./fabcommit`): a good 
 to `run`, `conflicts`, `get`, `history`, `scan` and `definition`, whose lines have to be those of `committer.py`. Blocks are of both versions, those
 of version 2 with updates that are valid, or aren't for each of the causes; half of the channels have an admin policy. Some blocks are
 drafted of raw lines alone, in which signatures, ids and channels are changed. For every chain there are lists too in which old, cut
-and otherwise spoiled blocks stand between the good ones, and these are run by 1, 2 and 5 workers and asked by `get`. It ends with
-figures: how many scripts, calls, flags, refusals, outcomes of updates, words of reasons, answers to ids, and faults of each kind there
+and otherwise spoiled blocks stand between the good ones, and these are run by 1, 2 and 5 workers and asked by `get`. After each chain
+blocks of accepted numbers and other refused ones are explained, in the line of `knowing.py`. It ends with figures: how many scripts,
+calls, flags, refusals, outcomes of updates, words of reasons, answers to ids, relations of known blocks, and faults of each kind there
 were. It goes on until each of them came, and fails where anything differs.
 """
 
@@ -30,8 +31,9 @@ import answers
 from committer import World, is_inside
 from counting import counted
 from drawing import drawn
-from encoding import Refused, data_hash, read_block, spelled_block, spelled_signed, spelled_tx, version_of_block
+from encoding import Refused, data_hash, header_hash, read_block, spelled_block, spelled_signed, spelled_tx, version_of_block
 from explaining import explained, explained_of, item_of
+from knowing import known
 from policies import read_policy
 from scripts import LONGEST, Faulty, accepts, drafted, keys_of, txs_of, word_bytes
 from words import word
@@ -269,6 +271,8 @@ WORDS = {
     22: ["fallen", "outside"],
 }
 ASKED = {"one", "several", "earlier", "none"}
+# What is printed of refused blocks, whose number was accepted or not.
+KNOWN = {"same", "twin", "fork", "other", "none"}
 UPDATES = {"valid", "not-alone", "no-admin-policy", "undefined", "policy", "admin"}
 # The `tx` line of a transaction that is too long is at fault, once it ends.
 TOO_LONG = {
@@ -320,6 +324,26 @@ def spoiled(pick, octets):
     ])
 
 
+def related(pick, blocks):
+    """A block of the number of one of these, that one at times, with a transaction less or two that were joined, another version,
+    another previous hash, or the data hash of others.
+    """
+    octets = pick.choice(blocks)
+    number, previous, hash_of_data, txs = read_block(octets)
+    place = pick.randrange(max(1, len(txs)))
+    joined = [*txs[:place], b"".join(txs[place : place + 2]), *txs[place + 2 :]]
+    left = [*txs[:place], *txs[place + 1 :]]
+    others = [header_hash(*read_block(other)[:3]) for other in blocks] + [b"", pick.randbytes(32)]
+    previous, txs, hash_of_data = pick.choice([
+        (previous, txs, hash_of_data),
+        (previous, joined, hash_of_data),
+        (previous, left, data_hash(left)),
+        (previous, left, hash_of_data),
+        (pick.choice(others), txs, hash_of_data),
+    ])
+    return spelled_block(number, previous, hash_of_data, txs, pick.choice([1, 2, version_of_block(octets)]))
+
+
 def mixed_list(pick, blocks):
     """The blocks in order, and others before and behind each."""
     for place, octets in enumerate(blocks):
@@ -366,7 +390,7 @@ class Trial:
         self.program, self.folder, self.pick = program, folder, pick
         self.calls, self.scripts, self.lists = 0, 0, 0
         self.faults, self.flags, self.refusals, self.updates = Counter(), Counter(), Counter(), Counter()
-        self.words, self.asked = Counter(), Counter()
+        self.words, self.asked, self.known = Counter(), Counter(), Counter()
         book = "".join(f"{who} {pick.randbytes(pick.choice([1, 32, 64])).hex()}\n" for who in SIGNERS)
         self.keys = keys_of(book.encode())
         self.definitions = {name.encode(): read_policy(policy.encode()) for name, policy in CHANNEL.items()}
@@ -447,6 +471,22 @@ class Trial:
         self.want(*said, "explain", *["--ids"] * ids, *files, f"--id={spelled}")
         self.asked[kind_of(lines)] += 1
 
+    def explain_refused(self, world, octets, files):
+        """The last of the files, which is refused after the others."""
+        try:
+            deepcopy(world).submit(octets)
+        except Refused as fault:
+            line = known(world, octets)
+            words = self.pick.choice([[], [], ["--ids"], ["--dot"], ["--tx", "0"]])
+            self.want(1, answers.refused(len(files), fault) + line, "", "explain", *words, *files)
+            self.known[line.split()[2] if line else "none"] += 1
+
+    def explain_known(self, world, blocks, files):
+        """Blocks whose numbers were accepted already, and others that are refused."""
+        for make in (related, related, lambda pick, blocks: spoiled(pick, pick.choice(blocks))):
+            self.write("known", make(self.pick, blocks))
+            self.explain_refused(world, (self.folder / "known").read_bytes(), [*files, "known"])
+
     def ask(self, world, files):
         """One key and one range, asked of the chain."""
         pick = self.pick
@@ -489,6 +529,7 @@ class Trial:
         self.count(0, reasons, files)
         for _ in range(3):
             self.ask(world, files)
+        self.explain_known(world, blocks, files)
         self.mixed(blocks)
 
     def count(self, status, reasons, files):
@@ -525,7 +566,7 @@ class Trial:
     def lacks(self):
         """Whether there are faults, flags, outcomes of updates, words and answers to ids that haven't come yet."""
         words = [f"{flag} {said}" for flag, all_said in WORDS.items() for said in all_said]
-        wanted = (FAULTS, self.faults), (FLAGS, self.flags), (UPDATES, self.updates), (words, self.words), (ASKED, self.asked)
+        wanted = (FAULTS, self.faults), (FLAGS, self.flags), (UPDATES, self.updates), (words, self.words), (ASKED, self.asked), (KNOWN, self.known)
         return any(set(all_of) - set(came) for all_of, came in wanted)
 
     def limits(self):
@@ -549,6 +590,7 @@ def main():
     print("flags:", ", ".join(f"{flag} {times} times" for flag, times in sorted(trial.flags.items())))
     print("updates:", ", ".join(f"{name} {times} times" for name, times in sorted(trial.updates.items())))
     print("words:", ", ".join(f"{name} {times} times" for name, times in sorted(trial.words.items())))
+    print("known:", ", ".join(f"{name} {times} times" for name, times in sorted(trial.known.items())))
     print("ids:", ", ".join(f"{name} {times} times" for name, times in sorted(trial.asked.items())))
     print(f"{trial.lists} lists, refusals:", ", ".join(f"{name} {times} times" for name, times in sorted(trial.refusals.items())))
 

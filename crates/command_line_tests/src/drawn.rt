@@ -17,7 +17,13 @@ fn graphs_of_the_sample(rt: HostRuntime) -> Result<(), AllocError> {
             whole_graph(),
             "",
         ),
-        ("explain --dot b0 b0", 1, "refused 2 C2 want 1 got 0\n", ""),
+        (
+            "explain --dot b0 b0",
+            1,
+            "refused 2 C2 want 1 got 0\n\
+            known 0 same 725d8cb11580014661a0c47265ef000705bf00d7363a5cd5ad94b57a97757490 is 725d8cb11580014661a0c47265ef000705bf00d7363a5cd5ad94b57a97757490\n",
+            "",
+        ),
     ];
     let unlike = unlike(&rt, &MemoryFiles(&sample()), &rows)?;
     assert!(rt; unlike.is_none(), "{unlike:?}");

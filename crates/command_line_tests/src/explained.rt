@@ -288,6 +288,11 @@ static REASONS_ASKED: [(&str, &str); 3] = [
     ),
 ];
 
+// The second block once more.
+const KNOWN: &str = "refused 3 C2 want 2 got 1
+known 1 same 0872e4f9fd419121bb9f06dddb26f4868f2c63ec9b47837cbb53906d0da8b6a1 is 0872e4f9fd419121bb9f06dddb26f4868f2c63ec9b47837cbb53906d0da8b6a1
+";
+
 fn rows() -> &'static [Row<'static>] {
     &ROWS
 }
@@ -295,7 +300,7 @@ fn rows() -> &'static [Row<'static>] {
 static ROWS: [Row; 3] = [
     ("explain --tx 23 b0 b1", 2, "", "no transaction 23\n"),
     ("conflicts --from 1 b0 b1", 0, COUNTED, ""),
-    ("explain b0 b1 b1", 1, "refused 3 C2 want 2 got 1\n", ""),
+    ("explain b0 b1 b1", 1, KNOWN, ""),
 ];
 
 fn are_explained(

@@ -10,6 +10,10 @@ use std::sync::Wait;
 use std::thread::Threads;
 
 // What is said of the empty block 0, as it is explained.
+const KNOWN_0: &str = "refused 2 C2 want 1 got 0
+known 0 same 9cae6f5c10756febc407bba95fc23853774c1f65f10354895bfdab6443d66ed3 is 9cae6f5c10756febc407bba95fc23853774c1f65f10354895bfdab6443d66ed3
+";
+
 const BLOCK_0: &str = "block 0 9cae6f5c10756febc407bba95fc23853774c1f65f10354895bfdab6443d66ed3\n";
 
 // What it is shown as.
@@ -94,7 +98,7 @@ static SCENES: [Scene; 1] = [(
         ("explain --ids b0", 0, BLOCK_0, ""),
         // But of the last block, at whose place no transaction stands.
         ("explain s", 1, "refused 1 C1 B1\n", ""),
-        ("explain b0 b0", 1, "refused 2 C2 want 1 got 0\n", ""),
+        ("explain b0 b0", 1, KNOWN_0, ""),
         ("explain --tx 0 b0 s", 1, "refused 2 C1 B1\n", ""),
         ("explain --tx 0 b0", 2, "", "no transaction 0\n"),
         ("explain --tx 4095 s b0", 2, "", "no transaction 4095\n"),

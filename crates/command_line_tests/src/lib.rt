@@ -30,6 +30,8 @@ mod hostile;
 #[cfg(test)]
 mod json;
 #[cfg(test)]
+mod known;
+#[cfg(test)]
 mod large;
 #[cfg(test)]
 mod limits;

@@ -1,4 +1,7 @@
+ghost use Rattle.block.specs.Grammar.{Spells};
+
 use crate::buffered::finish;
+use crate::known::write_relation;
 use crate::progress::Progress;
 use crate::question::hand_in;
 use block::{Block, decode_block};
@@ -205,6 +208,31 @@ struct LastBlock<'b> {
     place: usize,
 }
 
+// All lines of the block that these bytes spell.
+fn write_decoded<'a, W: Write>(
+    alloc: Global,
+    out: &mut W,
+    last: &LastBlock<'_>,
+    bytes: &[u8],
+    block: &Block<'_>,
+    selection: &Selection<'a>,
+) -> Result<u8, Fault<'a>>
+    requires { Spells bytes.now block.now }
+{
+    let world = last.ledger.view();
+    match last.ledger.explain(bytes, last.keys) {
+        Ok(reasons) => {
+            write_told(alloc, out, world, block, reasons.as_slice(), selection)?;
+            Ok(ACCEPTED)
+        }
+        Err(refused) => {
+            write_no_reasons(out, selection.format, last.place, refused)?;
+            write_relation(out, selection.format, world, bytes, block)?;
+            Ok(REFUSED)
+        }
+    }
+}
+
 // All lines of the block in these bytes, which is the last one.
 fn write_lines<'a, W: Write>(
     alloc: Global,
@@ -213,20 +241,12 @@ fn write_lines<'a, W: Write>(
     bytes: &[u8],
     selection: &Selection<'a>,
 ) -> Result<u8, Fault<'a>> {
-    let block = match decode_block(alloc, bytes) {
-        Ok(block) => block,
+    match decode_block(alloc, bytes) {
+        Ok(block) => write_decoded(alloc, out, last, bytes, &block, selection),
         Err(fault) => {
             let refused = Refused::Malformed(fault);
-            return write_no_reasons(out, selection.format, last.place, refused);
+            write_no_reasons(out, selection.format, last.place, refused)
         }
-    };
-    match last.ledger.explain(bytes, last.keys) {
-        Ok(reasons) => {
-            let world = last.ledger.view();
-            write_told(alloc, out, world, &block, reasons.as_slice(), selection)?;
-            Ok(ACCEPTED)
-        }
-        Err(refused) => write_no_reasons(out, selection.format, last.place, refused),
     }
 }
 

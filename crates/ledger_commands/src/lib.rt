@@ -10,6 +10,7 @@ mod explain;
 mod get;
 mod history;
 mod kept_lines;
+mod known;
 mod progress;
 mod question;
 mod scan;

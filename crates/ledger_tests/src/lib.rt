@@ -23,6 +23,8 @@ mod fixture;
 #[cfg(test)]
 mod forgers;
 #[cfg(test)]
+mod known;
+#[cfg(test)]
 mod large_blocks;
 #[cfg(test)]
 mod limits;

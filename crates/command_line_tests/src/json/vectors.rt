@@ -161,7 +161,10 @@ static ANSWERS: [Row<'static>; 17] = [
     (
         "explain --json b0 b0",
         1,
-        "{\"kind\":\"refused\",\"place\":2,\"fault\":\"C2\",\"want\":1,\"got\":0}\n",
+        "{\"kind\":\"refused\",\"place\":2,\"fault\":\"C2\",\"want\":1,\"got\":0}\n{\"kind\":\"known\
+    \",\"number\":0,\"as\":\"same\",\"accepted\":\"d02c6643e67200960f1dbe631467b21dc958ff686c35e\
+    068980495afbc32471d\",\"own\":\"d02c6643e67200960f1dbe631467b21dc958ff686c35e068980495afbc32\
+    471d\"}\n",
         "",
     ),
     (

@@ -447,10 +447,21 @@ earlier 1 6 12 PHANTOM_READ_CONFLICT
     (
         "explain --ids --id 459475528dc038f899a89dddf066c78d533138cdcf2fd4efe1a99d8c9cadfaed b0 b1 b1",
         1,
-        "refused 3 C2 want 2 got 1\n",
+        "\
+refused 3 C2 want 2 got 1
+known 1 same bf87b96e1df1fe397d33a20c3adea06dc50fb4230f9d8748b959815edf417a4b is bf87b96e1df1fe397d33a20c3adea06dc50fb4230f9d8748b959815edf417a4b
+",
         "",
     ),
-    ("explain --ids b0 b0", 1, "refused 2 C2 want 1 got 0\n", ""),
+    (
+        "explain --ids b0 b0",
+        1,
+        "\
+refused 2 C2 want 1 got 0
+known 0 same a695d0aeb24f0eaedab4d4b072bd69163696f4e5cd128051a1141d61e78235cc is a695d0aeb24f0eaedab4d4b072bd69163696f4e5cd128051a1141d61e78235cc
+",
+        "",
+    ),
     (
         "explain --id b76915c274f990013592df05fee17b746f061366372c51ee83dc9d555cca5389 b0 k b1",
         1,
