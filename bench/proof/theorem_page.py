@@ -65,8 +65,8 @@ CUTS = {
         "`bytes_tests::blocks::at_the_limits_and_one_past_them`.",
     ),
     "block/specs/Faults.antt HasFault": Cut(
-        ["block/src/laws.rt one_reading one_fault block_or_fault some_reading"],
-        "Bytes have a fault exactly if they encode no block, and then only one.",
+        ["block/src/laws.rt one_reading one_fault block_or_fault some_reading", "theorem/src/consequences.rt faults_are_of_bytes"],
+        "Bytes have a fault exactly if they encode no block, and then only one, which isn't `Memory`.",
         "Which one: [format](format.md#block), and the test `bytes_tests::blocks::the_first_fault`.",
     ),
     "transaction/specs/Items.antt item_of": Cut(
@@ -138,7 +138,8 @@ sources; `./test` fails if it isn't current.
   [Answers](#answers).
 {flags}
 - **Words**: a `World` is a ledger, and its `definitions` are the policies of chaincodes. The *touched* keys of
-  [Endorsement](#endorsement) are those of `policy_written`. If two sections define a name, each means its own.
+  [Endorsement](#endorsement) are those of `policy_written`. *Ours* marks rules on which Fabric's documents are
+  silent. If two sections define a name, each means its own; so do the contracts with `Step`, `Chain` and `Submits`.
 {left_out}
 - **Size**: {definitions} definitions in {files} files: {code} lines of code, {comment} of comment. What is left out has
   {more} lines of code.
@@ -153,7 +154,11 @@ sources; `./test` fails if it isn't current.
 | `Type 0`, `Bool` | a statement, which holds or doesn't, or a type (`Type 1` of such); a truth value, which is computed |
 | `x ≡ y`, `x ≢ y`, `⊥`, `Unit` | equal; different; what never holds; what always holds |
 | `item.Tx`, `{{A : Type 0}}` | the variant `Tx`, after a short name of its type; an argument that is left out in calls |
-| `abbrev`, `unfoldable`, `pub` | how proofs and other files may use a definition: it means the same without |
+| `abbrev`, `unfoldable`, `pub`, `mutual` | how proofs and other files may use a definition: it means the same without |
+| `record A : Type 0 where`, `data A : Type 0 where` | a type, by its fields or its variants. If its fields aren't shown, it \
+is one of those that are left out |
+| `ensures x {{ .. }}`, `self.now`, `F.step` | a part of a contract, named `x`; a value at the end of a call; what a type \
+parameter fixes |
 | `record r {{ a = x }}`, `λ x. y` | `r` with another `a`; the function from `x` to `y` |
 | `A = {{ a : ℕ }}`, `A = B \\| C ℕ` | a type of Rust, as contracts see it: with these fields; one of these variants. \
 Numbers are `ℕ`, bytes are lists of `ℕ`, and what is shared or borrowed is as if it weren't |
@@ -324,7 +329,9 @@ def laws():
 def in_full():
     """The clauses of all laws. They aren't counted: nobody has to believe what is proved."""
     said = ("What each proved statement ensures, with its conditions. Those from contracts name the contracts' own definitions, as "
-            "`committing.Submits`, `Watch`, `GoesOn`, `Learns` and `job_of`, which aren't on this page: they are what the code keeps.")
+            "`committing.Submits`, `Step`, `Chain`, `Watch`, `GoesOn`, `Learns` and `job_of`, and those of `ShownBy`, as `shown_by`, "
+            "`known_by`, `watched_world`, `answered` and `IsHandleOf`. These aren't on this page: they are what the code keeps. "
+            "`AllByRecursion P xs`: each element has `P`. `IsPrefix xs ys`: `ys` begins with `xs`.")
     lines = [line for file, _, law in all_laws() for line in clauses(f"{file.relative_to(CRATES)} {law}")]
     return ["## The proved statements in full", "", *wrapped(said), "```rust", *lines, "```", ""]
 

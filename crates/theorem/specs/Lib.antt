@@ -2,8 +2,9 @@
 --
 -- The theorem in words:
 --
---  1. The channel's configuration, the bytes submitted, the ledger before them and the verifier determine each flag,
---     the next ledger and all hashes.
+--  1. Out of memory aside, the channel's configuration, the bytes submitted, the ledger before them and the verifier
+--     determine each flag, the next ledger and all hashes. The number of workers and the order of their checks are in
+--     no definition, so that they change nothing.
 --  2. A block is accepted as a whole, or refused; if it is refused, nothing changes.
 --  3. What a block has in its places, transactions, updates or bytes that encode neither, is flagged in order, each by
 --     the first test that it fails.
@@ -26,13 +27,13 @@
 --     may have a version that its own block has written; a chaincode's policy is replaced by an item of its own kind,
 --     not by `_lifecycle`; block 0 is like any other, and the first policies come from the channel's text.
 --
--- `Serial` has 3 to 7, `Step` 1 and 2, `Promise` and `Telling` 8 and 9. `ShownBy` ties them to other crates' contracts.
+-- `Serial` has 3 to 7, `Step` 1 and 2, `Promise` and `Telling` 8 and 9; 10 is a contract of the crate `chain_laws`.
+-- `ShownBy` ties them to other crates' contracts. No formula is all of it: the proved statements are its parts.
 --
 -- The premises:
 --
--- V: the verifier's answer is a function of identity, message and signature.
--- M: memory sufficed while each ledger was being shown. Otherwise that call answered MemoryInCommit, and all later ones
---    answer Stopped.
+-- V: the verifier, which whoever embeds the committer supplies, is a function of identity, message and signature.
+-- M: memory suffices while a ledger is being shown. If it doesn't, 8 says what is left.
 -- R: a call of a committer that may wait keeps its contract if it returns; no proof shows that it returns.
 -- H: a handle is passed receipts of its own committer only.
 pub mod Serial

@@ -13,8 +13,8 @@ ghost use Rattle.theorem.specs.ShownBy.{shown_by, answered};
 use commit::NotCommitted;
 use query::Receipt;
 
-/// Proved: for one byte string and for many, and any answers to them, a committer shows one ledger more for each block
-/// that it accepts, that of serial execution, and no other. A receipt has the height of the newest ledger.
+/// Proved: for one byte string and for many, whatever is returned for them, a committer shows one ledger more for each
+/// block that it accepts, that of serial execution, and no other. A receipt has the height of the newest ledger.
 pub fn committers_show_ledgers()
     ensures opened { (c : Committing) → c.list ≡ [] → newest (shown_by c) ≡ empty_world c.channel.definitions }
     ensures height { (c : Committing) → height_of (newest (shown_by c)) ≡ length c.list }

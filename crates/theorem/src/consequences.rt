@@ -1,5 +1,8 @@
 ghost use Rattle.std.specs.Prelude.{◌≡◌, ◌≢◌, ◌<◌, ◌↔◌, ◌++◌, ◌∷◌, ℕ, true, false, List, [], length, Option, Some, None, Result, Err, slice_index};
 ghost use Rattle.std.specs.FinMap.{contains_key, insert};
+ghost use Rattle.block.specs.declared.fault.BlockFault.{BlockFault};
+ghost use Rattle.block.specs.declared.fault.BlockFault.TheVariants as block_fault;
+ghost use Rattle.block.specs.Faults.{HasFault};
 ghost use Rattle.policy.specs.Meaning.{policy_of};
 ghost use Rattle.policy.specs.Tree.{Tree};
 ghost use Rattle.transaction.specs.declared.item.Item.{Item};
@@ -76,4 +79,9 @@ pub fn one_answer()
 pub fn refused_bytes_change_nothing()
     ensures { (channel : Configuration) (accepts : Accepts) (old new : World) (bytes : List ℕ) (refused : Refused)
         → Takes channel accepts old bytes (Err refused) new → new ≡ old }
+{}
+
+/// Proved: a fault of bytes is never `Memory`, so that `Malformed` always says what is wrong with them.
+pub fn faults_are_of_bytes()
+    ensures { (bytes : List ℕ) (fault : BlockFault) → HasFault bytes fault → fault ≢ block_fault.Memory }
 {}

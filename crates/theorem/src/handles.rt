@@ -18,8 +18,9 @@ pub fn handles_know_more_and_more()
         → CatchesUp (known_by old) r.height (known_by new) }
 {}
 
-/// Proved: the ledger that a handle answers from is the one that its committer has shown at that height. What
-/// `QueryHandle::knows` answers of the handle and a receipt makes it such a handle.
+/// Proved: the ledger that a handle answers from is the one that its committer has shown at that height, if what the
+/// handle has read begins what the committer has published. `QueryHandle::knows` shows that of a receipt's committer,
+/// whichever it returns, for a handle of no greater height: of what both know one begins the other.
 pub fn handles_see_what_was_shown()
     ensures shown { (c : Committing) (h : Watch) → IsHandleOf c h → ledger_at (shown_by c) (known_by h) ≡ Some (watched_world h) }
     ensures knows { (accepts : Accepts) (before after : Committing) (bytes : List ℕ) (r : Receipt) (h : Watch) (answer : Bool)

@@ -12,8 +12,8 @@ mod serial;
 pub use answers::answers_are_of_shown_ledgers;
 pub use committing::{committers_show_ledgers, tellings_show_ledgers};
 pub use consequences::{
-    each_item_has_one_flag, invalid_items_change_nothing, one_answer, policies_after_a_block,
-    refused_bytes_change_nothing, valid_items_pass_all_tests,
+    each_item_has_one_flag, faults_are_of_bytes, invalid_items_change_nothing, one_answer,
+    policies_after_a_block, refused_bytes_change_nothing, valid_items_pass_all_tests,
 };
 pub use handles::{handles_know_more_and_more, handles_see_what_was_shown};
 pub use promises::{

@@ -40,7 +40,7 @@ pub fn shown_ledgers_stay()
 {}
 
 /// Proved: no answer of a handle is of a lower height than one before it, or than a receipt that it was passed. Two
-/// answers of one height, by any handles, are of one ledger.
+/// answers of one height, by any handles, are of one ledger; also of different times, as `shown_ledgers_stay`.
 pub fn no_answer_is_earlier<A, B>()
     ensures query { (s t : Shown) (first second third : ℕ) (question : World → A) (next : World → B) (r : Reply A) (n : Reply B)
         → Queries s first question r second → Queries t second next n third → r.height ≤ n.height }
