@@ -483,9 +483,10 @@ class Trial:
 
     def explain_known(self, world, blocks, files):
         """Blocks whose numbers were accepted already, and others that are refused."""
-        for make in (related, related, lambda pick, blocks: spoiled(pick, pick.choice(blocks))):
-            self.write("known", make(self.pick, blocks))
-            self.explain_refused(world, (self.folder / "known").read_bytes(), [*files, "known"])
+        for number, make in enumerate((related, related, lambda pick, blocks: spoiled(pick, pick.choice(blocks)))):
+            name = f"known{number}"
+            self.write(name, make(self.pick, blocks))
+            self.explain_refused(world, (self.folder / name).read_bytes(), [*files, name])
 
     def ask(self, world, files):
         """One key and one range, asked of the chain."""

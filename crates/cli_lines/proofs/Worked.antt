@@ -11,6 +11,7 @@ use Rattle.cli_values.specs.declared.format.Format.TheVariants.{Plain, Json}
 use Rattle.cli_lines.specs.declared.refusal.Refusal.TheVariants as refusal
 use Rattle.cli_lines.specs.BlockLines.{accepted_line, block_line, commit_line, refused_line}
 use Rattle.cli_lines.specs.ConflictLines.{flag_line, line_of_some, key_line, chaincode_line}
+use Rattle.cli_lines.specs.SessionLines.{end_line, fault_line, help_line}
 
 -- ---- blocks
 
@@ -88,3 +89,27 @@ chaincode_words = refl
 chaincode_object : chaincode_line Json chaincode ≡ codes "{\"kind\":\"chaincode\",\"chaincode\":\"cc\",\"count\":11,\"missing\":\"Org1.peer\",\"times\":10}\n"
 unfolding is_utf8 chars encode digits
 chaincode_object = refl
+
+-- ---- a session
+
+end_words : end_line Plain 3 ≡ codes "end 3\n"
+unfolding digits
+end_words = refl
+
+end_object : end_line Json 3 ≡ codes "{\"kind\":\"end\",\"status\":3}\n"
+unfolding digits
+end_object = refl
+
+fault_words : fault_line Plain (codes "bad word") ≡ codes "fault bad word\n"
+fault_words = refl
+
+fault_object : fault_line Json (codes "no \"") ≡ codes "{\"kind\":\"fault\",\"text\":\"no \\\"\"}\n"
+unfolding is_utf8 chars encode
+fault_object = refl
+
+help_words : help_line Plain (codes "  --ids") ≡ codes "  --ids\n"
+help_words = refl
+
+help_object : help_line Json (codes "  --ids") ≡ codes "{\"kind\":\"help\",\"text\":\"  --ids\"}\n"
+unfolding is_utf8 chars encode
+help_object = refl

@@ -2,3 +2,4 @@ pub mod BlockLines
 pub mod ConflictLines
 pub mod KnownLine
 pub mod RowLines
+pub mod SessionLines

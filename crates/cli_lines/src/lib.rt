@@ -12,6 +12,7 @@ mod members;
 mod reason_lines;
 mod refusal;
 mod row_lines;
+mod session_lines;
 mod signers;
 
 pub use block_lines::{write_accepted, write_block, write_commit, write_hash, write_refused};
@@ -24,4 +25,5 @@ pub use refusal::Refusal;
 pub use row_lines::{
     write_absent, write_definition, write_entry, write_height, write_more, write_reader, write_row,
 };
+pub use session_lines::{write_answer_end, write_fault, write_help};
 pub use signers::write_identity;

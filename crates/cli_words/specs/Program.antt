@@ -82,6 +82,9 @@ abbrev pub explain_rules : List Rule
 explain_rules = with_configuration (number (codes "tx") 0 4095 ∷ option_rule (codes "id") ∷ flag_rule (codes "ids")
     ∷ flag_rule (codes "dot") ∷ flag_rule (codes "all") ∷ printing_rules 1)
 
+abbrev pub session_rules : List Rule
+session_rules = with_configuration (defaulting_number (codes "workers") (codes "1") 1 64 ∷ printing_rules 0)
+
 abbrev pub draft_rules : List Rule
 draft_rules = with_configuration (option_rule (codes "after") ∷ defaulting_number (codes "format") (codes "1") 1 2
     ∷ one_operand (codes "script") ∷ one_operand (codes "out") ∷ [])
@@ -94,7 +97,8 @@ abbrev pub subcommands : List Shape
 subcommands = named (codes "draft") draft_rules ∷ named (codes "show") show_rules ∷ named (codes "run") run_rules
     ∷ named (codes "get") keyed_rules ∷ named (codes "scan") scan_rules ∷ named (codes "history") keyed_rules
     ∷ named (codes "definition") definition_rules
-    ∷ named (codes "explain") explain_rules ∷ named (codes "conflicts") conflicts_rules ∷ []
+    ∷ named (codes "explain") explain_rules ∷ named (codes "conflicts") conflicts_rules
+    ∷ named (codes "session") session_rules ∷ []
 
 -- the program
 abbrev pub program : App

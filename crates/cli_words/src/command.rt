@@ -13,6 +13,7 @@ use crate::explain::{self, Explain, asks_both_ways, mixes_graph_and_lines};
 use crate::keyed::KeyedQuery;
 use crate::run::{self, Run};
 use crate::scan::{self, Scan};
+use crate::session::{self, Session};
 use crate::show::{self, Show};
 use crate::subcommand::with_subcommands;
 use crate::{get, history};
@@ -34,7 +35,7 @@ Example, from a script to what its block leaves behind:
     block0.blk
 
 The ledger lives in memory: each call hands its blocks in anew, from block 0
-on. `fabcommit help COMMAND` says what a command prints.
+on; a session keeps it. `fabcommit help COMMAND` says what a command prints.
 
 Exit status:
   0  all went well
@@ -56,6 +57,7 @@ pub enum Asked<'a> {
     Explain(Explain<'a>),
     Conflicts(ConflictCounts<'a>),
     Show(Show<'a>),
+    Session(Session<'a>),
 }
 
 fn command<'a>(alloc: Global) -> Result<Command<'a>, AllocError>
@@ -77,6 +79,7 @@ fn command<'a>(alloc: Global) -> Result<Command<'a>, AllocError>
         definition::subcommand(),
         explain::subcommand(),
         conflict_counts::subcommand(),
+        session::subcommand(),
     ];
     with_subcommands(alloc, command, &subcommands)
 }
@@ -110,6 +113,7 @@ impl<'a> Asked<'a> {
             Asked::Definition(words) => words.paths.quiet,
             Asked::Explain(words) => words.paths.quiet,
             Asked::Conflicts(words) => words.paths.quiet,
+            Asked::Session(words) => words.paths.quiet,
         }
     }
 
@@ -234,6 +238,7 @@ impl<'a> Asked<'a> {
             "scan" => Scan::from_matches(alloc, matches)?.map(Asked::Scan),
             "explain" => Explain::from_matches(alloc, matches)?.map(Asked::Explain),
             "conflicts" => ConflictCounts::from_matches(alloc, matches)?.map(Asked::Conflicts),
+            "session" => Session::from_matches(alloc, matches)?.map(Asked::Session),
             "show" => Some(Asked::Show(Show::from_matches(alloc, matches)?)),
             _ => None,
         })

@@ -39,7 +39,7 @@ pub(crate) fn subcommand() -> &'static Subcommand
     &CONFLICTS
 }
 
-const TOP: Argument = Argument {
+pub(crate) const TOP: Argument = Argument {
     name: "top",
     value_name: "N",
     help: "The most keys, from 0 to 65535",
@@ -50,7 +50,7 @@ const TOP: Argument = Argument {
     },
 };
 
-const FROM: Argument = Argument {
+pub(crate) const FROM: Argument = Argument {
     name: "from",
     value_name: "N",
     help: "The number of the first block to count",

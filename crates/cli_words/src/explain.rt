@@ -103,7 +103,7 @@ pub(crate) fn subcommand() -> &'static Subcommand
     &EXPLAIN
 }
 
-const TX: Argument = Argument {
+pub(crate) const TX: Argument = Argument {
     name: "tx",
     value_name: "N",
     help: "The one transaction to explain, by its place, from 0",
@@ -113,28 +113,28 @@ const TX: Argument = Argument {
     },
 };
 
-const ID: Argument = Argument {
+pub(crate) const ID: Argument = Argument {
     name: "id",
     value_name: "ID",
     help: "The transaction to explain, by its id, as a word",
     form: Form::Optional,
 };
 
-const IDS: Argument = Argument {
+pub(crate) const IDS: Argument = Argument {
     name: "ids",
     value_name: "",
     help: "Each line ends with the transaction's id",
     form: Form::Flag,
 };
 
-const DOT: Argument = Argument {
+pub(crate) const DOT: Argument = Argument {
     name: "dot",
     value_name: "",
     help: "Prints a graph for Graphviz in place of lines",
     form: Form::Flag,
 };
 
-const ALL: Argument = Argument {
+pub(crate) const ALL: Argument = Argument {
     name: "all",
     value_name: "",
     help: "With --dot, shows transactions without edges too",
@@ -148,6 +148,13 @@ pub enum Told {
     Lines { ids: bool },
     /// In a graph, of all transactions or of those with edges.
     Graph { all: bool },
+}
+
+impl Told {
+    /// Whether it is a graph.
+    pub(crate) fn is_graph(&self) -> bool {
+        matches!(self, Told::Graph { .. })
+    }
 }
 
 /// Which transactions of the block are explained.
@@ -173,8 +180,8 @@ pub(crate) fn asks_both_ways(matches: &ArgMatches<'_>) -> bool {
     matches.get_str("tx").is_some() && matches.get_str("id").is_some()
 }
 
-// Which transactions are asked for; none where a place isn't a number, or what is asked for doesn't go together.
-fn explained_of<'a>(matches: &ArgMatches<'a>) -> Option<Explained<'a>> {
+/// Which transactions are asked for; none where a place isn't a number, or what is asked for doesn't go together.
+pub(crate) fn explained_of<'a>(matches: &ArgMatches<'a>) -> Option<Explained<'a>> {
     if mixes_graph_and_lines(matches) {
         return None;
     }
@@ -186,7 +193,8 @@ fn explained_of<'a>(matches: &ArgMatches<'a>) -> Option<Explained<'a>> {
     }
 }
 
-fn told_of(matches: &ArgMatches<'_>) -> Told {
+/// How the reasons are asked for.
+pub(crate) fn told_of(matches: &ArgMatches<'_>) -> Told {
     if matches.get_flag("dot") {
         Told::Graph {
             all: matches.get_flag("all"),

@@ -24,11 +24,38 @@ pub struct KeyedQuery<'a> {
     pub key: &'a str,
 }
 
+/// The words for a key in a namespace.
+#[derive(Clone, Copy)]
+pub struct KeyWords<'a> {
+    pub namespace: &'a str,
+    pub key: &'a str,
+}
+
 /// A key in its namespace.
 #[derive(Drop)]
 pub struct NamespacedKey {
     pub namespace: Name,
     pub key: Key,
+}
+
+impl<'a> KeyWords<'a> {
+    pub(crate) fn from_matches(matches: &ArgMatches<'a>) -> Option<KeyWords<'a>> {
+        Some(KeyWords {
+            namespace: value_of(matches, "ns")?,
+            key: value_of(matches, "key")?,
+        })
+    }
+
+    /// The key that the words name. An `Err` is a bad name, then a bad key, or want of memory. Linear in the words.
+    pub fn asked_key(&self, alloc: Global) -> Result<NamespacedKey, WordFault>
+        ensures namespace { IfOk result (λ asked. asked.namespace ≡ self.now.namespace.now) }
+        ensures key { IfOk result (λ asked. word_bytes self.now.key.now ≡ Some asked.key) }
+        ensures err { result ≡ Err NotAWord → (is_name self.now.namespace.now ≡ false) ⊎ ((bytes : List ℕ) → word_bytes self.now.key.now ≡ Some bytes → is_key bytes ≡ false) }
+    {
+        let namespace = name_of(alloc, self.namespace)?;
+        let key = key_of(alloc, self.key)?;
+        Ok(NamespacedKey { namespace, key })
+    }
 }
 
 impl<'a> KeyedQuery<'a> {
@@ -59,8 +86,10 @@ impl<'a> KeyedQuery<'a> {
         ensures key { IfOk result (λ asked. word_bytes self.now.key.now ≡ Some asked.key) }
         ensures err { result ≡ Err NotAWord → (is_name self.now.namespace.now ≡ false) ⊎ ((bytes : List ℕ) → word_bytes self.now.key.now ≡ Some bytes → is_key bytes ≡ false) }
     {
-        let namespace = name_of(alloc, self.namespace)?;
-        let key = key_of(alloc, self.key)?;
-        Ok(NamespacedKey { namespace, key })
+        let words = KeyWords {
+            namespace: self.namespace,
+            key: self.key,
+        };
+        words.asked_key(alloc)
     }
 }

@@ -52,6 +52,11 @@ impl Parallelism {
         })
     }
 
+    /// So many workers as the option says, and no readers.
+    pub(crate) fn of_workers(matches: &ArgMatches<'_>) -> Option<Parallelism> {
+        Parallelism::within(number_of(matches, "workers")?, 0)
+    }
+
     /// What the options say.
     pub(crate) fn from_matches(matches: &ArgMatches<'_>) -> Option<Parallelism> {
         Parallelism::within(

@@ -10,7 +10,7 @@ use crate::subcommand::Subcommand;
 use clap::ArgMatches;
 use std::alloc::{AllocError, Global};
 
-const HASHES: Argument = Argument {
+pub(crate) const HASHES: Argument = Argument {
     name: "hashes",
     value_name: "",
     help: "Prints the commit hash of each accepted block",

@@ -3,7 +3,7 @@ ghost use Rattle.std.specs.Prelude.{◌≡◌, codes};
 ghost use Rattle.cli_words.specs.Rules.{shape_for};
 ghost use Rattle.cli_words.specs.Program.{scan_rules, named};
 
-use crate::arguments::{Argument, Form, NAMESPACE, number_of};
+use crate::arguments::{Argument, Form, NAMESPACE, number_of, value_of};
 use crate::paths::{ANY_BLOCKS, CHANNEL, JSON, KEYS, LedgerPaths, QUIET};
 use crate::subcommand::Subcommand;
 use clap::ArgMatches;
@@ -35,21 +35,21 @@ pub(crate) fn subcommand() -> &'static Subcommand
     &SCAN
 }
 
-const START: Argument = Argument {
+pub(crate) const START: Argument = Argument {
     name: "start",
     value_name: "WORD",
     help: "The word to begin at; % is before all",
     form: Form::Default("%"),
 };
 
-const END: Argument = Argument {
+pub(crate) const END: Argument = Argument {
     name: "end",
     value_name: "WORD",
     help: "The word that all are below; % is no end",
     form: Form::Default("%"),
 };
 
-const LIMIT: Argument = Argument {
+pub(crate) const LIMIT: Argument = Argument {
     name: "limit",
     value_name: "N",
     help: "The most rows, from 1 to 65535",
@@ -90,5 +90,25 @@ impl<'a> Scan<'a> {
             end,
             limit,
         }))
+    }
+}
+
+/// The words for a range of a namespace.
+#[derive(Clone, Copy)]
+pub struct RangeWords<'a> {
+    pub namespace: &'a str,
+    pub start: &'a str,
+    pub end: &'a str,
+    pub limit: u16,
+}
+
+impl<'a> RangeWords<'a> {
+    pub(crate) fn from_matches(matches: &ArgMatches<'a>) -> Option<RangeWords<'a>> {
+        Some(RangeWords {
+            namespace: value_of(matches, "ns")?,
+            start: value_of(matches, "start")?,
+            end: value_of(matches, "end")?,
+            limit: number_of(matches, "limit")?,
+        })
     }
 }

@@ -59,6 +59,35 @@ fn channel_of<'a>(alloc: Global, path: &'a str, text: &str) -> Result<Channel, F
     }
 }
 
+/// The path of a channel's file, and what it holds, from which more than one channel can be made.
+#[derive(Drop)]
+pub struct ChannelFile<'a> {
+    path: &'a str,
+    bytes: Bytes,
+}
+
+impl<'a> ChannelFile<'a> {
+    /// Reads the file of this path. An `Err` names the path, or is want of memory, which is linear in the file.
+    pub fn read<F: Files>(
+        alloc: Global,
+        files: &F,
+        path: &'a str,
+    ) -> Result<ChannelFile<'a>, Fault<'a>>
+        ensures ok { IfOk result (λ file. F.holds files.now path.now file.bytes) }
+        ensures err { IfErr result (Because (IsUnread (F.unreadable files.now path.now) path.now)) }
+    {
+        let bytes = read_file(alloc, files, path)?;
+        Ok(ChannelFile { path, bytes })
+    }
+
+    /// The channel that its text configures. The memory is linear in it.
+    pub fn channel(&self, alloc: Global) -> Result<Channel, Fault<'a>>
+        ensures { IfOk result (λ channel. configuration_of self.now.bytes ≡ Ok channel) }
+    {
+        channel_of(alloc, self.path, text_in(self.path, &self.bytes)?)
+    }
+}
+
 fn read_channel<'a, F: Files>(alloc: Global, files: &F, path: &'a str) -> Result<Channel, Fault<'a>>
     ensures ok { IfOk result (HoldsChannel (F.holds files.now path.now)) }
     ensures err { IfErr result (Because (ChannelFails (F.holds files.now path.now) (F.unreadable files.now path.now) path.now)) }
@@ -67,7 +96,13 @@ fn read_channel<'a, F: Files>(alloc: Global, files: &F, path: &'a str) -> Result
     channel_of(alloc, path, text_in(path, &bytes)?)
 }
 
-fn read_keys<'a, F: Files>(alloc: Global, files: &F, path: &'a str) -> Result<KeyBook, Fault<'a>>
+/// The keys that the file of this path holds. An `Err` names the path, and may name a line, or is want of memory, which is
+/// linear in the file.
+pub fn read_keys<'a, F: Files>(
+    alloc: Global,
+    files: &F,
+    path: &'a str,
+) -> Result<KeyBook, Fault<'a>>
     ensures ok { IfOk result (HoldsKeys (F.holds files.now path.now)) }
     ensures err { IfErr result (Because (KeysFail (F.holds files.now path.now) (F.unreadable files.now path.now) path.now)) }
 {

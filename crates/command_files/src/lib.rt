@@ -9,5 +9,5 @@ mod status;
 
 pub use fault::Fault;
 pub use files::{DiskFiles, FileFault, Files};
-pub use inputs::{Configuration, Inputs, read_file, read_files, text_in};
+pub use inputs::{ChannelFile, Configuration, Inputs, read_file, read_files, read_keys, text_in};
 pub use status::{ACCEPTED, REFUSED, USAGE};

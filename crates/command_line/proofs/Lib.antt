@@ -1,3 +1,4 @@
+mod Answered
 pub mod Books
 pub mod Handing
 pub mod Heights

@@ -7,7 +7,7 @@ use Rattle.command_files.specs.Failing.{EndsBefore, InputsFail}
 use Rattle.command_files.specs.Status.{status_of}
 use Rattle.ledger_commands.specs.Failing.{DefinitionFails, DraftFails, KeyedFails, ScanFails, ShowFails}
 
--- Unless standard output failed or memory ran out, a word or a file is at fault, and nothing was printed. Of `explain` nothing is said.
+-- Unless standard output failed or memory ran out, a word or a file is at fault, and nothing was printed. Of `explain` and `session` nothing is said.
 abbrev pub EndsEarly : (Holds : List ℕ → List ℕ → Type 0) → (Refuses RefusesWrite : List ℕ → Type 0) → Asked → (before now : Option (List ℕ)) → Fault → Type 0
 EndsEarly Holds Refuses RefusesWrite (asks.Draft words) before now fault = EndsBefore (DraftFails Holds Refuses RefusesWrite words) before now fault
 EndsEarly Holds Refuses RefusesWrite (asks.Run words) before now fault = EndsBefore (InputsFail Holds Refuses words.paths) before now fault
@@ -18,6 +18,7 @@ EndsEarly Holds Refuses RefusesWrite (asks.Definition words) before now fault = 
 EndsEarly Holds Refuses RefusesWrite (asks.Conflicts words) before now fault = EndsBefore (InputsFail Holds Refuses words.paths) before now fault
 EndsEarly Holds Refuses RefusesWrite (asks.Explain words) before now fault = Unit {0}
 EndsEarly Holds Refuses RefusesWrite (asks.Show words) before now fault = EndsBefore (ShowFails Holds Refuses words) before now fault
+EndsEarly Holds Refuses RefusesWrite (asks.Session words) before now fault = Unit {0}
 
 -- The process ends with the status of such a fault.
 pub record EndsWith (Holds : List ℕ → List ℕ → Type 0) (Refuses RefusesWrite : List ℕ → Type 0) (asked : Asked) (before : Option (List ℕ)) (status : ℕ) (now : Option (List ℕ)) : Type 0 where

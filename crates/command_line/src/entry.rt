@@ -11,7 +11,7 @@ use ledger_commands::Progress;
 use std::alloc::Global;
 use std::convert::AsStr;
 use std::io;
-use std::io::Write;
+use std::io::{Read, Write};
 use std::sync::Wait;
 use std::thread::Threads;
 
@@ -52,11 +52,13 @@ fn status_of<E: Write>(ended: Result<u8, Fault<'_>>, err: &mut E) -> u8
 ///
 /// If it is 0 or 1, `out` was given exactly a text that the clause describes by the bytes of the files: the only one, but
 /// for heights of readers, and for comments and bytes of faults of `show`. If it is 2 or 3, a word or a file is at fault,
-/// as the clause says, and nothing was printed, unless `out` failed. Of `explain` the clauses say nothing.
-pub fn run_subcommand<R, F, O, E, P>(
+/// as the clause says, and nothing was printed, unless `out` failed. Of `explain` and `session` the clauses say nothing.
+/// `session` alone reads `input`.
+pub fn run_subcommand<R, F, I, O, E, P>(
     asked: &Asked<'_>,
     rt: &R,
     files: &F,
+    input: &mut I,
     out: &mut O,
     err: &mut E,
     progress: &mut P,
@@ -64,31 +66,35 @@ pub fn run_subcommand<R, F, O, E, P>(
 where
     R: AllocGlobal + Threads + Wait + Sync,
     F: Files + Sync,
+    I: Read,
     O: Write,
     E: Write,
     P: Progress,
     ensures done { result < 2 → Does (F.holds files.now) (F.written files.now) asked.now (O.contents out.old) result (O.contents out.new) }
     ensures ended { Does (F.holds files.now) (F.written files.now) asked.now (O.contents out.old) result (O.contents out.new) ⊎ EndsWith (F.holds files.now) (F.unreadable files.now) (F.unwritable files.now) asked.now (O.contents out.old) result (O.contents out.new) }
 {
-    status_of(perform(asked, rt, files, out, progress), err)
+    status_of(perform(asked, rt, files, input, out, progress), err)
 }
 
 /// The program `fabcommit` on these words, of which the first is its own name. Returns what the process is to end with:
 /// 0 where every block was accepted or shown, or one was drafted, and for help; 1 where a block was refused, or a file
 /// that is to be shown is no block; 2 where the words are no command, one is a bad word, or the transaction to explain
-/// isn't there; 3 where a file or `out` is at fault; 4 where memory ran out.
+/// isn't there; 3 where a file, `input` or `out` is at fault; 4 where memory ran out. A session ends with 0, 3 or 4 once
+/// its first blocks are in.
 ///
-/// The words are read first, then all files, those of blocks by all workers of `run`. Then the blocks are handed in, all at
-/// once by `run` and else one by one; or they are shown, or one is drafted. Lines and help go to `out`, and a fault's line to `err`, where a write
-/// that fails changes nothing. `progress` is told how many blocks are in, unless the words ask for silence.
+/// The words are read first, then all files, those of blocks by all workers of `run` and `session`. Then the blocks are
+/// handed in, all at once by these and else one by one; or they are shown, or one is drafted. A session then answers each
+/// line of `input`, to its end. Lines and help go to `out`, and a fault's line to `err`, where a write that fails changes
+/// nothing. `progress` is told how many blocks are in, unless the words ask for silence.
 ///
-/// The memory is the files' bytes, what the ledger or the committer keeps, what one block takes (with `run` those that
-/// [`commit::Committer::run`] takes in ahead), and the lines that are kept. `run` alone has threads, which have ended
-/// when this returns.
-pub fn program<R, S, F, O, E, P>(
+/// The memory is the files' bytes, what the ledger or the committer keeps, what one block takes (with `run` and `session`
+/// those that [`commit::Committer::run`] takes in ahead), the lines that are kept, and a session's longest line. `run` and
+/// `session` have threads, which have ended when this returns.
+pub fn program<R, S, F, I, O, E, P>(
     rt: &R,
     words: &[S],
     files: &F,
+    input: &mut I,
     out: &mut O,
     err: &mut E,
     progress: &mut P,
@@ -97,12 +103,13 @@ where
     R: AllocGlobal + Threads + Wait + Sync,
     S: AsStr,
     F: Files + Sync,
+    I: Read,
     O: Write,
     E: Write,
     P: Progress,
 {
     match Asked::from_words(rt.alloc(), words) {
-        Ok(asked) => run_subcommand(&asked, rt, files, out, err, progress),
+        Ok(asked) => run_subcommand(&asked, rt, files, input, out, err, progress),
         Err(error) => status_of(tell(&error, out, err), err),
     }
 }

@@ -2,13 +2,18 @@
 //! what a committing peer makes of it, and why, and answers what the ledger behind them holds.
 #![tactic(auto)]
 
+mod answer_ends;
+mod answering;
 mod committing;
 mod entry;
+mod line_reading;
 mod lines;
 mod performing;
 mod readers;
 mod reading;
 mod run;
+mod session;
+mod word_files;
 
 pub use cli_lines::LineFault;
 pub use cli_values::{Format, printed_values_are_read_back};

@@ -20,8 +20,8 @@ use std::sync::Wait;
 use std::thread;
 use std::thread::{Scope, Threads};
 
-// In these bounds nothing but memory can be wanted.
-fn opened<R: AllocGlobal + Wait>(
+/// A new committer. In these bounds nothing but memory can be wanted.
+pub(crate) fn opened<R: AllocGlobal + Wait>(
     rt: &R,
     channel: Channel,
     parallelism: &Parallelism,

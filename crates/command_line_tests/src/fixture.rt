@@ -3,6 +3,8 @@
 use crate::files::{File, MemoryFiles};
 use command_line::{Files, Silent, program};
 use std::alloc::{AllocError, Global};
+use std::io;
+use std::io::Read;
 use std::sync::Wait;
 use std::thread::Threads;
 
@@ -35,8 +37,18 @@ pub(crate) fn ended<R: AllocGlobal + Threads + Wait + Sync, F: Files + Sync>(
     files: &F,
     words: &[&str],
 ) -> End {
+    ended_reading(rt, files, words, &mut io::empty())
+}
+
+/// Runs the program on these words, the first of which is its name, and this input.
+pub(crate) fn ended_reading<R: AllocGlobal + Threads + Wait + Sync, F: Files + Sync, I: Read>(
+    rt: &R,
+    files: &F,
+    words: &[&str],
+    input: &mut I,
+) -> End {
     let (mut out, mut err) = (Vec::new(rt.alloc()), Vec::new(rt.alloc()));
-    let status = program(rt, words, files, &mut out, &mut err, &mut Silent);
+    let status = program(rt, words, files, input, &mut out, &mut err, &mut Silent);
     End { status, out, err }
 }
 

@@ -3,7 +3,7 @@
 use command_line::{Files, Silent, program};
 use std::alloc::Global;
 use std::io;
-use std::io::{ErrorKind, Write};
+use std::io::{ErrorKind, Read, Write};
 use std::sync::Wait;
 use std::thread::Threads;
 
@@ -68,7 +68,20 @@ pub(crate) fn ends_into<F: Files + Sync>(
     status: u8,
     err: &str,
 ) -> bool {
+    ends_reading(rt, files, words, &mut io::empty(), out, status, err)
+}
+
+/// The same, if it reads this input.
+pub(crate) fn ends_reading<F: Files + Sync, I: Read>(
+    rt: &(impl AllocGlobal + Threads + Wait + Sync),
+    files: &F,
+    words: &[&str],
+    input: &mut I,
+    out: &mut Full,
+    status: u8,
+    err: &str,
+) -> bool {
     let mut faults = Vec::new(rt.alloc());
-    let got = program(rt, words, files, out, &mut faults, &mut Silent);
+    let got = program(rt, words, files, input, out, &mut faults, &mut Silent);
     got == status && faults.as_slice() == err.as_bytes()
 }

@@ -42,6 +42,8 @@ mod outputs;
 #[cfg(test)]
 mod progress;
 #[cfg(test)]
+mod session;
+#[cfg(test)]
 mod signatures;
 #[cfg(test)]
 mod texts;

@@ -6,6 +6,7 @@ use crate::full::{FAULT, Full, ends_into};
 use crate::large::block_of_empty;
 use command_line::{Silent, program};
 use std::alloc::{AllocError, Global};
+use std::io;
 use std::io::ErrorKind;
 use std::sync::Wait;
 use std::thread::Threads;
@@ -235,7 +236,16 @@ fn status_without_error<R: AllocGlobal + Threads + Wait + Sync>(
     out: &mut Full,
 ) -> u8 {
     let mut err = Full::after(rt.alloc(), 3);
-    program(rt, words, &MemoryFiles(&[]), out, &mut err, &mut Silent)
+    let files = MemoryFiles(&[]);
+    program(
+        rt,
+        words,
+        &files,
+        &mut io::empty(),
+        out,
+        &mut err,
+        &mut Silent,
+    )
 }
 
 #[test]

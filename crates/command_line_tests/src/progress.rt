@@ -143,6 +143,7 @@ fn is_told(
         rt,
         &words,
         &MemoryFiles(&FILES),
+        &mut io::empty(),
         &mut out,
         &mut err,
         &mut line,

@@ -37,6 +37,9 @@ const DEFINITION: &str =
 const EXPLAIN: &str =
     "Usage: fabcommit explain [OPTIONS] --channel <FILE> --keys <FILE> <BLOCK>...\n";
 
+const SESSION: &str =
+    "Usage: fabcommit session [OPTIONS] --channel <FILE> --keys <FILE> [BLOCK]...\n";
+
 const CONFLICTS: &str =
     "Usage: fabcommit conflicts [OPTIONS] --channel <FILE> --keys <FILE> <BLOCK>...\n";
 
@@ -283,7 +286,7 @@ fn helped() -> &'static [Row] {
     &HELP
 }
 
-static HELP: [Row; 19] = [
+static HELP: [Row; 21] = [
     (
         &["--version"],
         "fabcommit 0.2.0, for blocks of versions 1 and 2\n",
@@ -324,6 +327,12 @@ static HELP: [Row; 19] = [
     (&["help", "explain"], "| dot -Tsvg > block1.svg\n", EXPLAIN),
     (&["help", "get"], "--json block0.blk block1.blk | jq ", GET),
     (&["conflicts", "-h"], "\n  fabcommit conflicts ", CONFLICTS),
+    (
+        &["session", "-h"],
+        " | fabcommit session --channel ",
+        SESSION,
+    ),
+    (&["help", "session"], "\n  end STATUS ", SESSION),
     (
         &["run", "--help"],
         "\nOptions:\n      --channel <FILE>",

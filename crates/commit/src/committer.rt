@@ -2,8 +2,9 @@ ghost use Rattle.std.specs.Prelude.{◌≡◌, ◌≤◌, ◌<◌, ◌↔◌, �
 ghost use Rattle.std.specs.List.{All};
 ghost use Rattle.check_workers.specs.Limits.{max_workers};
 ghost use Rattle.query.specs.Limits.{max_readers};
+ghost use Rattle.rules.specs.Names.{HasNamesOf};
 ghost use Rattle.rules.specs.World.{empty_world};
-ghost use Rattle.commit.specs.Committing.{Submits, Runs};
+ghost use Rattle.commit.specs.Committing.{Submits, Runs, world_of};
 ghost use Rattle.commit.specs.Telling.{RunsTelling};
 
 use crate::block_bytes::{BlockBytes, all_shared};
@@ -23,6 +24,7 @@ use std::marker::Model;
 use std::sync::Wait;
 use std::thread::Threads;
 use values::{Bytes, Shared};
+use world::World;
 
 /// The committer of one channel. It takes blocks one by one, checks each by many workers, and publishes it to handles
 /// that ask from other threads. A contract sees its channel and the deltas that it has published.
@@ -82,6 +84,28 @@ impl Committer {
             published,
         };
         Ok((committer, handles))
+    }
+
+    /// What it has published. Constant time.
+    pub fn view(&self) -> &World
+        ensures { result.now ≡ world_of self.now }
+    {
+        self.published.world()
+    }
+
+    /// Its channel, of which the same chaincodes have a policy in what it has published.
+    pub fn channel(&self) -> &Configuration
+        ensures channel { result.now ≡ self.now.channel }
+        ensures names { HasNamesOf self.now.channel (world_of self.now) }
+    {
+        &self.channel
+    }
+
+    /// Whether it has stopped: it takes no block from then on.
+    pub fn has_stopped(&self) -> bool
+        ensures { result ≡ self.now.stopped }
+    {
+        self.published.has_stopped()
     }
 
     /// How many verdicts of the last accepted block no worker had found; 0 before the first. No clause says it.

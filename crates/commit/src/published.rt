@@ -75,6 +75,12 @@ impl Published {
         self.gathered
     }
 
+    pub(crate) fn world(&self) -> &World
+        ensures { result.now ≡ published_world self.now }
+    {
+        self.publisher.published()
+    }
+
     pub(crate) fn has_stopped(&self) -> bool
         ensures { result ≡ self.now.failed }
     {

@@ -21,6 +21,7 @@ fn main(rt: HostRuntime) -> ExitCode {
                 &rt,
                 words.as_slice(),
                 &files,
+                &mut rt.stdin(),
                 &mut out,
                 &mut err,
                 &mut progress,

@@ -100,8 +100,9 @@ fn there(found: Result<Option<Items<Reason>>, AllocError>) -> Result<Items<Reaso
     Ok(reasons)
 }
 
-/// Why each transaction of the block of these bytes would have its flag, or why the block would be refused.
-pub(crate) fn next_reasons<V: Verify>(
+/// Why each transaction of the block of these bytes would have its flag after this world, in block order, or why the
+/// block would be refused. Costs what [`Ledger::explain`](crate::Ledger::explain) does.
+pub fn next_reasons<V: Verify>(
     alloc: Global,
     channel: &Configuration,
     world: &World,

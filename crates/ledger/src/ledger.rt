@@ -80,6 +80,14 @@ impl Ledger {
         }
     }
 
+    /// Its channel, of which the same chaincodes have a policy in the ledger.
+    pub fn channel(&self) -> &Configuration
+        ensures channel { result.now ≡ self.now.channel }
+        ensures names { HasNamesOf self.now.channel self.now.world }
+    {
+        &self.channel
+    }
+
     /// What the ledger holds, in constant time.
     pub fn view(&self) -> &World
         ensures { result.now ≡ self.now.world }

@@ -6,5 +6,6 @@ mod ledger;
 mod prepared;
 mod serial;
 
+pub use explaining::next_reasons;
 pub use ledger::Ledger;
 pub use prepared::prepare;

@@ -16,3 +16,10 @@ line_added (Some x) (Some y) None kept one more left line rest is first second =
 line_added (Some x) (Some y) (Some z) kept one more left line rest is first second =
     let now : (y ++ more) ≡ (x ++ kept) ++ line = first ∙ (append-nil (x ++ one) ∙ (ap (λ l. x ++ l) is ∙ sym (append_assoc x kept line))) in
     second ∙ (ap (λ l. l ++ rest) now ∙ append_assoc (x ++ kept) line rest)
+
+-- a line that was kept first, and what was added after it
+pub first_kept : (a c : Option (List ℕ)) (kept one left line rest : List ℕ) → one ≡ kept ++ line → Adds a one c left rest → Adds a kept c left (line ++ rest)
+first_kept None c kept one left line rest is added = tt
+first_kept (Some x) None kept one left line rest is added = absurd added
+first_kept (Some x) (Some z) kept one left line rest is added =
+    added ∙ (ap (λ l. (x ++ l) ++ rest) is ∙ (ap (λ l. l ++ rest) (sym (append_assoc x kept line)) ∙ append_assoc (x ++ kept) line rest))

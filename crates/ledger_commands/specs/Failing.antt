@@ -14,6 +14,7 @@ use Rattle.cli_words.specs.declared.definition.DefinitionQuery.{DefinitionQuery}
 use Rattle.cli_words.specs.declared.draft.Draft.{Draft}
 use Rattle.cli_words.specs.declared.keyed.KeyedQuery.{KeyedQuery}
 use Rattle.cli_words.specs.declared.paths.ConfigurationPaths.{ConfigurationPaths}
+use Rattle.cli_words.specs.declared.scan.RangeWords.{RangeWords}
 use Rattle.cli_words.specs.declared.scan.Scan.{Scan}
 use Rattle.cli_words.specs.declared.show.Show.{Show}
 use Rattle.command_files.specs.Failing.{AtFault, ConfigurationFails, FilesFail, InputsFail, IsUnread, bad_word, line, not_a_block, unwritable}
@@ -32,11 +33,14 @@ abbrev pub DefinitionFails : (List ℕ → List ℕ → Type 0) → (List ℕ �
 DefinitionFails Holds Refuses words what = ((what ≡ bad_word) × (is_name words.namespace.now ≡ false)) ⊎ InputsFail Holds Refuses words.paths what
 
 -- `scan`: the namespace is no name, or a bound is no word
-abbrev pub AreNoBounds : Scan → AtFault → Type 0
+abbrev pub AreNoBounds : RangeWords → AtFault → Type 0
 AreNoBounds words what = (what ≡ bad_word) × ((is_name words.namespace.now ≡ false) ⊎ (word_bytes words.start.now ≡ None) ⊎ (word_bytes words.end.now ≡ None))
 
+abbrev pub range_of : Scan → RangeWords
+range_of words = record { namespace = words.namespace; start = words.start; end = words.end; limit = words.limit }
+
 abbrev pub ScanFails : (List ℕ → List ℕ → Type 0) → (List ℕ → Type 0) → Scan → AtFault → Type 0
-ScanFails Holds Refuses words what = AreNoBounds words what ⊎ InputsFail Holds Refuses words.paths what
+ScanFails Holds Refuses words what = AreNoBounds (range_of words) what ⊎ InputsFail Holds Refuses words.paths what
 
 -- The files of the channel and the keys, if the words name both.
 abbrev pub KnownFails : (List ℕ → List ℕ → Type 0) → (List ℕ → Type 0) → Option ConfigurationPaths → AtFault → Type 0

@@ -15,10 +15,12 @@ ghost use Rattle.ledger_commands.specs.Counting.{CountedTakes, IsTold, Reports};
 
 use crate::progress::Progress;
 use crate::question::{Taker, hand_in, status_of_refused};
+use crate::standing::Standing;
+use channel::Channel;
 use cli_lines::{LineFault, write_report};
 use cli_values::Format;
-use cli_words::ConflictCounts;
-use command_files::{ACCEPTED, Configuration, Fault, Files, Inputs};
+use cli_words::{ConflictCounts, CountWords};
+use command_files::{ACCEPTED, ChannelFile, Configuration, Fault, Files, Inputs};
 use conflicts::{ChaincodeLine, Line, Tally};
 use key_book::KeyBook;
 use ledger::Ledger;
@@ -150,6 +152,53 @@ fn count_in<W: Write, P: Progress>(
     let handed = hand_in(&mut counted, blocks, &keys, progress);
     let format = words.paths.format;
     write_counted(alloc, handed, format, &counted.tally, words.top, out)
+}
+
+// Takes the blocks that a ledger kept, once more.
+fn take_kept(counted: &mut CountedLedger, standing: &Standing<'_>) -> Result<u8, AllocError> {
+    let mut status = ACCEPTED;
+    for number in 0..standing.world.height() {
+        if let Some(block) = standing.world.block(number) {
+            let bytes = block.bytes.get().as_slice();
+            status = status.max(counted.take(bytes, standing.keys)?);
+        }
+    }
+    Ok(status)
+}
+
+// What was counted of them, from an empty ledger of the channel. Owns the ledger, and has one way out.
+fn count_again(
+    alloc: Global,
+    channel: Channel,
+    format: Format,
+    standing: &Standing<'_>,
+    words: &CountWords,
+    kept: &mut Vec<u8>,
+) -> Result<u8, LineFault> {
+    let mut counted = CountedLedger {
+        ledger: Ledger::open(alloc, channel),
+        tally: Tally::new(alloc),
+        from: words.from,
+    };
+    let handed = take_kept(&mut counted, standing);
+    write_counted(alloc, handed, format, &counted.tally, words.top, kept)
+}
+
+/// Adds what made transactions invalid in the blocks of the ledger that is there to the lines that are kept. The blocks
+/// are taken once more, from an empty ledger of the channel that this file configures, which is let go then.
+pub(crate) fn add_conflicts<'a>(
+    alloc: Global,
+    format: Format,
+    file: &ChannelFile<'_>,
+    standing: &Standing<'_>,
+    words: &CountWords,
+    kept: &mut Vec<u8>,
+) -> Result<u8, Fault<'a>> {
+    // it was one before
+    let Ok(channel) = file.channel(alloc) else {
+        return Err(Fault::Memory);
+    };
+    Ok(count_again(alloc, channel, format, standing, words, kept)?)
 }
 
 /// Reads the files, hands the blocks in, one by one, and writes what made transactions invalid in those from a number

@@ -1,14 +1,17 @@
-ghost use Rattle.std.specs.Prelude.{◌≡◌, ◌++◌, IfOk, IfErr, OnOk};
+ghost use Rattle.std.specs.Prelude.{◌≡◌, ◌++◌, ℕ, List, IfOk, IfErr, IfSome, OnOk};
 ghost use Rattle.std.specs.FinMap.{get};
 ghost use Rattle.cli_lines.specs.RowLines.{definition_line};
-ghost use Rattle.command_files.specs.Failing.{EndsBefore};
+ghost use Rattle.std.specs.Io.KnownBytes.{Keeps};
+ghost use Rattle.command_files.specs.Failing.{EndsBefore, at_fault};
 ghost use Rattle.ledger_commands.specs.Asking.{Answers, IsDefinition};
 ghost use Rattle.ledger_commands.specs.Failing.{DefinitionFails};
+ghost use Rattle.ledger_commands.specs.Kept.{Adds};
+ghost use Rattle.ledger_commands.specs.Querying.{IsOfHeight};
 
 use crate::progress::Progress;
-use crate::question::{Question, answer};
+use crate::question::{Question, add_lines, answer};
 use cli_lines::{LineFault, write_definition};
-use cli_values::Format;
+use cli_values::{Format, name_of};
 use cli_words::DefinitionQuery;
 use command_files::{Fault, Files};
 use std::alloc::Global;
@@ -65,4 +68,20 @@ pub fn print_definition<'a, F: Files, W: Write, P: Progress>(
 {
     let question = DefinitionOf(words.chaincode(alloc)?);
     answer(alloc, files, &words.paths, &question, out, progress)
+}
+
+/// Adds the height and that policy to the lines that are kept, of the ledger that is there.
+pub(crate) fn add_definition<'a, W: Write>(
+    alloc: Global,
+    format: Format,
+    world: &World,
+    chaincode: &'a str,
+    kept: &mut Vec<u8>,
+    out: &mut W,
+) -> Result<(), Fault<'a>>
+    ensures ok { OnOk result ((text : List ℕ) × IsOfHeight (IsDefinition chaincode.now) format world.now text × Adds (W.contents out.old) kept.old.items (W.contents out.new) kept.new.items text) }
+    ensures err { IfErr result (λ fault. IfSome (at_fault fault) (λ what. Keeps (W.contents out.old) (W.contents out.new))) }
+{
+    let asked = DefinitionOf(name_of(alloc, chaincode)?);
+    Ok(add_lines(alloc, format, world, &asked, kept, out)?)
 }

@@ -4,15 +4,16 @@ use crate::buffered::finish;
 use crate::known::write_relation;
 use crate::progress::Progress;
 use crate::question::hand_in;
+use crate::standing::Standing;
 use block::{Block, decode_block};
 use cli_lines::{ReasonLine, Refusal, write_block, write_earlier, write_reason, write_refused};
 use cli_values::{Format, WordFault, id_of};
-use cli_words::{Explain, Explained, Told};
-use command_files::{ACCEPTED, Configuration, Fault, Files, Inputs, REFUSED};
+use cli_words::{Explain, ExplainWords, Explained, Told};
+use command_files::{ACCEPTED, Configuration, Fault, Files, Inputs, REFUSED, read_file};
 use dot_lines::write_graph;
 use header_hash::header_hash;
 use key_book::KeyBook;
-use ledger::Ledger;
+use ledger::{Ledger, next_reasons};
 use linking::{decoded_item, origin_of};
 use reasons::Reason;
 use rules::Refused;
@@ -34,16 +35,21 @@ struct Selection<'a> {
 
 impl<'a> Selection<'a> {
     // Looks at the word of the id.
-    fn of(alloc: Global, words: &Explain<'a>) -> Result<Selection<'a>, WordFault> {
-        let id = match words.explained {
+    fn of(
+        alloc: Global,
+        format: Format,
+        explained: Explained<'a>,
+        told: Told,
+    ) -> Result<Selection<'a>, WordFault> {
+        let id = match explained {
             Explained::Id(word) => Some(id_of(alloc, word)?),
             Explained::All | Explained::Place(_) => None,
         };
         Ok(Selection {
-            explained: words.explained,
+            explained,
             id,
-            told: words.told,
-            format: words.paths.format,
+            told,
+            format,
         })
     }
 
@@ -197,7 +203,51 @@ fn write_no_reasons<'a, W: Write>(
     Ok(REFUSED)
 }
 
-// The block that is explained, and what it is explained by: the ledger behind the others, and the keys.
+// All lines of the block that these bytes spell, which is the next one, at this place among all blocks, from 1.
+fn write_decoded<'a, W: Write>(
+    alloc: Global,
+    out: &mut W,
+    standing: &Standing<'_>,
+    place: usize,
+    bytes: &[u8],
+    block: &Block<'_>,
+    selection: &Selection<'a>,
+) -> Result<u8, Fault<'a>>
+    requires { Spells bytes.now block.now }
+{
+    let (channel, world, keys) = (standing.channel, standing.world, standing.keys);
+    match next_reasons(alloc, channel, world, bytes, keys) {
+        Ok(reasons) => {
+            write_told(alloc, out, world, block, reasons.as_slice(), selection)?;
+            Ok(ACCEPTED)
+        }
+        Err(refused) => {
+            write_no_reasons(out, selection.format, place, refused)?;
+            write_relation(out, selection.format, world, bytes, block)?;
+            Ok(REFUSED)
+        }
+    }
+}
+
+// All lines of the block in these bytes, which is the next one, at this place among all blocks, from 1.
+fn write_lines<'a, W: Write>(
+    alloc: Global,
+    out: &mut W,
+    standing: &Standing<'_>,
+    place: usize,
+    bytes: &[u8],
+    selection: &Selection<'a>,
+) -> Result<u8, Fault<'a>> {
+    match decode_block(alloc, bytes) {
+        Ok(block) => write_decoded(alloc, out, standing, place, bytes, &block, selection),
+        Err(fault) => {
+            let refused = Refused::Malformed(fault);
+            write_no_reasons(out, selection.format, place, refused)
+        }
+    }
+}
+
+// The block that is explained, and what it is explained by: the ledger after the others, and the keys.
 #[derive(Clone, Copy)]
 struct LastBlock<'b> {
     ledger: &'b Ledger,
@@ -206,48 +256,6 @@ struct LastBlock<'b> {
     bytes: Option<&'b Bytes>,
     /// Among all blocks, from 1.
     place: usize,
-}
-
-// All lines of the block that these bytes spell.
-fn write_decoded<'a, W: Write>(
-    alloc: Global,
-    out: &mut W,
-    last: &LastBlock<'_>,
-    bytes: &[u8],
-    block: &Block<'_>,
-    selection: &Selection<'a>,
-) -> Result<u8, Fault<'a>>
-    requires { Spells bytes.now block.now }
-{
-    let world = last.ledger.view();
-    match last.ledger.explain(bytes, last.keys) {
-        Ok(reasons) => {
-            write_told(alloc, out, world, block, reasons.as_slice(), selection)?;
-            Ok(ACCEPTED)
-        }
-        Err(refused) => {
-            write_no_reasons(out, selection.format, last.place, refused)?;
-            write_relation(out, selection.format, world, bytes, block)?;
-            Ok(REFUSED)
-        }
-    }
-}
-
-// All lines of the block in these bytes, which is the last one.
-fn write_lines<'a, W: Write>(
-    alloc: Global,
-    out: &mut W,
-    last: &LastBlock<'_>,
-    bytes: &[u8],
-    selection: &Selection<'a>,
-) -> Result<u8, Fault<'a>> {
-    match decode_block(alloc, bytes) {
-        Ok(block) => write_decoded(alloc, out, last, bytes, &block, selection),
-        Err(fault) => {
-            let refused = Refused::Malformed(fault);
-            write_no_reasons(out, selection.format, last.place, refused)
-        }
-    }
 }
 
 // Writes the lines of the last block, unless the others couldn't be handed in. Returns what the process ends with.
@@ -262,7 +270,13 @@ fn write_last<'a, W: Write>(
     let Some(bytes) = last.bytes else {
         return Err(Fault::Word);
     };
-    let explained = write_lines(alloc, out, last, bytes.as_slice(), selection)?;
+    let standing = Standing {
+        channel: last.ledger.channel(),
+        world: last.ledger.view(),
+        keys: last.keys,
+    };
+    let bytes = bytes.as_slice();
+    let explained = write_lines(alloc, out, &standing, last.place, bytes, selection)?;
     Ok(status.max(explained))
 }
 
@@ -303,9 +317,24 @@ pub fn print_reasons<'a, F: Files, W: Write, P: Progress>(
     out: &mut W,
     progress: &mut P,
 ) -> Result<u8, Fault<'a>> {
-    let selection = Selection::of(alloc, words)?;
+    let selection = Selection::of(alloc, words.paths.format, words.explained, words.told)?;
     let inputs = Inputs::read(alloc, files, &words.paths)?;
     let mut lines = BufWriter::new(alloc, out)?;
     let ended = explain_last(alloc, inputs, &selection, &mut lines, progress);
     finish(lines, ended)
+}
+
+/// Reads the file of a block, which isn't taken, and adds its lines to those that are kept, by the ledger that is
+/// there. Returns what the process would end with.
+pub(crate) fn add_reasons<'a, F: Files>(
+    alloc: Global,
+    files: &F,
+    format: Format,
+    standing: &Standing<'_>,
+    words: &ExplainWords<'a>,
+    kept: &mut Vec<u8>,
+) -> Result<u8, Fault<'a>> {
+    let selection = Selection::of(alloc, format, words.explained, words.told)?;
+    let bytes = read_file(alloc, files, words.block)?;
+    write_lines(alloc, kept, standing, 1, bytes.as_slice(), &selection)
 }

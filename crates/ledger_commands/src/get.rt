@@ -1,14 +1,17 @@
-ghost use Rattle.std.specs.Prelude.{◌≡◌, ◌++◌, IfOk, IfErr, OnOk};
+ghost use Rattle.std.specs.Prelude.{◌≡◌, ◌++◌, ℕ, List, IfOk, IfErr, IfSome, OnOk};
 ghost use Rattle.rules.specs.Answers.{row_answer};
-ghost use Rattle.command_files.specs.Failing.{EndsBefore};
+ghost use Rattle.std.specs.Io.KnownBytes.{Keeps};
+ghost use Rattle.command_files.specs.Failing.{EndsBefore, at_fault};
 ghost use Rattle.ledger_commands.specs.Asking.{AnswersKey, IsRow, row_or_absent};
 ghost use Rattle.ledger_commands.specs.Failing.{KeyedFails};
+ghost use Rattle.ledger_commands.specs.Kept.{Adds};
+ghost use Rattle.ledger_commands.specs.Querying.{IsOfKey};
 
 use crate::progress::Progress;
-use crate::question::{Question, answer};
+use crate::question::{Question, add_lines, answer};
 use cli_lines::{LineFault, write_absent, write_row};
 use cli_values::Format;
-use cli_words::{KeyedQuery, NamespacedKey};
+use cli_words::{KeyWords, KeyedQuery, NamespacedKey};
 use command_files::{Fault, Files};
 use std::alloc::Global;
 use std::io::Write;
@@ -66,4 +69,20 @@ pub fn print_row<'a, F: Files, W: Write, P: Progress>(
 {
     let question = RowOf(words.asked_key(alloc)?);
     answer(alloc, files, &words.paths, &question, out, progress)
+}
+
+/// Adds the height and that row to the lines that are kept, of the ledger that is there.
+pub(crate) fn add_row<'a, W: Write>(
+    alloc: Global,
+    format: Format,
+    world: &World,
+    words: &KeyWords<'a>,
+    kept: &mut Vec<u8>,
+    out: &mut W,
+) -> Result<(), Fault<'a>>
+    ensures ok { OnOk result ((text : List ℕ) × IsOfKey IsRow words.now format world.now text × Adds (W.contents out.old) kept.old.items (W.contents out.new) kept.new.items text) }
+    ensures err { IfErr result (λ fault. IfSome (at_fault fault) (λ what. Keeps (W.contents out.old) (W.contents out.new))) }
+{
+    let asked = RowOf(words.asked_key(alloc)?);
+    Ok(add_lines(alloc, format, world, &asked, kept, out)?)
 }

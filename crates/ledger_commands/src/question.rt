@@ -6,6 +6,8 @@ ghost use Rattle.cli_lines.specs.RowLines.{height_line};
 ghost use Rattle.command_files.specs.Failing.{EndsBefore, InputsFail};
 ghost use Rattle.ledger_commands.specs.Asking.{Answers, AnswersFrom};
 ghost use Rattle.ledger_commands.specs.Handing.{AreTaken, EndsWith, LedgerTakes};
+ghost use Rattle.ledger_commands.specs.Kept.{Adds};
+ghost use Rattle.ledger_commands.specs.Querying.{IsOfHeight};
 
 use crate::kept_lines::write_kept;
 use crate::progress::Progress;
@@ -109,6 +111,21 @@ pub(crate) fn hand_in<T: Taker, P: Progress>(
     ended
 }
 
+/// Adds the height, and then what the world answers, to the lines that are kept, and may write these.
+pub(crate) fn add_lines<Q: Question, W: Write>(
+    alloc: Global,
+    format: Format,
+    world: &World,
+    question: &Q,
+    kept: &mut Vec<u8>,
+    out: &mut W,
+) -> Result<(), LineFault>
+    ensures { OnOk result ((text : List ℕ) × IsOfHeight (Q.tells question.now) format world.now text × Adds (W.contents out.old) kept.old.items (W.contents out.new) kept.new.items text) }
+{
+    write_height(kept, format, world.height())?;
+    question.tell(alloc, format, world, kept, out)
+}
+
 // The height, and then what the world answers.
 fn write_lines<Q: Question, W: Write>(
     alloc: Global,
@@ -120,8 +137,7 @@ fn write_lines<Q: Question, W: Write>(
     ensures { OnOk result ((text : List ℕ) × Q.tells question.now format world.now text × Appends (W.contents out.old) (W.contents out.new) (height_line format (height_of world.now) ++ text)) }
 {
     let mut kept = Vec::new(alloc);
-    write_height(&mut kept, format, world.height())?;
-    question.tell(alloc, format, world, &mut kept, out)?;
+    add_lines(alloc, format, world, question, &mut kept, out)?;
     write_kept(&mut kept, out)?;
     out.flush()?;
     Ok(())

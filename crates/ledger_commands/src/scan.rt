@@ -1,18 +1,21 @@
-ghost use Rattle.std.specs.Prelude.{◌≡◌, ◌⊎◌, [], take, Some, IfOk, IfErr};
+ghost use Rattle.std.specs.Prelude.{◌≡◌, ◌⊎◌, ℕ, List, [], take, Some, IfOk, IfErr, IfSome, OnOk};
+ghost use Rattle.std.specs.Io.KnownBytes.{Keeps};
 ghost use Rattle.text_lines.specs.Words.{word_bytes};
 ghost use Rattle.std.specs.Ordering.{is_le};
 ghost use Rattle.values.specs.Order.{bytes_cmp};
 ghost use Rattle.rules.specs.Ranges.{is_below, is_within};
-ghost use Rattle.command_files.specs.Failing.{Because, EndsBefore};
+ghost use Rattle.command_files.specs.Failing.{Because, EndsBefore, at_fault};
 ghost use Rattle.ledger_commands.specs.Asking.{AnswersScan, AreRows};
 ghost use Rattle.ledger_commands.specs.Failing.{AreNoBounds, ScanFails};
+ghost use Rattle.ledger_commands.specs.Kept.{Adds};
+ghost use Rattle.ledger_commands.specs.Querying.{AreRowsFor};
 
 use crate::kept_lines::write_many;
 use crate::progress::Progress;
-use crate::question::{Question, answer};
+use crate::question::{Question, add_lines, answer};
 use cli_lines::{LineFault, write_more, write_row};
 use cli_values::{Format, bytes_of, name_of};
-use cli_words::Scan;
+use cli_words::{RangeWords, Scan};
 use command_files::{Fault, Files};
 use std::alloc::Global;
 use std::io::Write;
@@ -112,7 +115,7 @@ impl Question for RowsOf {
 }
 
 // What the words ask for, looked at in this order.
-fn rows_of<'a>(alloc: Global, words: &Scan<'a>) -> Result<RowsOf, Fault<'a>>
+fn rows_of<'a>(alloc: Global, words: &RangeWords<'a>) -> Result<RowsOf, Fault<'a>>
     ensures start { IfOk result (λ asked. word_bytes words.now.start.now ≡ Some asked.bounds.start) }
     ensures end { IfOk result (λ asked. word_bytes words.now.end.now ≡ Some asked.bounds.end) }
     ensures others { IfOk result (λ asked. (asked.namespace ≡ words.now.namespace.now) × (asked.limit ≡ words.now.limit)) }
@@ -140,6 +143,28 @@ pub fn print_rows<'a, F: Files, W: Write, P: Progress>(
     ensures ok { IfOk result (λ status. AnswersScan (F.holds files.now) words.now (W.contents out.old) status (W.contents out.new)) }
     ensures err { IfErr result (EndsBefore (ScanFails (F.holds files.now) (F.unreadable files.now) words.now) (W.contents out.old) (W.contents out.new)) }
 {
-    let question = rows_of(alloc, words)?;
+    let asked = RangeWords {
+        namespace: words.namespace,
+        start: words.start,
+        end: words.end,
+        limit: words.limit,
+    };
+    let question = rows_of(alloc, &asked)?;
     answer(alloc, files, &words.paths, &question, out, progress)
+}
+
+/// Adds the height and those rows to the lines that are kept, of the ledger that is there.
+pub(crate) fn add_rows<'a, W: Write>(
+    alloc: Global,
+    format: Format,
+    world: &World,
+    words: &RangeWords<'a>,
+    kept: &mut Vec<u8>,
+    out: &mut W,
+) -> Result<(), Fault<'a>>
+    ensures ok { OnOk result ((text : List ℕ) × AreRowsFor words.now format world.now text × Adds (W.contents out.old) kept.old.items (W.contents out.new) kept.new.items text) }
+    ensures err { IfErr result (λ fault. IfSome (at_fault fault) (λ what. Keeps (W.contents out.old) (W.contents out.new))) }
+{
+    let asked = rows_of(alloc, words)?;
+    Ok(add_lines(alloc, format, world, &asked, kept, out)?)
 }

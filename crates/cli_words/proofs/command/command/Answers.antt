@@ -16,5 +16,6 @@ returns c =
     (λ r h. h ∙ ap₂ (fold with_subcommand) top
     (ap₂ (λ x xs. x ∷ xs) c.subcommand.ensures (ap₂ (λ x xs. x ∷ xs) c.subcommand-2.ensures (ap₂ (λ x xs. x ∷ xs) c.subcommand-3.ensures
     (ap₂ (λ x xs. x ∷ xs) c.subcommand-4.ensures (ap₂ (λ x xs. x ∷ xs) c.subcommand-5.ensures (ap₂ (λ x xs. x ∷ xs) c.subcommand-6.ensures
-    (ap₂ (λ x xs. x ∷ xs) c.subcommand-7.ensures (ap₂ (λ x xs. x ∷ xs) c.subcommand-8.ensures (ap (λ x. x ∷ []) c.subcommand-9.ensures))))))))))
+    (ap₂ (λ x xs. x ∷ xs) c.subcommand-7.ensures (ap₂ (λ x xs. x ∷ xs) c.subcommand-8.ensures (ap₂ (λ x xs. x ∷ xs) c.subcommand-9.ensures
+    (ap (λ x. x ∷ []) c.subcommand-10.ensures)))))))))))
     c.with_subcommands.ensures
