@@ -69,6 +69,7 @@ SUBJECTS = {
     "definition --json": ("command_line_tests", "memory.rt", "outcome_of_objects(&rt, DEFINITION_OBJECT)"),
     "explain --json": ("command_line_tests", "memory.rt", "outcome_of_objects(&rt, EXPLAIN_OBJECTS)"),
     "conflicts --json": ("command_line_tests", "memory.rt", "outcome_of_objects(&rt, CONFLICTS_OBJECTS)"),
+    "session": ("command_line_tests", "session/memory.rt", "outcome_of_session(&rt)"),
 }
 
 # The allocation of a process that is refused. No subject makes so many.
